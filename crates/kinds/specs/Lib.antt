@@ -1,0 +1,4 @@
+pub mod Numbers
+pub mod Statuses
+pub mod Events
+pub mod Records

@@ -1,0 +1,378 @@
+// The paper's numbers, statuses and small records. A log number, an ordinal and a term are three types with private
+// fields: none can be compared with another, and only the methods below read inside.
+ghost use mathlib.Core.Path.{_≡_};
+ghost use Prim.Native.Nat.{_+_};
+ghost use lib.Dec.{eqb, ltb, leb};
+ghost use Rattle.kinds.specs.Numbers.{num, ord, trm, follows, nextOrdinal, nextTerm, isFull, isLast};
+ghost use Rattle.kinds.specs.Statuses.{codeOf, statusOf, progressOf, progressCode, done, isComplete};
+ghost use Rattle.kinds.specs.Events.{noEvent, refusal};
+ghost use Rattle.kinds.specs.Records.{withChange, withRollback};
+
+// A log number: 0 none, else 1 to 128.
+pub struct Number(u16);
+
+// An ordinal: 0 none, else 1 to 256.
+pub struct Ordinal(u32);
+
+// A term of mastership.
+pub struct Term(u32);
+
+impl Number {
+    pub fn of(n: u16) -> Number
+        ensures { λ r. ⌜ r ≡ num n ⌝ }
+    {
+        Number(n)
+    }
+
+    pub fn get(self) -> u16
+        ensures { λ r. ⌜ r ≡ self .0 ⌝ }
+    {
+        self.0
+    }
+
+    pub fn is(self, other: Number) -> bool
+        ensures { λ r. ⌜ r ≡ eqb (self .0) (other .0) ⌝ }
+    {
+        self.0 == other.0
+    }
+
+    pub fn below(self, other: Number) -> bool
+        ensures { λ r. ⌜ r ≡ ltb (self .0) (other .0) ⌝ }
+    {
+        self.0 < other.0
+    }
+
+    // Whether this number comes straight after `before`.
+    pub fn follows(self, before: Number) -> bool
+        ensures { λ r. ⌜ r ≡ follows (before .0) (self .0) ⌝ }
+    {
+        let b = before.0 as u32;
+        let n = self.0 as u32;
+        b + 1 == n
+    }
+}
+
+impl Ordinal {
+    pub fn of(n: u32) -> Ordinal
+        ensures { λ r. ⌜ r ≡ ord n ⌝ }
+    {
+        Ordinal(n)
+    }
+
+    pub fn get(self) -> u32
+        ensures { λ r. ⌜ r ≡ self .0 ⌝ }
+    {
+        self.0
+    }
+
+    pub fn is(self, other: Ordinal) -> bool
+        ensures { λ r. ⌜ r ≡ eqb (self .0) (other .0) ⌝ }
+    {
+        self.0 == other.0
+    }
+
+    // Whether this ordinal comes straight after `before`; 0 comes after none.
+    pub fn follows(self, before: Ordinal) -> bool
+        ensures { λ r. ⌜ r ≡ follows (before .0) (self .0) ⌝ }
+    {
+        let b = before.0 as u64;
+        let n = self.0 as u64;
+        b + 1 == n
+    }
+
+    pub fn full(self) -> bool
+        ensures { λ r. ⌜ r ≡ isFull (self .0) ⌝ }
+    {
+        256 <= self.0
+    }
+
+    // The ordinal after this one; a full one stays.
+    pub fn next(self) -> Ordinal
+        ensures { λ r. ⌜ r ≡ nextOrdinal self ⌝ }
+    {
+        let n = self.0;
+        if 256 <= n {
+            return Ordinal(n);
+        }
+        Ordinal(n + 1)
+    }
+}
+
+impl Term {
+    pub fn of(n: u32) -> Term
+        ensures { λ r. ⌜ r ≡ trm n ⌝ }
+    {
+        Term(n)
+    }
+
+    pub fn get(self) -> u32
+        ensures { λ r. ⌜ r ≡ self .0 ⌝ }
+    {
+        self.0
+    }
+
+    pub fn is(self, other: Term) -> bool
+        ensures { λ r. ⌜ r ≡ eqb (self .0) (other .0) ⌝ }
+    {
+        self.0 == other.0
+    }
+
+    pub fn below(self, other: Term) -> bool
+        ensures { λ r. ⌜ r ≡ ltb (self .0) (other .0) ⌝ }
+    {
+        self.0 < other.0
+    }
+
+    pub fn last(self) -> bool
+        ensures { λ r. ⌜ r ≡ isLast (self .0) ⌝ }
+    {
+        4294967295 <= self.0
+    }
+
+    // The term after this one; the last one stays.
+    pub fn next(self) -> Term
+        ensures { λ r. ⌜ r ≡ nextTerm self ⌝ }
+    {
+        let n = self.0;
+        if 4294967295 <= n {
+            return Term(n);
+        }
+        Term(n + 1)
+    }
+}
+
+pub enum Status {
+    None,
+    Pending,
+    InProgress,
+    Complete,
+    Aborted,
+    Canceled,
+    Failed,
+}
+
+impl Status {
+    pub fn code(self) -> u8
+        ensures { λ r. ⌜ r ≡ codeOf self ⌝ }
+    {
+        match self {
+            Status::None => 0,
+            Status::Pending => 1,
+            Status::InProgress => 2,
+            Status::Complete => 3,
+            Status::Aborted => 4,
+            Status::Canceled => 5,
+            Status::Failed => 6,
+        }
+    }
+
+    // The status of a code; what is no code is read as Failed.
+    pub fn of(n: u8) -> Status
+        ensures { λ r. ⌜ r ≡ statusOf n ⌝ }
+    {
+        match n {
+            0 => Status::None,
+            1 => Status::Pending,
+            2 => Status::InProgress,
+            3 => Status::Complete,
+            4 => Status::Aborted,
+            5 => Status::Canceled,
+            _ => Status::Failed,
+        }
+    }
+
+    pub fn done(self) -> bool
+        ensures { λ r. ⌜ r ≡ done self ⌝ }
+    {
+        match self {
+            Status::None => false,
+            Status::Pending => false,
+            Status::InProgress => false,
+            Status::Complete => true,
+            Status::Aborted => true,
+            Status::Canceled => true,
+            Status::Failed => true,
+        }
+    }
+
+    pub fn complete(self) -> bool
+        ensures { λ r. ⌜ r ≡ isComplete self ⌝ }
+    {
+        match self {
+            Status::None => false,
+            Status::Pending => false,
+            Status::InProgress => false,
+            Status::Complete => true,
+            Status::Aborted => false,
+            Status::Canceled => false,
+            Status::Failed => false,
+        }
+    }
+}
+
+// The state of the configuration.
+pub enum Progress {
+    Pending,
+    InProgress,
+    Complete,
+}
+
+impl Progress {
+    pub fn code(self) -> u8
+        ensures { λ r. ⌜ r ≡ progressCode self ⌝ }
+    {
+        match self {
+            Progress::Pending => 1,
+            Progress::InProgress => 2,
+            Progress::Complete => 3,
+        }
+    }
+
+    // The state of a code; what is no code is read as Complete.
+    pub fn of(n: u8) -> Progress
+        ensures { λ r. ⌜ r ≡ progressOf n ⌝ }
+    {
+        match n {
+            1 => Progress::Pending,
+            2 => Progress::InProgress,
+            _ => Progress::Complete,
+        }
+    }
+}
+
+// The configuration's state with the term it belongs to.
+pub struct Configuration {
+    pub state: Progress,
+    pub term: Term,
+}
+
+// The master node (0 none), its term, and the connection id that it had.
+pub struct Mastership {
+    pub master: u8,
+    pub term: Term,
+    pub conn: u32,
+}
+
+// A node's connection.
+pub struct Connection {
+    pub id: u32,
+    pub connected: bool,
+}
+
+// The switch: its id, and whether it runs.
+pub struct Target {
+    pub id: u32,
+    pub running: bool,
+}
+
+// One side of a transaction, of its change or of its rollback.
+pub struct Side {
+    pub commit: Status,
+    pub apply: Status,
+    pub ordinal: Ordinal,
+}
+
+// An entry of the log: phase 1 Change or 2 Rollback; the first `count` places hold pairs; `index` is the revision to
+// return to (r.index) and `kept` are the values to return to (r.values).
+pub struct Transaction {
+    pub phase: u8,
+    pub count: u8,
+    pub paths: [u8; 4],
+    pub values: [u16; 4],
+    pub change: Side,
+    pub rollback: Side,
+    pub index: Number,
+    pub kept: [u16; 4],
+}
+
+impl Transaction {
+    pub fn with_change(self, change: Side) -> Transaction
+        ensures { λ r. ⌜ r ≡ withChange self change ⌝ }
+    {
+        let paths = self.paths;
+        let values = self.values;
+        let rollback = self.rollback;
+        let index = self.index;
+        let kept = self.kept;
+        Transaction {
+            phase: self.phase,
+            count: self.count,
+            paths,
+            values,
+            change,
+            rollback,
+            index,
+            kept,
+        }
+    }
+
+    pub fn with_rollback(self, rollback: Side) -> Transaction
+        ensures { λ r. ⌜ r ≡ withRollback self rollback ⌝ }
+    {
+        let paths = self.paths;
+        let values = self.values;
+        let change = self.change;
+        let index = self.index;
+        let kept = self.kept;
+        Transaction {
+            phase: self.phase,
+            count: self.count,
+            paths,
+            values,
+            change,
+            rollback,
+            index,
+            kept,
+        }
+    }
+}
+
+// Committed and Applied have one each. Committed's `change` stands beside its head, since Applied has none.
+pub struct Head {
+    pub index: Number,
+    pub target: Number,
+    pub revision: Number,
+    pub ordinal: Ordinal,
+}
+
+// Phase 1 Change or 2 Rollback, stage 1 Commit or 2 Apply; zeros where there is no event.
+pub struct Event {
+    pub phase: u8,
+    pub stage: u8,
+    pub number: Number,
+    pub status: Status,
+}
+
+// What a call answers: 0 accepted or the refusal's number, and its event.
+pub struct Reply {
+    pub answer: u8,
+    pub event: Event,
+}
+
+impl Event {
+    pub fn none() -> Event
+        ensures { λ r. ⌜ r ≡ noEvent ⌝ }
+    {
+        Event {
+            phase: 0,
+            stage: 0,
+            number: Number(0),
+            status: Status::None,
+        }
+    }
+}
+
+impl Reply {
+    // An answer with no event.
+    pub fn of(answer: u8) -> Reply
+        ensures { λ r. ⌜ r ≡ refusal answer ⌝ }
+    {
+        let event = Event {
+            phase: 0,
+            stage: 0,
+            number: Number(0),
+            status: Status::None,
+        };
+        Reply { answer, event }
+    }
+}

@@ -1,0 +1,9 @@
+pub mod Plans
+pub mod Sides
+pub mod Heads
+pub mod AtRest
+pub mod CommitChange
+pub mod CommitRollback
+pub mod ApplyChange
+pub mod ApplyRollback
+pub mod Outside

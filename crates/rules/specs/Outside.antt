@@ -1,0 +1,129 @@
+-- The calls from outside, each on the few records that it reads (paper: Calls from outside). Append and the tables of
+-- nodes and values are in the crate machine. Assumes nothing.
+use Prim.Native.Nat.{ℕ, _+_}
+use mathlib.Core.Bool.{Bool, true, false, _&&_}
+use lib.Dec.{eqb, ltb}
+use Rattle.kinds.specs.declared.Transaction.{Transaction}
+use Rattle.kinds.specs.declared.Configuration.{Configuration}
+use Rattle.kinds.specs.declared.Progress.{Progress}
+use Rattle.kinds.specs.declared.Progress.the-variants.{Pending, InProgress, Complete}
+use Rattle.kinds.specs.declared.Mastership.{Mastership}
+use Rattle.kinds.specs.declared.Connection.{Connection}
+use Rattle.kinds.specs.declared.Target.{Target}
+use Rattle.kinds.specs.declared.Term.{Term}
+use Rattle.kinds.specs.Numbers.{isLast, nextTerm}
+use Rattle.kinds.specs.Statuses.{isComplete}
+use Rattle.rules.specs.declared.Targeted.{Targeted}
+use Rattle.rules.specs.declared.Connected.{Connected}
+use Rattle.rules.specs.declared.Mastered.{Mastered}
+use Rattle.rules.specs.declared.Synchronised.{Synchronised}
+use Rattle.rules.specs.Sides.{asked}
+
+-- ---- rollback request: phase Change and c.commit Complete, else 6
+abbrev pub mayRollBack : Transaction → Bool
+mayRollBack t = eqb (t .phase) 1 && isComplete (t .change .commit)
+
+-- phase Rollback, r.commit and r.apply Pending
+abbrev pub rolledBack : Transaction → Transaction
+rolledBack t =
+    record {
+      phase = 2;
+      count = t .count;
+      paths = t .paths;
+      values = t .values;
+      change = t .change;
+      rollback = asked (t .rollback);
+      index = t .index;
+      kept = t .kept;
+    }
+
+-- ---- start and stop: the target. Stop also clears its values and disconnects every node
+abbrev pub targetIf : Bool → Targeted → Targeted → Targeted
+targetIf true a b = a
+targetIf false a b = b
+
+abbrev pub targeted : ℕ → Target → Targeted
+targeted a t = record { answer = a; target = t }
+
+abbrev pub start : Target → Targeted
+start t =
+    targetIf (t .running) (targeted 7 t)
+    (targetIf (isLast (t .id)) (targeted 9 t) (targeted 0 (record { id = t .id + 1; running = true })))
+
+abbrev pub stop : Target → Targeted
+stop t = targetIf (t .running) (targeted 0 (record { id = t .id; running = false })) (targeted 7 t)
+
+-- ---- connect and disconnect: one node's connection
+abbrev pub connectedIf : Bool → Connected → Connected → Connected
+connectedIf true a b = a
+connectedIf false a b = b
+
+abbrev pub answered : ℕ → Connection → Connected
+answered a x = record { answer = a; connection = x }
+
+-- the connection's id stays when it is lost
+abbrev pub off : Connection → Connection
+off x = record { id = x .id; connected = false }
+
+abbrev pub connect : Connection → Bool → Connected
+connect x running =
+    connectedIf (x .connected) (answered 7 x)
+    (connectedIf running
+    (connectedIf (isLast (x .id)) (answered 9 x) (answered 0 (record { id = x .id + 1; connected = true })))
+    (answered 8 x))
+
+abbrev pub disconnect : Connection → Connected
+disconnect x = connectedIf (x .connected) (answered 0 (off x)) (answered 7 x)
+
+-- ---- mastership of node n, whose connection is x
+abbrev pub masteredIf : Bool → Mastered → Mastered → Mastered
+masteredIf true a b = a
+masteredIf false a b = b
+
+abbrev pub mastered : ℕ → Mastership → Mastered
+mastered a m = record { answer = a; mastership = m }
+
+-- n connected: where there is no master, n at the next term and at its connection's id, else 11;
+-- n not connected: where n is master, no master and the rest kept, else 11
+abbrev pub master : Mastership → ℕ → Connection → Mastered
+master m n x =
+    masteredIf (x .connected)
+    (masteredIf (eqb (m .master) 0)
+    (masteredIf (isLast (m .term .0)) (mastered 9 m) (mastered 0 (record { master = n; term = nextTerm (m .term); conn = x .id })))
+    (mastered 11 m))
+    (masteredIf (eqb (m .master) n) (mastered 0 (record { master = 0; term = m .term; conn = m .conn })) (mastered 11 m))
+
+-- ---- synchronise by a node: whether it is master, and whether it reaches the target
+abbrev pub synchronisedIf : Bool → Synchronised → Synchronised → Synchronised
+synchronisedIf true a b = a
+synchronisedIf false a b = b
+
+-- `copies`: the target's values become the applied values
+abbrev pub synchronised : ℕ → Configuration → Bool → Synchronised
+synchronised a g b = record { answer = a; configuration = g; copies = b }
+
+-- the configuration's term below the mastership's
+abbrev pub synchroniseBy : Progress → Configuration → Term → Bool → Synchronised
+synchroniseBy Pending g term reaches = synchronised 0 (record { state = InProgress; term = g .term }) false
+synchroniseBy Complete g term reaches = synchronised 0 (record { state = InProgress; term = g .term }) false
+synchroniseBy InProgress g term reaches = synchronisedIf reaches (synchronised 0 (record { state = Complete; term = term }) true) (synchronised 12 g false)
+
+abbrev pub synchronise : Configuration → Term → Bool → Bool → Synchronised
+synchronise g term isMaster reaches =
+    synchronisedIf isMaster
+    (synchronisedIf (ltb (g .term .0) (term .0)) (synchroniseBy (g .state) g term reaches) (synchronised 11 g false))
+    (synchronised 10 g false)
+
+-- ---- the line
+-- n is connected with id equal to conn, and the target runs
+abbrev pub reaches : Connection → Mastership → Target → Bool
+reaches x m t = x .connected && (eqb (x .id) (m .conn) && t .running)
+
+abbrev pub isSynchronised : Progress → Bool
+isSynchronised Pending = false
+isSynchronised InProgress = false
+isSynchronised Complete = true
+
+-- the line is open for n: n is master and reaches the target, and the configuration is Complete in this term
+abbrev pub lineOpen : ℕ → Connection → Mastership → Target → Configuration → Bool
+lineOpen n x m t g = eqb (m .master) n && (reaches x m t && (isSynchronised (g .state) && eqb (g .term .0) (m .term .0)))
