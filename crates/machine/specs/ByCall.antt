@@ -1,0 +1,254 @@
+-- Every call by what it does: a property of a call's reply and of the state after it is one record with a field for each
+-- way to accept a call, and one for all refusals. Assumes nothing.
+use Prim.Native.Nat.{ℕ, suc, _+_, _≤_, _<_}
+use native.Mathlib.Omega.{arith}
+use mathlib.Core.List.{List, [], _∷_, _++_, map}
+use mathlib.Core.Bool.{Bool, true, false}
+use mathlib.Core.Path.{_≡_, refl, sym, subst}
+use lib.Dec.{eqb, ltb, leb}
+use lib.ListN.{length}
+use borrow.Author.Tests.{eqb-true, leb-true, ltb-true}
+use Rattle.kinds.specs.declared.Reply.{Reply}
+use Rattle.kinds.specs.declared.Term.{Term}
+use Rattle.kinds.specs.declared.Progress.{Progress}
+use Rattle.kinds.specs.declared.Progress.the-variants.{Pending, InProgress, Complete}
+use Rattle.kinds.specs.Numbers.{isLast, termUnless, nextTerm}
+use Rattle.kinds.specs.Events.{numbered, refusal}
+use Rattle.rules.specs.declared.Plan.{Plan}
+use Rattle.rules.specs.Outside as outside
+use Rattle.machine.specs.State.{State, Net, absent, entryOf, inLog, isNode, nodeOf, putNode, isMaster, reachesTarget, lineOpenFor}
+use Rattle.machine.specs.Stores.{targetValues, configuration, mastership, connections, target, withLog, withNet, after, afters}
+use Rattle.machine.specs.WellFormed.{wellFormed}
+use Rattle.machine.specs.Settled.{settled}
+use Rattle.machine.specs.Calls.{Pair, Call, Outcome, append, rollback, start, stop, connect, disconnect, master, sync, work, refused, unless, answers, validChange, appended, restOf, present, jobIf, job1, job2, job3, job4, planOf, commits, planned, workOk, copyRow, decide}
+use Rattle.machine.specs.Step.{outcome, step}
+use Rattle.machine.specs.Next.{putting, performed, rows-performed, withConfiguration, withMastership, withConnections, withTarget}
+use Rattle.machine.specs.Cases.{and-left, and-right, CommitChange, commit-change, CommitRollback, commit-rollback, ApplyChange, apply-change, ApplyRollback, apply-rollback}
+
+-- ---- the nodes' side after its calls
+module _ (w : Net) where
+  abbrev pub started : Net
+  started = withTarget w (record { id = w .target .id + 1; running = true })
+
+  abbrev pub stopped : Net
+  stopped =
+      record {
+        configuration = w .configuration;
+        mastership = w .mastership;
+        connections = map outside.off (w .connections);
+        target = record { id = w .target .id; running = false };
+        values = absent;
+      }
+
+  abbrev pub connected : ℕ → Net
+  connected n = withConnections w (putNode (w .connections) n (record { id = nodeOf (w .connections) n .id + 1; connected = true }))
+
+  abbrev pub disconnected : ℕ → Net
+  disconnected n = withConnections w (putNode (w .connections) n (outside.off (nodeOf (w .connections) n)))
+
+  abbrev pub elected : ℕ → Term → Net
+  elected n t = withMastership w (record { master = n; term = t; conn = nodeOf (w .connections) n .id })
+
+  abbrev pub resigned : Net
+  resigned = withMastership w (record { master = 0; term = w .mastership .term; conn = w .mastership .conn })
+
+  abbrev pub syncing : Net
+  syncing = withConfiguration w (record { state = InProgress; term = w .configuration .term })
+
+  abbrev pub synced : List ℕ → Net
+  synced vs =
+      record {
+        configuration = record { state = Complete; term = w .mastership .term };
+        mastership = w .mastership;
+        connections = w .connections;
+        target = w .target;
+        values = vs;
+      }
+
+one-more : (t : Term) → isLast (t .0) ≡ false → nextTerm t .0 ≡ suc (t .0)
+one-more t e = go (isLast (t .0)) e
+  where
+    go : (b : Bool) → b ≡ false → termUnless b (t .0) .0 ≡ suc (t .0)
+    go true e = cc
+    go false e = omega arith
+
+module _ (s : State) (P : Reply → State → Type 0) where
+  -- a property of what job's plan for number i does
+  abbrev pub Does : Bool → ℕ → Bool → Plan → Type 0
+  Does commits i cut p = P (record { answer = p .answer; event = p .event }) (performed commits s p i cut)
+
+  pub record Calls : Type 0 where
+    pub refused : (a : ℕ) → 2 ≤ a → P (refusal a) s
+    pub append : (ps : List Pair) → validChange ps ≡ true → length (s .log) < 128
+        → P (record { answer = 0; event = numbered (length (s .log) + 1) }) (withLog s (s .log ++ (appended ps ∷ [])))
+    pub rollback : (i : ℕ) → 1 ≤ i → i ≤ length (s .log) → outside.mayRollBack (entryOf (s .log) i) ≡ true
+        → P (refusal 0) (putting s i (outside.rolledBack (entryOf (s .log) i)))
+    pub start : s .net .target .running ≡ false → P (refusal 0) (withNet s (started (s .net)))
+    pub stop : P (refusal 0) (withNet s (stopped (s .net)))
+    pub connect : (n : ℕ) → 1 ≤ n → s .net .target .running ≡ true → P (refusal 0) (withNet s (connected (s .net) n))
+    pub disconnect : (n : ℕ) → P (refusal 0) (withNet s (disconnected (s .net) n))
+    pub elect : (n : ℕ) → n ≤ 8 → (t : Term) → t .0 ≡ suc (s .net .mastership .term .0) → P (refusal 0) (withNet s (elected (s .net) n t))
+    pub resign : P (refusal 0) (withNet s (resigned (s .net)))
+    pub syncing : P (refusal 0) (withNet s (syncing (s .net)))
+    pub synced : P (refusal 0) (withNet s (synced (s .net) (s .applied .values)))
+    pub job1 : (i : ℕ) → 1 ≤ i → i ≤ length (s .log) → (cut : Bool)
+        → CommitChange (entryOf (s .log) i) (s .committed .head) i (Does true i cut) (s .change) (restOf s) (present (s .committed .values) (entryOf (s .log) i))
+    pub job2 : (n i : ℕ) → 1 ≤ i → i ≤ length (s .log) → (cut : Bool)
+        → ApplyChange (entryOf (s .log) i) (s .applied .head) i (Does false i cut) (settled s) (lineOpenFor (s .net) n)
+    pub job3 : (i : ℕ) → 1 ≤ i → i ≤ length (s .log) → (cut : Bool)
+        → CommitRollback (entryOf (s .log) i) (s .committed .head) i (Does true i cut) (restOf s)
+    pub job4 : (n i : ℕ) → 1 ≤ i → i ≤ length (s .log) → (cut : Bool)
+        → ApplyRollback (entryOf (s .log) i) (s .applied .head) i (Does false i cut) (settled s) (lineOpenFor (s .net) n)
+
+  -- of an outcome
+  abbrev Of : Outcome → Type 0
+  Of o = P (o .reply) (afters s (o .stores))
+
+  module _ (k : Calls) where
+    refuses : (a : ℕ) → 2 ≤ a → Of (refused a)
+    unfolding afters
+    refuses a n = k .refused a n
+
+    unless-of : (a : ℕ) → 2 ≤ a → (b : Bool) (o : Outcome) → (b ≡ true → Of o) → Of (unless a b o)
+    unless-of a n true o f = f refl
+    unless-of a n false o f = refuses a n
+
+    node-low : (n : ℕ) → isNode n ≡ true → 1 ≤ n
+    node-low n e = leb-true 1 n (and-left (leb 1 n) _ e)
+
+    node-high : (n : ℕ) → isNode n ≡ true → n ≤ 8
+    node-high n e = leb-true n 8 (and-right (leb 1 n) _ e)
+
+    start-of : Of (decide s start)
+    unfolding decide afters after
+    start-of = go (s .net .target .running) refl (isLast (s .net .target .id))
+      where
+        go : (r : Bool) → s .net .target .running ≡ r → (l : Bool)
+            → (let t = s .net .target in
+            let x = outside.targetIf r (outside.targeted 7 t) (outside.targetIf l (outside.targeted 9 t) (outside.targeted 0 (record { id = t .id + 1; running = true }))) in
+            Of (answers (x .answer) (target (x .target) ∷ [])))
+        go true e l = refuses 7 (omega arith)
+        go false e true = refuses 9 (omega arith)
+        go false e false = k .start e
+
+    stop-of : Of (decide s stop)
+    unfolding decide afters after
+    stop-of = go (s .net .target .running)
+      where
+        go : (r : Bool)
+            → (let t = s .net .target in
+            let x = outside.targetIf r (outside.targeted 0 (record { id = t .id; running = false })) (outside.targeted 7 t) in
+            Of (answers (x .answer) (target (x .target) ∷ targetValues absent ∷ connections (map outside.off (s .net .connections)) ∷ [])))
+        go true = k .stop
+        go false = refuses 7 (omega arith)
+
+    connect-of : (n : ℕ) → Of (decide s (connect n))
+    unfolding decide afters after
+    connect-of n = unless-of 2 (omega arith) (isNode n) _ (λ e. go e (nodeOf (s .net .connections) n .connected) (s .net .target .running) refl (isLast (nodeOf (s .net .connections) n .id)))
+      where
+        go : isNode n ≡ true → (c r : Bool) → s .net .target .running ≡ r → (l : Bool)
+            → (let y = nodeOf (s .net .connections) n in
+            let x = outside.connectedIf c (outside.answered 7 y)
+            (outside.connectedIf r (outside.connectedIf l (outside.answered 9 y) (outside.answered 0 (record { id = y .id + 1; connected = true }))) (outside.answered 8 y)) in
+            Of (answers (x .answer) (connections (putNode (s .net .connections) n (x .connection)) ∷ [])))
+        go e true r f l = refuses 7 (omega arith)
+        go e false true f true = refuses 9 (omega arith)
+        go e false true f false = k .connect n (node-low n e) f
+        go e false false f l = refuses 8 (omega arith)
+
+    disconnect-of : (n : ℕ) → Of (decide s (disconnect n))
+    unfolding decide afters after
+    disconnect-of n = unless-of 2 (omega arith) (isNode n) _ (λ e. go (nodeOf (s .net .connections) n .connected))
+      where
+        go : (c : Bool)
+            → (let y = nodeOf (s .net .connections) n in
+            let x = outside.connectedIf c (outside.answered 0 (outside.off y)) (outside.answered 7 y) in
+            Of (answers (x .answer) (connections (putNode (s .net .connections) n (x .connection)) ∷ [])))
+        go true = k .disconnect n
+        go false = refuses 7 (omega arith)
+
+    master-of : (n : ℕ) → Of (decide s (master n))
+    unfolding decide afters after
+    master-of n =
+        unless-of 2 (omega arith) (isNode n) _
+        (λ e. go e (nodeOf (s .net .connections) n .connected) (eqb (s .net .mastership .master) 0) (isLast (s .net .mastership .term .0)) refl (eqb (s .net .mastership .master) n))
+      where
+        go : isNode n ≡ true → (c z l : Bool) → isLast (s .net .mastership .term .0) ≡ l → (b : Bool)
+            → (let m = s .net .mastership in
+            let x = outside.masteredIf c
+            (outside.masteredIf z
+            (outside.masteredIf l (outside.mastered 9 m) (outside.mastered 0 (record { master = n; term = nextTerm (m .term); conn = nodeOf (s .net .connections) n .id })))
+            (outside.mastered 11 m))
+            (outside.masteredIf b (outside.mastered 0 (record { master = 0; term = m .term; conn = m .conn })) (outside.mastered 11 m)) in
+            Of (answers (x .answer) (mastership (x .mastership) ∷ [])))
+        go e true true true f b = refuses 9 (omega arith)
+        go e true true false f b = k .elect n (node-high n e) _ (one-more (s .net .mastership .term) f)
+        go e true false l f b = refuses 11 (omega arith)
+        go e false z l f true = k .resign
+        go e false z l f false = refuses 11 (omega arith)
+
+    sync-of : (n : ℕ) → Of (decide s (sync n))
+    unfolding decide afters after
+    sync-of n =
+        unless-of 2 (omega arith) (isNode n) _
+        (λ e. go (isMaster (s .net) n) (ltb (s .net .configuration .term .0) (s .net .mastership .term .0)) (s .net .configuration .state) (reachesTarget (s .net) n))
+      where
+        go : (m l : Bool) (p : Progress) (r : Bool)
+            → (let g = s .net .configuration in
+            let x = outside.synchronisedIf m
+            (outside.synchronisedIf l (outside.synchroniseBy p g (s .net .mastership .term) r) (outside.synchronised 11 g false))
+            (outside.synchronised 10 g false) in
+            Of (answers (x .answer) (configuration (x .configuration) ∷ copyRow (x .copies) (s .applied .values))))
+        go false l p r = refuses 10 (omega arith)
+        go true false p r = refuses 11 (omega arith)
+        go true true Pending r = k .syncing
+        go true true Complete r = k .syncing
+        go true true InProgress true = k .synced
+        go true true InProgress false = refuses 12 (omega arith)
+
+    performs : (j : ℕ) (p : Plan) (i c : ℕ) → Does (commits j) i (eqb c 1) p → Of (planned j p i c)
+    performs j p i c d = subst (P (record { answer = p .answer; event = p .event })) (sym (rows-performed (commits j) s p i (eqb c 1))) d
+
+    work-of : (n j i r c : ℕ) → Of (decide s (work n j i r c))
+    unfolding decide planOf
+    work-of n j i r c =
+        unless-of 2 (omega arith) (workOk n j r c) _
+        (λ e. unless-of 5 (omega arith) (inLog s i) _
+        (λ f. unless-of 10 (omega arith) (isMaster (s .net) n) _
+        (λ g. performs j _ i c (go (leb-true 1 i (and-left (leb 1 i) _ f)) (leb-true i _ (and-right (leb 1 i) _ f)) (eqb j 1) (eqb j 2) refl (eqb j 3) refl))))
+      where
+        go : 1 ≤ i → i ≤ length (s .log) → (a b : Bool) → eqb j 2 ≡ b → (d : Bool) → eqb j 3 ≡ d
+            → Does (Rattle.machine.specs.Calls.sideIf a d) i (eqb c 1)
+            (jobIf a (Rattle.machine.specs.Calls.job1 s i (eqb r 0))
+            (jobIf b (Rattle.machine.specs.Calls.job2 s n i (eqb r 0)) (jobIf d (Rattle.machine.specs.Calls.job3 s i) (Rattle.machine.specs.Calls.job4 s n i (eqb r 0)))))
+        go p q true b x d y = commit-change _ _ i _ (s .change) (restOf s) _ (eqb r 0) (k .job1 i p q (eqb c 1))
+        go p q false true x false y = apply-change _ _ i _ (settled s) (lineOpenFor (s .net) n) (eqb r 0) (k .job2 n i p q (eqb c 1))
+        go p q false true x true y = absurd (omega (arith, eqb-true j 2 x, eqb-true j 3 y))
+        go p q false false x true y = commit-rollback _ _ i _ (restOf s) (k .job3 i p q (eqb c 1))
+        go p q false false x false y = apply-rollback _ _ i _ (settled s) (lineOpenFor (s .net) n) (eqb r 0) (k .job4 n i p q (eqb c 1))
+
+    decide-of : (c : Call) → Of (decide s c)
+    unfolding decide afters after
+    decide-of (append ps) =
+        unless-of 3 (omega arith) (validChange ps) _
+        (λ e. unless-of 4 (omega arith) (ltb (length (s .log)) 128) _ (λ f. k .append ps e (ltb-true _ _ f)))
+    decide-of (rollback i) =
+        unless-of 5 (omega arith) (inLog s i) _
+        (λ e. unless-of 6 (omega arith) (outside.mayRollBack (entryOf (s .log) i)) _
+        (λ f. k .rollback i (leb-true 1 i (and-left (leb 1 i) _ e)) (leb-true i _ (and-right (leb 1 i) _ e)) f))
+    decide-of start = start-of
+    decide-of stop = stop-of
+    decide-of (connect n) = connect-of n
+    decide-of (disconnect n) = disconnect-of n
+    decide-of (master n) = master-of n
+    decide-of (sync n) = sync-of n
+    decide-of (work n j i r c) = work-of n j i r c
+
+  -- any call, in any state: where it is not well-formed, refusal 1
+  pub by-call : (wellFormed s ≡ false → P (refusal 1) s) → (wellFormed s ≡ true → Calls) → (c : Call) → P (step s c .reply) (step s c .next)
+  unfolding step outcome afters
+  by-call r k c = go (wellFormed s) refl
+    where
+      go : (b : Bool) → wellFormed s ≡ b → Of (unless 1 b (decide s c))
+      go true e = decide-of (k e) c
+      go false e = r e

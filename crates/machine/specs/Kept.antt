@@ -1,0 +1,479 @@
+-- What every call keeps, in any state, reached or not: a well-formed state stays well-formed, and a refused call leaves
+-- the state as it is and gives no event. Assumes nothing.
+use Prim.Native.Nat.{ℕ, zero, suc, _+_, _≤_, _<_}
+use native.Mathlib.Omega.{arith}
+use mathlib.Core.List.{List, [], _∷_, _++_, map}
+use mathlib.Core.Bool.{Bool, true, false, _&&_}
+use mathlib.Core.Path.{_≡_, refl, _∙_}
+use lib.Dec.{eqb, ltb, leb}
+use lib.ListN.{length, length-set, length-map}
+use borrow.Author.Tests.{eqb-true, leb-true, leb-false, ltb-true, eq-eqb, le-leb, lt-ltb}
+use Rattle.kinds.specs.declared.Transaction.{Transaction}
+use Rattle.kinds.specs.declared.Head.{Head}
+use Rattle.kinds.specs.declared.Number.{Number}
+use Rattle.kinds.specs.declared.Ordinal.{Ordinal}
+use Rattle.kinds.specs.declared.Side.{Side}
+use Rattle.kinds.specs.declared.Reply.{Reply}
+use Rattle.kinds.specs.declared.Connection.{Connection}
+use Rattle.kinds.specs.Numbers.{num, ord}
+use Rattle.kinds.specs.Records.{withChange, withRollback}
+use Rattle.kinds.specs.Events.{noEvent, refusal}
+use Rattle.rules.specs.declared.Plan.{Plan}
+use Rattle.rules.specs.declared.Order.{Order}
+use Rattle.rules.specs.declared.Order.the-variants.{Neither, EntryOnly, HeadOnly, EntryThenHead, HeadThenEntry}
+use Rattle.rules.specs.Heads.{aimed, landed, passed, closed}
+use Rattle.rules.specs.declared.CommitChangeRule.the-variants as change
+use Rattle.rules.specs.declared.CommitRollbackRule.the-variants as rollback
+use Rattle.rules.specs.declared.ApplyChangeRule.the-variants as apply
+use Rattle.rules.specs.declared.ApplyRollbackRule.the-variants as return
+use Rattle.rules.specs.CommitChange as job1
+use Rattle.rules.specs.CommitRollback as job3
+use Rattle.rules.specs.ApplyChange as job2
+use Rattle.rules.specs.ApplyRollback as job4
+use Rattle.rules.specs.CommitChange.{beginning}
+use Rattle.rules.specs.Outside as outside
+use Rattle.machine.specs.State.{State, Net, fresh, entryOf, putEntry, putNode}
+use Rattle.machine.specs.Stores.{withLog, withNet}
+use Rattle.machine.specs.WellFormed.{allFrom, pairsOk, entryOk, headOk, sizesOk, headsOk, wellFormed}
+use Rattle.machine.specs.Calls.{Pair, Call, validChange, appended, pathOf, valuesOk, present}
+use Rattle.machine.specs.Step.{step, run}
+use Rattle.machine.specs.Next.{putting, changeIf, heading, performedBy}
+use Rattle.machine.specs.Cases.{and-left, and-right}
+use Rattle.machine.specs.Entries.{put-all, add-all, length-put, length-add, entry-add, all-true, true-all, and-both, length-laid}
+use Rattle.machine.specs.ByCall.{Calls, by-call, syncing, synced}
+
+-- ---- a refusal changes nothing, and 1 is for a state that is not well-formed
+pub record Answered (s : State) (r : Reply) (next : State) : Type 0 where
+  pub refused : (r .answer ≡ 0 → ⊥) → (next ≡ s) × (r .event ≡ noEvent)
+  pub one : r .answer ≡ 1 → wellFormed s ≡ false
+
+accepts : (s : State) (r : Reply) (next : State) → r .answer ≡ 0 → Answered s r next
+accepts s r next e = record { refused = λ x. absurd (x e); one = λ x. absurd (omega arith) }
+
+refuses : (s : State) (a : ℕ) → 2 ≤ a → Answered s (refusal a) s
+refuses s a b = record { refused = λ x. (refl, refl); one = λ x. absurd (omega arith) }
+
+answered : (s : State) (c : Call) → Answered s (step s c .reply) (step s c .next)
+answered s c =
+    by-call s (Answered s) (λ e. record { refused = λ x. (refl, refl); one = λ x. e })
+    (λ w. record {
+      refused = refuses s;
+      append = λ ps e f. accepts s _ _ refl;
+      rollback = λ i p q e. accepts s _ _ refl;
+      start = λ e. accepts s _ _ refl;
+      stop = accepts s _ _ refl;
+      connect = λ n p e. accepts s _ _ refl;
+      disconnect = λ n. accepts s _ _ refl;
+      elect = λ n p t e. accepts s _ _ refl;
+      resign = accepts s _ _ refl;
+      syncing = accepts s _ _ refl;
+      synced = accepts s _ _ refl;
+      job1 = λ i p q cut. record {
+        wait = refuses s 11 (omega arith);
+        full = λ a b d. refuses s 9 (omega arith);
+        begin = λ a b d. accepts s _ _ refl;
+        aim = λ a b d. accepts s _ _ refl;
+        land = λ a b d o e. accepts s _ _ refl;
+        reject = λ a b. accepts s _ _ refl;
+        finish = λ a b. accepts s _ _ refl;
+        close = λ a b. accepts s _ _ refl;
+      };
+      job2 = λ n i p q cut. record {
+        wait = refuses s 11 (omega arith);
+        noLine = refuses s 12 (omega arith);
+        begin = λ a b d. accepts s _ _ refl;
+        aim = λ a b d e. accepts s _ _ refl;
+        abort = λ a b d e. accepts s _ _ refl;
+        closeAborted = λ a b. accepts s _ _ refl;
+        closeFailed = λ a b. accepts s _ _ refl;
+        finish = λ a b d. accepts s _ _ refl;
+        fail = λ a b. accepts s _ _ refl;
+        push = λ a b d. accepts s _ _ refl;
+      };
+      job3 = λ i p q cut. record {
+        wait = refuses s 11 (omega arith);
+        full = λ a b d. refuses s 9 (omega arith);
+        begin = λ a b d. accepts s _ _ refl;
+        aim = λ a b d. accepts s _ _ refl;
+        land = λ a b d o e. accepts s _ _ refl;
+        finish = λ a b d. accepts s _ _ refl;
+      };
+      job4 = λ n i p q cut. record {
+        wait = refuses s 11 (omega arith);
+        noLine = refuses s 12 (omega arith);
+        rejected = refuses s 13 (omega arith);
+        begin = λ a b d e. accepts s _ _ refl;
+        aim = λ a b d e. accepts s _ _ refl;
+        cancel = λ a b d e. accepts s _ _ refl;
+        close = λ a b. accepts s _ _ refl;
+        finish = λ a b d. accepts s _ _ refl;
+        push = λ a b d. accepts s _ _ refl;
+      };
+    })
+    c
+
+pub refused-changes-nothing : (s : State) (c : Call) → (step s c .reply .answer ≡ 0 → ⊥) → (step s c .next ≡ s) × (step s c .reply .event ≡ noEvent)
+refused-changes-nothing s c = answered s c .refused
+
+pub refusal-one : (s : State) (c : Call) → step s c .reply .answer ≡ 1 → wellFormed s ≡ false
+refusal-one s c = answered s c .one
+
+-- ---- well-formed, as facts
+pub record EntryFormed (i : ℕ) (t : Transaction) : Type 0 where
+  pub phase : (1 ≤ t .phase) × (t .phase ≤ 2)
+  pub below : t .index .0 < i
+  pub change : t .change .ordinal .0 ≤ 256
+  pub rollback : t .rollback .ordinal .0 ≤ 256
+  pub pairs : pairsOk (t .count) (t .paths) ≡ true
+
+pub record HeadFormed (n : ℕ) (h : Head) : Type 0 where
+  pub index : h .index .0 ≤ n
+  pub target : h .target .0 ≤ n
+  pub revision : h .revision .0 ≤ n
+  pub ordinal : h .ordinal .0 ≤ 256
+
+-- Committed's change c against its revision and the log's length
+pub record ChangeFormed (n c : ℕ) (h : Head) : Type 0 where
+  pub inLog : c ≤ n
+  pub behind : h .revision .0 ≤ c
+
+pub record NetFormed (w : Net) : Type 0 where
+  pub master : w .mastership .master ≤ 8
+  pub values : length (w .values) ≡ 32
+  pub connections : length (w .connections) ≡ 8
+
+pub record Formed (s : State) : Type 0 where
+  pub size : length (s .log) ≤ 128
+  pub entries : (k : ℕ) → 1 ≤ k → k ≤ length (s .log) → EntryFormed k (entryOf (s .log) k)
+  pub committed : HeadFormed (length (s .log)) (s .committed .head)
+  pub change : ChangeFormed (length (s .log)) (s .change .0) (s .committed .head)
+  pub applied : HeadFormed (length (s .log)) (s .applied .head)
+  pub committedValues : length (s .committed .values) ≡ 32
+  pub appliedValues : length (s .applied .values) ≡ 32
+  pub net : NetFormed (s .net)
+
+entry-formed : (i : ℕ) (t : Transaction) → entryOk i t ≡ true → EntryFormed i t
+unfolding entryOk
+entry-formed i t e =
+    let p = leb 1 (t .phase) in
+    let q = leb (t .phase) 2 in
+    let b = ltb (t .index .0) i in
+    let c = leb (t .change .ordinal .0) 256 in
+    let r = leb (t .rollback .ordinal .0) 256 in
+    let o = pairsOk (t .count) (t .paths) in
+    let f : (p && q) ≡ true = and-left (p && q) _ e in
+    let g : (b && ((c && r) && o)) ≡ true = and-right (p && q) _ e in
+    let m : ((c && r) && o) ≡ true = and-right b _ g in
+    let n : (c && r) ≡ true = and-left (c && r) o m in
+    record {
+      phase = (leb-true _ _ (and-left p q f), leb-true _ _ (and-right p q f));
+      below = ltb-true _ _ (and-left b _ g);
+      change = leb-true _ _ (and-left c r n);
+      rollback = leb-true _ _ (and-right c r n);
+      pairs = and-right (c && r) o m;
+    }
+
+formed-entry : (i : ℕ) (t : Transaction) → EntryFormed i t → entryOk i t ≡ true
+unfolding entryOk
+formed-entry i t f =
+    and-both _ _ (and-both _ _ (le-leb _ _ (f .phase .0)) (le-leb _ _ (f .phase .1)))
+    (and-both _ _ (lt-ltb _ _ (f .below)) (and-both _ _ (and-both _ _ (le-leb _ _ (f .change)) (le-leb _ _ (f .rollback))) (f .pairs)))
+
+head-formed : (n : ℕ) (h : Head) → headOk n h ≡ true → HeadFormed n h
+unfolding headOk
+head-formed n h e =
+    let i = leb (h .index .0) n in
+    let t = leb (h .target .0) n in
+    let r = leb (h .revision .0) n in
+    let o = leb (h .ordinal .0) 256 in
+    let f : (i && (t && r)) ≡ true = and-left (i && (t && r)) o e in
+    let g : (t && r) ≡ true = and-right i _ f in
+    record {
+      index = leb-true _ _ (and-left i _ f);
+      target = leb-true _ _ (and-left t r g);
+      revision = leb-true _ _ (and-right t r g);
+      ordinal = leb-true _ _ (and-right (i && (t && r)) o e);
+    }
+
+formed-head : (n : ℕ) (h : Head) → HeadFormed n h → headOk n h ≡ true
+unfolding headOk
+formed-head n h f =
+    and-both _ _ (and-both _ _ (le-leb _ _ (f .index)) (and-both _ _ (le-leb _ _ (f .target)) (le-leb _ _ (f .revision)))) (le-leb _ _ (f .ordinal))
+
+pub formed : (s : State) → wellFormed s ≡ true → Formed s
+unfolding wellFormed
+formed s e =
+    let n = length (s .log) in
+    let l = leb n 128 in
+    let hs = headsOk s n in
+    let es = allFrom entryOk 1 (s .log) in
+    let a : (hs && (es && sizesOk s)) ≡ true = and-right l _ e in
+    let b : (es && sizesOk s) ≡ true = and-right hs _ a in
+    let hh = headOk n (s .committed .head) && headOk n (s .applied .head) in
+    let c : hs ≡ true = and-left hs _ a in
+    let d : hh ≡ true = and-left hh _ c in
+    let ch = leb (s .change .0) n && leb (s .committed .head .revision .0) (s .change .0) in
+    let g : (ch && leb (s .net .mastership .master) 8) ≡ true = and-right hh _ c in
+    let h : ch ≡ true = and-left ch _ g in
+    let vs = eqb (length (s .committed .values)) 32 && eqb (length (s .applied .values)) 32 in
+    let z : sizesOk s ≡ true = and-right es _ b in
+    let ns = eqb (length (s .net .values)) 32 && eqb (length (s .net .connections)) 8 in
+    let y : vs ≡ true = and-left vs ns z in
+    let x : ns ≡ true = and-right vs ns z in
+    record {
+      size = leb-true _ _ (and-left l _ e);
+      entries = entries (and-left es _ b);
+      committed = head-formed n (s .committed .head) (and-left (headOk n (s .committed .head)) _ d);
+      change = record { inLog = leb-true _ _ (and-left (leb (s .change .0) n) _ h); behind = leb-true _ _ (and-right (leb (s .change .0) n) _ h) };
+      applied = head-formed n (s .applied .head) (and-right (headOk n (s .committed .head)) _ d);
+      committedValues = eqb-true _ _ (and-left (eqb (length (s .committed .values)) 32) _ y);
+      appliedValues = eqb-true _ _ (and-right (eqb (length (s .committed .values)) 32) _ y);
+      net = record {
+        master = leb-true _ _ (and-right ch _ g);
+        values = eqb-true _ _ (and-left (eqb (length (s .net .values)) 32) _ x);
+        connections = eqb-true _ _ (and-right (eqb (length (s .net .values)) 32) _ x);
+      };
+    }
+  where
+    entries : allFrom entryOk 1 (s .log) ≡ true → (k : ℕ) → 1 ≤ k → k ≤ length (s .log) → EntryFormed k (entryOf (s .log) k)
+    entries e zero p q = absurd (omega arith)
+    entries e (suc k) p q = entry-formed (suc k) _ (let z : suc k ≡ 1 + k = omega arith in rw z (all-true entryOk 1 (s .log) e k q))
+
+pub well-formed : (s : State) → Formed s → wellFormed s ≡ true
+unfolding wellFormed
+well-formed s f =
+    and-both _ _ (le-leb _ _ (f .size))
+    (and-both _ _
+    (and-both _ _ (and-both _ _ (formed-head _ _ (f .committed)) (formed-head _ _ (f .applied)))
+    (and-both _ _ (and-both _ _ (le-leb _ _ (f .change .inLog)) (le-leb _ _ (f .change .behind))) (le-leb _ _ (f .net .master))))
+    (and-both _ _
+    (true-all entryOk 1 (s .log) (λ j b. let z : 1 + j ≡ suc j = omega arith in rw z (formed-entry (suc j) _ (f .entries (suc j) (omega arith) b))))
+    (and-both _ _ (and-both _ _ (eq-eqb _ _ (f .committedValues)) (eq-eqb _ _ (f .appliedValues)))
+    (and-both _ _ (eq-eqb _ _ (f .net .values)) (eq-eqb _ _ (f .net .connections))))))
+
+-- ---- the stores of a plan
+module _ (s : State) (f : Formed s) where
+  put-formed : (i : ℕ) (t : Transaction) → EntryFormed i t → Formed (putting s i t)
+  put-formed i t e =
+      let n : length (putEntry (s .log) i t) ≡ length (s .log) = length-put (s .log) i t in
+      record {
+        size = rw n (f .size);
+        entries = rw n (put-all (λ k u. 1 ≤ k → k ≤ length (s .log) → EntryFormed k u) (s .log) i t (f .entries) (λ a b. e));
+        committed = rw n (f .committed);
+        change = rw n (f .change);
+        applied = rw n (f .applied);
+        committedValues = f .committedValues;
+        appliedValues = f .appliedValues;
+        net = f .net;
+      }
+
+  committed-formed : (p : Plan) (i : ℕ) → HeadFormed (length (s .log)) (p .head) → ChangeFormed (length (s .log)) (changeIf (p .change) i (s .change) .0) (p .head)
+      → Formed (heading true s p i)
+  committed-formed p i h c =
+      record {
+        size = f .size;
+        entries = f .entries;
+        committed = h;
+        change = c;
+        applied = f .applied;
+        committedValues = length-laid (p .lay) (p .entry) (s .committed .values) ∙ f .committedValues;
+        appliedValues = f .appliedValues;
+        net = f .net;
+      }
+
+  applied-formed : (p : Plan) (i : ℕ) → HeadFormed (length (s .log)) (p .head) → Formed (heading false s p i)
+  applied-formed p i h =
+      record {
+        size = f .size;
+        entries = f .entries;
+        committed = f .committed;
+        change = f .change;
+        applied = h;
+        committedValues = f .committedValues;
+        appliedValues = length-laid (p .lay) (p .entry) (s .applied .values) ∙ f .appliedValues;
+        net = record {
+          master = f .net .master;
+          values = length-laid (p .lay) (p .entry) (s .net .values) ∙ f .net .values;
+          connections = f .net .connections;
+        };
+      }
+
+module _ (s : State) (f : Formed s) (i : ℕ) where
+  commit-formed : (o : Order) (p : Plan) (cut : Bool) → EntryFormed i (p .entry) → HeadFormed (length (s .log)) (p .head)
+      → ChangeFormed (length (s .log)) (changeIf (p .change) i (s .change) .0) (p .head)
+      → Formed (performedBy o true s p i cut)
+  commit-formed Neither p cut e h c = f
+  commit-formed EntryOnly p cut e h c = put-formed s f i (p .entry) e
+  commit-formed HeadOnly p cut e h c = committed-formed s f p i h c
+  commit-formed EntryThenHead p true e h c = put-formed s f i (p .entry) e
+  commit-formed EntryThenHead p false e h c =
+      let n : length (putEntry (s .log) i (p .entry)) ≡ length (s .log) = length-put (s .log) i (p .entry) in
+      committed-formed (putting s i (p .entry)) (put-formed s f i (p .entry) e) p i (rw n h) (rw n c)
+  commit-formed HeadThenEntry p true e h c = committed-formed s f p i h c
+  commit-formed HeadThenEntry p false e h c = put-formed (heading true s p i) (committed-formed s f p i h c) i (p .entry) e
+
+  apply-formed : (o : Order) (p : Plan) (cut : Bool) → EntryFormed i (p .entry) → HeadFormed (length (s .log)) (p .head) → Formed (performedBy o false s p i cut)
+  apply-formed Neither p cut e h = f
+  apply-formed EntryOnly p cut e h = put-formed s f i (p .entry) e
+  apply-formed HeadOnly p cut e h = applied-formed s f p i h
+  apply-formed EntryThenHead p true e h = put-formed s f i (p .entry) e
+  apply-formed EntryThenHead p false e h =
+      let n : length (putEntry (s .log) i (p .entry)) ≡ length (s .log) = length-put (s .log) i (p .entry) in
+      applied-formed (putting s i (p .entry)) (put-formed s f i (p .entry) e) p i (rw n h)
+  apply-formed HeadThenEntry p true e h = applied-formed s f p i h
+  apply-formed HeadThenEntry p false e h = put-formed (heading false s p i) (applied-formed s f p i h) i (p .entry) e
+
+-- ---- every call
+abbrev Next : Reply → State → Type 0
+Next r s = Formed s
+
+appended-formed : (k : ℕ) (ps : List Pair) → 1 ≤ k → validChange ps ≡ true → EntryFormed k (appended ps)
+unfolding pairsOk
+appended-formed k ps b e =
+    record { phase = (omega arith, omega arith); below = b; change = omega arith; rollback = omega arith; pairs = and-left (pairsOk (length ps) (map pathOf ps)) (valuesOk ps) e }
+
+length-node : (l : List Connection) (n : ℕ) (x : Connection) → length (putNode l n x) ≡ length l
+length-node l zero x = refl
+length-node l (suc n) x = length-set l n x
+
+grown-head : (n : ℕ) (h : Head) → HeadFormed n h → HeadFormed (suc n) h
+grown-head n h f = record { index = omega (arith, f .index); target = omega (arith, f .target); revision = omega (arith, f .revision); ordinal = f .ordinal }
+
+module _ (s : State) (f : Formed s) where
+  net-formed : (w : Net) → NetFormed w → Formed (withNet s w)
+  net-formed w n =
+      record {
+        size = f .size;
+        entries = f .entries;
+        committed = f .committed;
+        change = f .change;
+        applied = f .applied;
+        committedValues = f .committedValues;
+        appliedValues = f .appliedValues;
+        net = n;
+      }
+
+  append-formed : (ps : List Pair) → validChange ps ≡ true → length (s .log) < 128 → Formed (withLog s (s .log ++ (appended ps ∷ [])))
+  append-formed ps e b =
+      let n : length (s .log ++ (appended ps ∷ [])) ≡ suc (length (s .log)) = length-add (s .log) (appended ps) in
+      record {
+        size = rw n b;
+        entries = λ k p q. go k p (rw n at q) (leb k (length (s .log))) refl;
+        committed = rw n (grown-head _ _ (f .committed));
+        change = rw n (record { inLog = omega (arith, f .change .inLog); behind = f .change .behind });
+        applied = rw n (grown-head _ _ (f .applied));
+        committedValues = f .committedValues;
+        appliedValues = f .appliedValues;
+        net = f .net;
+      }
+    where
+      old : (k : ℕ) → 1 ≤ k → k ≤ length (s .log) → EntryFormed k (entryOf (s .log ++ (appended ps ∷ [])) k)
+      old = add-all (λ k u. 1 ≤ k → k ≤ length (s .log) → EntryFormed k u) (s .log) (appended ps) (f .entries) (λ a c. absurd (omega arith))
+
+      go : (k : ℕ) → 1 ≤ k → k ≤ suc (length (s .log)) → (t : Bool) → leb k (length (s .log)) ≡ t → EntryFormed k (entryOf (s .log ++ (appended ps ∷ [])) k)
+      go k p q true x = old k p (leb-true _ _ x)
+      go k p q false x =
+          let z : k ≡ suc (length (s .log)) = omega (arith, leb-false k (length (s .log)) x) in
+          rw z (rw (entry-add (s .log) (appended ps)) (appended-formed (suc (length (s .log))) ps (omega arith) e))
+
+  -- an entry of the log, its sides, what is kept and the revision to return to anew
+  module _ (i : ℕ) (p : 1 ≤ i) (q : i ≤ length (s .log)) where
+    remade : (c r : Side) (x : Number) (vs : List ℕ) → c .ordinal .0 ≤ 256 → r .ordinal .0 ≤ 256 → x .0 < i
+        → EntryFormed i
+        (let t = entryOf (s .log) i in
+        record { phase = t .phase; count = t .count; paths = t .paths; values = t .values; change = c; rollback = r; index = x; kept = vs })
+    remade c r x vs a b d = let e = f .entries i p q in record { phase = e .phase; below = d; change = a; rollback = b; pairs = e .pairs }
+
+    -- with other statuses
+    changed : (c : Side) → c .ordinal .0 ≤ 256 → EntryFormed i (withChange (entryOf (s .log) i) c)
+    changed c a = let e = f .entries i p q in remade c (entryOf (s .log) i .rollback) _ _ a (e .rollback) (e .below)
+
+    returned : (r : Side) → r .ordinal .0 ≤ 256 → EntryFormed i (withRollback (entryOf (s .log) i) r)
+    returned r b = let e = f .entries i p q in remade (entryOf (s .log) i .change) r _ _ (e .change) b (e .below)
+
+    back : entryOf (s .log) i .index .0 ≤ length (s .log)
+    back = omega (arith, f .entries i p q .below)
+
+    -- the head of Applied where a rule closes at an aim
+    shut : (aim : Number) (o : Ordinal) → aim .0 ≤ length (s .log) → o .0 ≤ 256 → HeadFormed (length (s .log)) (closed (s .applied .head) (num i) aim o)
+    shut aim o a b = record { index = q; target = a; revision = f .applied .revision; ordinal = b }
+
+    came : (h : Head) (aim : Number) (o : Ordinal) → HeadFormed (length (s .log)) h → aim .0 ≤ length (s .log) → o .0 ≤ 256 → HeadFormed (length (s .log)) (landed h (num i) aim o)
+    came h aim o g a b = record { index = q; target = g .target; revision = a; ordinal = b }
+
+    turned : (h : Head) (aim : Number) → HeadFormed (length (s .log)) h → aim .0 ≤ length (s .log) → HeadFormed (length (s .log)) (aimed h aim)
+    turned h aim g a = record { index = g .index; target = a; revision = g .revision; ordinal = g .ordinal }
+
+    gone : HeadFormed (length (s .log)) (passed (s .committed .head) (num i))
+    gone = record { index = q; target = f .committed .target; revision = f .committed .revision; ordinal = f .committed .ordinal }
+
+  calls : Calls s Next
+  calls =
+      record {
+        refused = λ a n. f;
+        append = append-formed;
+        rollback = λ i p q e. put-formed s f i _ (let g = f .entries i p q in record { phase = (omega arith, omega arith); below = g .below; change = g .change; rollback = g .rollback; pairs = g .pairs });
+        start = λ e. net-formed _ (record { master = f .net .master; values = f .net .values; connections = f .net .connections });
+        stop = net-formed _ (record { master = f .net .master; values = refl; connections = length-map (s .net .connections) outside.off ∙ f .net .connections });
+        connect = λ n p e. net-formed _ (record { master = f .net .master; values = f .net .values; connections = length-node (s .net .connections) n _ ∙ f .net .connections });
+        disconnect = λ n. net-formed _ (record { master = f .net .master; values = f .net .values; connections = length-node (s .net .connections) n _ ∙ f .net .connections });
+        elect = λ n b t e. net-formed _ (record { master = b; values = f .net .values; connections = f .net .connections });
+        resign = net-formed _ (record { master = omega arith; values = f .net .values; connections = f .net .connections });
+        syncing = net-formed _ (record { master = f .net .master; values = f .net .values; connections = f .net .connections });
+        synced = net-formed _ (record { master = f .net .master; values = f .appliedValues; connections = f .net .connections });
+        job1 = λ i p q cut. let e = f .entries i p q in let t = entryOf (s .log) i in let h = s .committed .head in let vs = present (s .committed .values) t in let begins : i ≡ suc (s .change .0) → EntryFormed i (beginning (entryOf (s .log) i) (s .committed .head .revision) (present (s .committed .values) (entryOf (s .log) i))) = λ b. remade i p q _ _ _ _ (e .change) (e .rollback) (omega (arith, f .change .behind)) in record {
+          wait = f;
+          full = λ a b d. f;
+          begin = λ a b d. put-formed s f i _ (begins b);
+          aim = λ a b d. commit-formed s f i HeadThenEntry (job1.plans change.Aim t h (num i) (ord 0) vs) cut (begins b) (turned i p q (s .committed .head) (num i) (f .committed) q) (record { inLog = f .change .inLog; behind = f .change .behind });
+          land = λ a b d o g. let x : o .0 ≤ 256 = omega arith in let y : i ≤ i = omega arith in commit-formed s f i HeadThenEntry (job1.plans change.Land t h (num i) o vs) cut (changed i p q _ x) (came i p q (s .committed .head) (num i) o (f .committed) q x) (record { inLog = q; behind = y });
+          reject = λ a b. let x : s .committed .head .revision .0 ≤ i = omega (arith, f .change .behind) in commit-formed s f i EntryThenHead (job1.plans change.Reject t h (num i) (ord 0) vs) cut (changed i p q _ (e .change)) (gone i p q) (record { inLog = q; behind = x });
+          finish = λ a b. put-formed s f i _ (changed i p q _ (f .committed .ordinal));
+          close = λ a b. let x : s .committed .head .revision .0 ≤ i = omega (arith, f .change .behind) in committed-formed s f (job1.plans change.Close t h (num i) (ord 0) vs) i (gone i p q) (record { inLog = q; behind = x });
+        };
+        job2 = λ n i p q cut. let e = f .entries i p q in let t = entryOf (s .log) i in let h = s .applied .head in record {
+          wait = f;
+          noLine = f;
+          begin = λ a b d. put-formed s f i _ (changed i p q _ (e .change));
+          aim = λ a b d g. apply-formed s f i HeadThenEntry (job2.plans apply.Aim t h (num i)) cut (changed i p q _ (e .change)) (turned i p q (s .applied .head) (num i) (f .applied) q);
+          abort = λ a b d g. apply-formed s f i EntryThenHead (job2.plans apply.Abort t h (num i)) cut (changed i p q _ (e .change)) (shut i p q (num i) _ q (e .change));
+          closeAborted = λ a b. applied-formed s f (job2.plans apply.Close t h (num i)) i (shut i p q (num i) _ q (e .change));
+          closeFailed = λ a b. applied-formed s f (job2.plans apply.Close t h (num i)) i (shut i p q (num i) _ q (e .change));
+          finish = λ a b d. put-formed s f i _ (changed i p q _ (e .change));
+          fail = λ a b. apply-formed s f i EntryThenHead (job2.plans apply.Fail t h (num i)) cut (changed i p q _ (e .change)) (shut i p q (num i) _ q (e .change));
+          push = λ a b d. apply-formed s f i HeadThenEntry (job2.plans apply.Push t h (num i)) cut (changed i p q _ (e .change)) (came i p q (s .applied .head) (num i) _ (f .applied) q (e .change));
+        };
+        job3 = λ i p q cut. let e = f .entries i p q in let t = entryOf (s .log) i in let h = s .committed .head in record {
+          wait = f;
+          full = λ a b d. f;
+          begin = λ a b d. put-formed s f i _ (returned i p q _ (e .rollback));
+          aim = λ a b d. commit-formed s f i HeadThenEntry (job3.plans rollback.Aim t h (num i) (ord 0)) cut (returned i p q _ (e .rollback)) (turned i p q (s .committed .head) _ (f .committed) (back i p q)) (record { inLog = f .change .inLog; behind = f .change .behind });
+          land = λ a b d o g. let x : o .0 ≤ 256 = omega arith in let y : entryOf (s .log) i .index .0 ≤ s .change .0 = omega (arith, f .change .behind, e .below) in commit-formed s f i HeadThenEntry (job3.plans rollback.Land t h (num i) o) cut (returned i p q _ x) (came i p q (s .committed .head) _ o (f .committed) (back i p q) x) (record { inLog = f .change .inLog; behind = y });
+          finish = λ a b d. put-formed s f i _ (returned i p q _ (f .committed .ordinal));
+        };
+        job4 = λ n i p q cut. let e = f .entries i p q in let t = entryOf (s .log) i in let h = s .applied .head in record {
+          wait = f;
+          noLine = f;
+          rejected = f;
+          begin = λ a b d g. put-formed s f i _ (returned i p q _ (e .rollback));
+          aim = λ a b d g. apply-formed s f i HeadThenEntry (job4.plans return.Aim t h (num i)) cut (returned i p q _ (e .rollback)) (turned i p q (s .applied .head) _ (f .applied) (back i p q));
+          cancel = λ a b d g. apply-formed s f i EntryThenHead (job4.plans return.Cancel t h (num i)) cut (returned i p q _ (e .rollback)) (shut i p q _ _ (back i p q) (e .rollback));
+          close = λ a b. applied-formed s f (job4.plans return.Close t h (num i)) i (shut i p q _ _ (back i p q) (e .rollback));
+          finish = λ a b d. put-formed s f i _ (returned i p q _ (e .rollback));
+          push = λ a b d. apply-formed s f i HeadThenEntry (job4.plans return.Push t h (num i)) cut (returned i p q _ (e .rollback)) (came i p q (s .applied .head) _ _ (f .applied) (back i p q) (e .rollback));
+        };
+      }
+
+-- a well-formed state stays well-formed, whatever is called
+pub step-keeps-well-formed : (s : State) (c : Call) → wellFormed s ≡ true → wellFormed (step s c .next) ≡ true
+step-keeps-well-formed s c w = well-formed _ (by-call s Next (λ e. formed s w) (λ e. calls s (formed s w)) c)
+
+pub fresh-well-formed : wellFormed fresh ≡ true
+unfolding wellFormed allFrom headOk
+fresh-well-formed = refl
+
+-- so refusal 1 never occurs in a state reached from fresh
+pub reached-well-formed : (cs : List Call) → wellFormed (run cs .state) ≡ true
+unfolding run
+reached-well-formed [] = fresh-well-formed
+reached-well-formed (c ∷ cs) = step-keeps-well-formed (run cs .state) c (reached-well-formed cs)

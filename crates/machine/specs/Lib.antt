@@ -1,0 +1,16 @@
+pub mod State
+pub mod Stores
+pub mod Rows
+pub mod WellFormed
+pub mod Settled
+pub mod LiveList
+pub mod Reads
+pub mod Calls
+pub mod Step
+pub mod Next
+pub mod Cases
+pub mod ByCall
+pub mod Entries
+pub mod Kept
+pub mod Sessions
+pub mod Traps

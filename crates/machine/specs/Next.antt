@@ -1,0 +1,180 @@
+-- The state after each row of stores, as a record (Stores, Rows, Calls say which rows there are). Assumes nothing.
+use Prim.Native.Nat.{ℕ}
+use mathlib.Core.List.{List, [], _∷_, _++_}
+use mathlib.Core.Bool.{Bool, true, false}
+use mathlib.Core.Path.{_≡_, refl, ap, _∙_}
+use lib.Dec.{ltb}
+use lib.ListN.{getD, set}
+use Rattle.kinds.specs.declared.Transaction.{Transaction}
+use Rattle.kinds.specs.declared.Number.{Number}
+use Rattle.kinds.specs.declared.Configuration.{Configuration}
+use Rattle.kinds.specs.declared.Mastership.{Mastership}
+use Rattle.kinds.specs.declared.Connection.{Connection}
+use Rattle.kinds.specs.declared.Target.{Target}
+use Rattle.kinds.specs.Numbers.{num}
+use Rattle.rules.specs.declared.Plan.{Plan}
+use Rattle.rules.specs.declared.Lay.{Lay}
+use Rattle.rules.specs.declared.Lay.the-variants.{Nothing, Values, Kept}
+use Rattle.rules.specs.declared.Order.{Order}
+use Rattle.rules.specs.declared.Order.the-variants.{Neither, EntryOnly, HeadOnly, EntryThenHead, HeadThenEntry}
+use Rattle.machine.specs.State.{State, Net, putEntry}
+use Rattle.machine.specs.Stores.{Table, ofCommitted, ofApplied, ofTarget, Store, withLog, withCommitted, withApplied, withNet, withTargetValues, after, afters}
+use Rattle.machine.specs.Rows.{layOne, layAt, overlay, laid, changeRow, headRow, entryRow, rowsBy, rowsOf}
+
+-- ---- values with the first n pairs laid over them, place by place
+abbrev pub laying : Bool → List ℕ → ℕ → ℕ → List ℕ
+laying true l p v = set l p v
+laying false l p v = l
+
+abbrev pub layingAt : List ℕ → List ℕ → ℕ → List ℕ → ℕ → List ℕ
+layingAt ps vs n l k = laying (ltb k n) l (getD ps k 0) (getD vs k 0)
+
+unfoldable pub over : List ℕ → List ℕ → ℕ → List ℕ → List ℕ
+over ps vs n l = layingAt ps vs n (layingAt ps vs n (layingAt ps vs n (layingAt ps vs n l 0) 1) 2) 3
+
+abbrev pub laidOver : Lay → Transaction → List ℕ → List ℕ
+laidOver Nothing t l = l
+laidOver Values t l = over (t .paths) (t .values) (t .count) l
+laidOver Kept t l = over (t .paths) (t .kept) (t .count) l
+
+-- ---- a plan's stores
+abbrev pub putting : State → ℕ → Transaction → State
+putting s i t = withLog s (putEntry (s .log) i t)
+
+abbrev pub changeIf : Bool → ℕ → Number → Number
+changeIf true i n = num i
+changeIf false i n = n
+
+-- the head, with Committed's change and values, or with Applied's values and the target's
+abbrev pub heading : Bool → State → Plan → ℕ → State
+heading true s p i =
+    record {
+      log = s .log;
+      change = changeIf (p .change) i (s .change);
+      committed = record { head = p .head; values = laidOver (p .lay) (p .entry) (s .committed .values) };
+      applied = s .applied;
+      net = s .net;
+    }
+heading false s p i =
+    record {
+      log = s .log;
+      change = s .change;
+      committed = s .committed;
+      applied = record { head = p .head; values = laidOver (p .lay) (p .entry) (s .applied .values) };
+      net = withTargetValues (s .net) (laidOver (p .lay) (p .entry) (s .net .values));
+    }
+
+abbrev pub performedBy : Order → Bool → State → Plan → ℕ → Bool → State
+performedBy Neither commits s p i cut = s
+performedBy EntryOnly commits s p i cut = putting s i (p .entry)
+performedBy HeadOnly commits s p i cut = heading commits s p i
+performedBy EntryThenHead commits s p i true = putting s i (p .entry)
+performedBy EntryThenHead commits s p i false = heading commits (putting s i (p .entry)) p i
+performedBy HeadThenEntry commits s p i true = heading commits s p i
+performedBy HeadThenEntry commits s p i false = putting (heading commits s p i) i (p .entry)
+
+-- the state after job's plan p for number i, cut or not
+abbrev pub performed : Bool → State → Plan → ℕ → Bool → State
+performed commits s p i cut = performedBy (p .order) commits s p i cut
+
+-- ---- the nodes' side after its calls
+abbrev pub withConfiguration : Net → Configuration → Net
+withConfiguration w g = record { configuration = g; mastership = w .mastership; connections = w .connections; target = w .target; values = w .values }
+
+abbrev pub withMastership : Net → Mastership → Net
+withMastership w m = record { configuration = w .configuration; mastership = m; connections = w .connections; target = w .target; values = w .values }
+
+abbrev pub withConnections : Net → List Connection → Net
+withConnections w cs = record { configuration = w .configuration; mastership = w .mastership; connections = cs; target = w .target; values = w .values }
+
+abbrev pub withTarget : Net → Target → Net
+withTarget w t = record { configuration = w .configuration; mastership = w .mastership; connections = w .connections; target = t; values = w .values }
+
+-- ---- the laws
+pub afters-append : (s : State) (a b : List Store) → afters s (a ++ b) ≡ afters (afters s a) b
+unfolding afters
+afters-append s [] b = refl
+afters-append s (e ∷ a) b = afters-append (after s e) a b
+
+abbrev tableOf : State → Table → List ℕ
+tableOf s ofCommitted = s .committed .values
+tableOf s ofApplied = s .applied .values
+tableOf s ofTarget = s .net .values
+
+abbrev withTable : State → Table → List ℕ → State
+withTable s ofCommitted l = withCommitted s (record { head = s .committed .head; values = l })
+withTable s ofApplied l = withApplied s (record { head = s .applied .head; values = l })
+withTable s ofTarget l = withNet s (withTargetValues (s .net) l)
+
+module _ (s : State) where
+  lay : (t : Table) (b : Bool) (l : List ℕ) (p v : ℕ) → afters (withTable s t l) (layOne b t p v) ≡ withTable s t (laying b l p v)
+  unfolding afters after
+  lay ofCommitted true l p v = refl
+  lay ofCommitted false l p v = refl
+  lay ofApplied true l p v = refl
+  lay ofApplied false l p v = refl
+  lay ofTarget true l p v = refl
+  lay ofTarget false l p v = refl
+
+  same : (t : Table) → s ≡ withTable s t (tableOf s t)
+  same ofCommitted = refl
+  same ofApplied = refl
+  same ofTarget = refl
+
+  lays : (t : Table) (ps vs : List ℕ) (n k : ℕ) (l : List ℕ) (es : List Store)
+      → afters (withTable s t l) (layAt t ps vs n k ++ es) ≡ afters (withTable s t (layingAt ps vs n l k)) es
+  lays t ps vs n k l es =
+      afters-append (withTable s t l) (layAt t ps vs n k) es ∙ ap (λ x. afters x es) (lay t (ltb k n) l (getD ps k 0) (getD vs k 0))
+
+  overlay-over : (t : Table) (ps vs : List ℕ) (n : ℕ) → afters s (overlay t ps vs n) ≡ withTable s t (over ps vs n (tableOf s t))
+  unfolding overlay over
+  overlay-over t ps vs n =
+      ap (λ x. afters x (overlay t ps vs n)) (same t)
+      ∙ lays t ps vs n 0 _ _
+      ∙ lays t ps vs n 1 _ _
+      ∙ lays t ps vs n 2 _ _
+      ∙ lay t (ltb 3 n) _ (getD ps 3 0) (getD vs 3 0)
+
+  pub laid-over : (t : Table) (v : Lay) (u : Transaction) → afters s (laid t v u) ≡ withTable s t (laidOver v u (tableOf s t))
+  unfolding afters
+  laid-over t Nothing u = same t
+  laid-over t Values u = overlay-over t (u .paths) (u .values) (u .count)
+  laid-over t Kept u = overlay-over t (u .paths) (u .kept) (u .count)
+
+entry-putting : (s : State) (p : Plan) (i : ℕ) → afters s (entryRow p i) ≡ putting s i (p .entry)
+unfolding afters after
+entry-putting s p i = refl
+
+head-heading : (c : Bool) (s : State) (p : Plan) (i : ℕ) → afters s (headRow c p i) ≡ heading c s p i
+unfolding afters after
+head-heading true s p i = go (p .change)
+  where
+    go : (b : Bool)
+        → afters s (Rattle.machine.specs.Stores.committedHead (p .head) ∷ (changeRow b i ++ laid ofCommitted (p .lay) (p .entry)))
+        ≡ record { log = s .log; change = changeIf b i (s .change); committed = record { head = p .head; values = laidOver (p .lay) (p .entry) (s .committed .values) }; applied = s .applied; net = s .net }
+    go true =
+        laid-over
+        (record { log = s .log; change = num i; committed = record { head = p .head; values = s .committed .values }; applied = s .applied; net = s .net })
+        ofCommitted (p .lay) (p .entry)
+    go false = laid-over (withCommitted s (record { head = p .head; values = s .committed .values })) ofCommitted (p .lay) (p .entry)
+head-heading false s p i =
+    let w = withNet s (withTargetValues (s .net) (laidOver (p .lay) (p .entry) (s .net .values))) in
+    afters-append s (laid ofTarget (p .lay) (p .entry)) _
+    ∙ ap (λ x. afters x (Rattle.machine.specs.Stores.appliedHead (p .head) ∷ laid ofApplied (p .lay) (p .entry))) (laid-over s ofTarget (p .lay) (p .entry))
+    ∙ laid-over (withApplied w (record { head = p .head; values = s .applied .values })) ofApplied (p .lay) (p .entry)
+
+-- what a plan's rows do
+pub rows-performed : (c : Bool) (s : State) (p : Plan) (i : ℕ) (cut : Bool) → afters s (rowsOf c p i cut) ≡ performed c s p i cut
+unfolding rowsOf afters
+rows-performed c s p i cut = go (p .order) cut
+  where
+    go : (o : Order) (cut : Bool) → afters s (rowsBy o c p i cut) ≡ performedBy o c s p i cut
+    go Neither cut = refl
+    go EntryOnly cut = entry-putting s p i
+    go HeadOnly cut = head-heading c s p i
+    go EntryThenHead true = entry-putting s p i
+    go EntryThenHead false =
+        afters-append s (entryRow p i) (headRow c p i) ∙ ap (λ x. afters x (headRow c p i)) (entry-putting s p i) ∙ head-heading c (putting s i (p .entry)) p i
+    go HeadThenEntry true = head-heading c s p i
+    go HeadThenEntry false =
+        afters-append s (headRow c p i) (entryRow p i) ∙ ap (λ x. afters x (entryRow p i)) (head-heading c s p i) ∙ entry-putting (heading c s p i) p i

@@ -1,0 +1,102 @@
+-- The state of a controller, and a fresh one (paper: The state). Assumes nothing.
+use Prim.Native.Nat.{ℕ, zero, suc}
+use mathlib.Core.List.{List, []}
+use mathlib.Core.Bool.{Bool, true, false, _&&_}
+use lib.Dec.{eqb, leb}
+use lib.ListN.{length, getD, set, replicate}
+use Rattle.kinds.specs.declared.Transaction.{Transaction}
+use Rattle.kinds.specs.declared.Head.{Head}
+use Rattle.kinds.specs.declared.Number.{Number}
+use Rattle.kinds.specs.declared.Configuration.{Configuration}
+use Rattle.kinds.specs.declared.Progress.the-variants.{Pending}
+use Rattle.kinds.specs.declared.Mastership.{Mastership}
+use Rattle.kinds.specs.declared.Connection.{Connection}
+use Rattle.kinds.specs.declared.Target.{Target}
+use Rattle.kinds.specs.Numbers.{num, ord, trm}
+use Rattle.rules.specs.Sides.{untouched}
+use Rattle.rules.specs.Outside.{reaches, lineOpen}
+
+-- Committed, but for its change, and Applied: a head and 32 values
+pub record Part : Type 0 where
+  pub head : Head
+  pub values : List ℕ
+
+-- the nodes' side: the configuration with its term, the mastership, eight connections, the target and its 32 values
+pub record Net : Type 0 where
+  pub configuration : Configuration
+  pub mastership : Mastership
+  pub connections : List Connection
+  pub target : Target
+  pub values : List ℕ
+
+-- `change` is Committed's
+pub record State : Type 0 where
+  pub log : List Transaction
+  pub change : Number
+  pub committed : Part
+  pub applied : Part
+  pub net : Net
+
+-- ---- fresh
+abbrev pub absent : List ℕ
+absent = replicate 32 0
+
+abbrev pub freshPart : Part
+freshPart = record { head = record { index = num 0; target = num 0; revision = num 0; ordinal = ord 0 }; values = absent }
+
+abbrev pub never : Connection
+never = record { id = 0; connected = false }
+
+abbrev pub freshNet : Net
+freshNet =
+    record {
+      configuration = record { state = Pending; term = trm 0 };
+      mastership = record { master = 0; term = trm 0; conn = 0 };
+      connections = replicate 8 never;
+      target = record { id = 0; running = false };
+      values = absent;
+    }
+
+abbrev pub fresh : State
+fresh = record { log = []; change = num 0; committed = freshPart; applied = freshPart; net = freshNet }
+
+-- ---- entries of the log and nodes, both counted from 1
+abbrev pub four : List ℕ
+four = replicate 4 0
+
+-- what stands outside the log
+abbrev pub blank : Transaction
+blank = record { phase = 0; count = 0; paths = four; values = four; change = untouched; rollback = untouched; index = num 0; kept = four }
+
+abbrev pub entryOf : List Transaction → ℕ → Transaction
+entryOf l zero = blank
+entryOf l (suc k) = getD l k blank
+
+abbrev pub putEntry : List Transaction → ℕ → Transaction → List Transaction
+putEntry l zero t = l
+putEntry l (suc k) t = set l k t
+
+abbrev pub inLog : State → ℕ → Bool
+inLog s i = leb 1 i && leb i (length (s .log))
+
+abbrev pub isNode : ℕ → Bool
+isNode n = leb 1 n && leb n 8
+
+abbrev pub nodeOf : List Connection → ℕ → Connection
+nodeOf l zero = never
+nodeOf l (suc k) = getD l k never
+
+abbrev pub putNode : List Connection → ℕ → Connection → List Connection
+putNode l zero x = l
+putNode l (suc k) x = set l k x
+
+-- ---- what is asked of the nodes' side
+abbrev pub isMaster : Net → ℕ → Bool
+isMaster w n = eqb (w .mastership .master) n
+
+abbrev pub reachesTarget : Net → ℕ → Bool
+reachesTarget w n = reaches (nodeOf (w .connections) n) (w .mastership) (w .target)
+
+-- the line is open for n (paper: Calls from outside)
+abbrev pub lineOpenFor : Net → ℕ → Bool
+lineOpenFor w n = lineOpen n (nodeOf (w .connections) n) (w .mastership) (w .target) (w .configuration)

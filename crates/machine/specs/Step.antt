@@ -1,0 +1,28 @@
+-- One call: refusal 1 first, then what is decided, and its stores made. And any calls from fresh. Assumes nothing.
+use mathlib.Core.List.{List, [], _∷_}
+use mathlib.Core.Bool.{Bool, true, false}
+use Rattle.kinds.specs.declared.Reply.{Reply}
+use Rattle.kinds.specs.declared.Event.{Event}
+use Rattle.machine.specs.State.{State, fresh}
+use Rattle.machine.specs.Stores.{Store, afters}
+use Rattle.machine.specs.WellFormed.{wellFormed}
+use Rattle.machine.specs.Calls.{Call, Outcome, unless, decide}
+
+unfoldable pub outcome : State → Call → Outcome
+outcome s c = unless 1 (wellFormed s) (decide s c)
+
+pub record Stepped : Type 0 where
+  pub reply : Reply
+  pub next : State
+
+unfoldable pub step : State → Call → Stepped
+step s c = let o = outcome s c in record { reply = o .reply; next = afters s (o .stores) }
+
+-- the state after calls made from fresh, and the events given, the newest call first
+pub record Past : Type 0 where
+  pub state : State
+  pub events : List Event
+
+unfoldable pub run : List Call → Past
+run [] = record { state = fresh; events = [] }
+run (c ∷ cs) = let o = step (run cs .state) c in record { state = o .next; events = o .reply .event ∷ run cs .events }

@@ -1,0 +1,84 @@
+-- The primitive stores, and the state after a row of them. Every change of a state is such a row. Each store is total: an
+-- entry outside the log and a path past the values store nothing. Assumes nothing.
+use Prim.Native.Nat.{ℕ}
+use mathlib.Core.List.{List, [], _∷_, _++_}
+use lib.ListN.{set}
+use Rattle.kinds.specs.declared.Transaction.{Transaction}
+use Rattle.kinds.specs.declared.Head.{Head}
+use Rattle.kinds.specs.declared.Number.{Number}
+use Rattle.kinds.specs.declared.Configuration.{Configuration}
+use Rattle.kinds.specs.declared.Mastership.{Mastership}
+use Rattle.kinds.specs.declared.Connection.{Connection}
+use Rattle.kinds.specs.declared.Target.{Target}
+use Rattle.machine.specs.State.{Part, Net, State, putEntry}
+
+-- the three tables of 32 values; the first two have heads
+pub data Table : Type 0 where
+  ofCommitted ofApplied ofTarget : Table
+
+pub data Store : Type 0 where
+  grow : Transaction → Store  -- one entry more, at the log's end
+  entry : ℕ → Transaction → Store  -- the entry of a number
+  change : Number → Store  -- Committed's change
+  committedHead : Head → Store
+  appliedHead : Head → Store
+  value : Table → ℕ → ℕ → Store  -- one path's value
+  targetValues : List ℕ → Store  -- all of the target's values
+  configuration : Configuration → Store
+  mastership : Mastership → Store
+  connections : List Connection → Store  -- all eight
+  target : Target → Store
+
+-- ---- a state with one part anew
+abbrev pub withLog : State → List Transaction → State
+withLog s l = record { log = l; change = s .change; committed = s .committed; applied = s .applied; net = s .net }
+
+abbrev pub withCommitted : State → Part → State
+withCommitted s p = record { log = s .log; change = s .change; committed = p; applied = s .applied; net = s .net }
+
+abbrev pub withApplied : State → Part → State
+withApplied s p = record { log = s .log; change = s .change; committed = s .committed; applied = p; net = s .net }
+
+abbrev pub withNet : State → Net → State
+withNet s w = record { log = s .log; change = s .change; committed = s .committed; applied = s .applied; net = w }
+
+abbrev pub withHead : Part → Head → Part
+withHead p h = record { head = h; values = p .values }
+
+abbrev pub withValue : Part → ℕ → ℕ → Part
+withValue p k v = record { head = p .head; values = set (p .values) k v }
+
+abbrev pub withTargetValues : Net → List ℕ → Net
+withTargetValues w vs =
+    record { configuration = w .configuration; mastership = w .mastership; connections = w .connections; target = w .target; values = vs }
+
+-- ---- the state after a store, and after a row of them
+abbrev pub afterValue : State → Table → ℕ → ℕ → State
+afterValue s ofCommitted p v = withCommitted s (withValue (s .committed) p v)
+afterValue s ofApplied p v = withApplied s (withValue (s .applied) p v)
+afterValue s ofTarget p v = withNet s (withTargetValues (s .net) (set (s .net .values) p v))
+
+unfoldable pub after : State → Store → State
+after s (grow t) = withLog s (s .log ++ (t ∷ []))
+after s (entry i t) = withLog s (putEntry (s .log) i t)
+after s (change n) = record { log = s .log; change = n; committed = s .committed; applied = s .applied; net = s .net }
+after s (committedHead h) = withCommitted s (withHead (s .committed) h)
+after s (appliedHead h) = withApplied s (withHead (s .applied) h)
+after s (value b p v) = afterValue s b p v
+after s (targetValues vs) = withNet s (withTargetValues (s .net) vs)
+after s (configuration g) =
+    withNet s
+    (record { configuration = g; mastership = s .net .mastership; connections = s .net .connections; target = s .net .target; values = s .net .values })
+after s (mastership m) =
+    withNet s
+    (record { configuration = s .net .configuration; mastership = m; connections = s .net .connections; target = s .net .target; values = s .net .values })
+after s (connections cs) =
+    withNet s
+    (record { configuration = s .net .configuration; mastership = s .net .mastership; connections = cs; target = s .net .target; values = s .net .values })
+after s (target t) =
+    withNet s
+    (record { configuration = s .net .configuration; mastership = s .net .mastership; connections = s .net .connections; target = t; values = s .net .values })
+
+unfoldable pub afters : State → List Store → State
+afters s [] = s
+afters s (e ∷ es) = afters (after s e) es

@@ -1,0 +1,52 @@
+-- Well-formed states (paper: The state). What the image adds, its length and its codes, is in the crate image.
+-- Assumes nothing.
+use Prim.Native.Nat.{ℕ, _+_}
+use mathlib.Core.List.{List, [], _∷_}
+use mathlib.Core.Bool.{Bool, true, false, _&&_, _||_}
+use lib.Dec.{eqb, ltb, leb}
+use lib.ListN.{length, getD}
+use Rattle.kinds.specs.declared.Transaction.{Transaction}
+use Rattle.kinds.specs.declared.Head.{Head}
+use Rattle.machine.specs.State.{State}
+
+-- ---- a test of every entry with its number
+unfoldable pub allFrom : (ℕ → Transaction → Bool) → ℕ → List Transaction → Bool
+allFrom p k [] = true
+allFrom p k (t ∷ ts) = p k t && allFrom p (k + 1) ts
+
+abbrev pub allEntries : (ℕ → Transaction → Bool) → List Transaction → Bool
+allEntries p l = allFrom p 1 l
+
+-- ---- 1 to 4 pairs, paths strictly rising and below 32; what stands in unused places is not looked at
+unfoldable pub pairsOk : ℕ → List ℕ → Bool
+pairsOk n ps =
+    (leb 1 n && leb n 4)
+    && (ltb (getD ps 0 0) 32
+    && ((ltb n 2 || (ltb (getD ps 0 0) (getD ps 1 0) && ltb (getD ps 1 0) 32))
+    && ((ltb n 3 || (ltb (getD ps 1 0) (getD ps 2 0) && ltb (getD ps 2 0) 32))
+    && (ltb n 4 || (ltb (getD ps 2 0) (getD ps 3 0) && ltb (getD ps 3 0) 32)))))
+
+-- phase 1 or 2, valid pairs, r.index below its own number, ordinals at most 256
+unfoldable pub entryOk : ℕ → Transaction → Bool
+entryOk i t =
+    (leb 1 (t .phase) && leb (t .phase) 2)
+    && (ltb (t .index .0) i && ((leb (t .change .ordinal .0) 256 && leb (t .rollback .ordinal .0) 256) && pairsOk (t .count) (t .paths)))
+
+-- index, target and revision at most the log's length, ordinal at most 256
+unfoldable pub headOk : ℕ → Head → Bool
+headOk n h = (leb (h .index .0) n && (leb (h .target .0) n && leb (h .revision .0) n)) && leb (h .ordinal .0) 256
+
+-- the tables' sizes
+abbrev pub sizesOk : State → Bool
+sizesOk s =
+    (eqb (length (s .committed .values)) 32 && eqb (length (s .applied .values)) 32)
+    && (eqb (length (s .net .values)) 32 && eqb (length (s .net .connections)) 8)
+
+-- the heads over a log of n, Committed's change, and the master
+abbrev pub headsOk : State → ℕ → Bool
+headsOk s n =
+    (headOk n (s .committed .head) && headOk n (s .applied .head))
+    && ((leb (s .change .0) n && leb (s .committed .head .revision .0) (s .change .0)) && leb (s .net .mastership .master) 8)
+
+unfoldable pub wellFormed : State → Bool
+wellFormed s = leb (length (s .log)) 128 && (headsOk s (length (s .log)) && (allEntries entryOk (s .log) && sizesOk s))
