@@ -1,0 +1,126 @@
+// Numbers of one, two and four bytes, little-endian, in a lent slice of bytes.
+ghost use mathlib.Core.Path.{_≡_};
+ghost use Prim.Native.Nat.{_+_, _≤_, _<_};
+ghost use lib.ListN.{length};
+ghost use Rattle.fields.specs.Field.{field, putField, fieldsAt, putFields, ones, twos, quad};
+
+fn wide16(x: u8) -> u16
+    ensures { λ r. ⌜ (r ≡ x) × (r < 256) ⌝ }
+{
+    x as u16
+}
+
+fn wide32(x: u8) -> u32
+    ensures { λ r. ⌜ (r ≡ x) × (r < 256) ⌝ }
+{
+    x as u32
+}
+
+pub fn get1(s: &[u8], at: usize) -> u8
+    requires { ⌜ at + 1 ≤ length (now s) ⌝ }
+    ensures { λ r. ⌜ r ≡ field (now (s .entry)) at 1 ⌝ }
+{
+    s[at]
+}
+
+pub fn get2(s: &[u8], at: usize) -> u16
+    requires { ⌜ at + 2 ≤ length (now s) ⌝ }
+    ensures { λ r. ⌜ r ≡ field (now (s .entry)) at 2 ⌝ }
+{
+    let b = at + 1;
+    let x = wide16(s[at]);
+    let y = wide16(s[b]);
+    x + 256 * y
+}
+
+pub fn get4(s: &[u8], at: usize) -> u32
+    requires { ⌜ at + 4 ≤ length (now s) ⌝ }
+    ensures { λ r. ⌜ r ≡ field (now (s .entry)) at 4 ⌝ }
+{
+    let b = at + 1;
+    let c = b + 1;
+    let d = c + 1;
+    let x = wide32(s[at]);
+    let y = wide32(s[b]);
+    let z = wide32(s[c]);
+    let w = wide32(s[d]);
+    x + 256 * (y + 256 * (z + 256 * w))
+}
+
+pub fn put1(s: &mut [u8], at: usize, x: u8)
+    requires { ⌜ at + 1 ≤ length (now s) ⌝ }
+    ensures { λ _. ⌜ now (s .exit) ≡ putField (now (s .entry)) at 1 x ⌝ }
+{
+    s[at] = x;
+}
+
+pub fn put2(s: &mut [u8], at: usize, x: u16)
+    requires { ⌜ at + 2 ≤ length (now s) ⌝ }
+    ensures { λ _. ⌜ now (s .exit) ≡ putField (now (s .entry)) at 2 x ⌝ }
+{
+    let b = at + 1;
+    s[at] = (x % 256) as u8;
+    s[b] = (x / 256 % 256) as u8;
+}
+
+pub fn put4(s: &mut [u8], at: usize, x: u32)
+    requires { ⌜ at + 4 ≤ length (now s) ⌝ }
+    ensures { λ _. ⌜ now (s .exit) ≡ putField (now (s .entry)) at 4 x ⌝ }
+{
+    let b = at + 1;
+    let c = b + 1;
+    let d = c + 1;
+    let y = x / 256;
+    let z = y / 256;
+    let w = z / 256;
+    s[at] = (x % 256) as u8;
+    s[b] = (y % 256) as u8;
+    s[c] = (z % 256) as u8;
+    s[d] = (w % 256) as u8;
+}
+
+// Four numbers of one byte, one after another.
+pub fn get_ones(s: &[u8], at: usize) -> [u8; 4]
+    requires { ⌜ at + 4 ≤ length (now s) ⌝ }
+    ensures { λ r. ⌜ r ≡ fieldsAt (now (s .entry)) at ones ⌝ }
+{
+    [
+        get1(s, at),
+        get1(s, at + 1),
+        get1(s, at + 2),
+        get1(s, at + 3),
+    ]
+}
+
+// Four numbers of two bytes, one after another.
+pub fn get_twos(s: &[u8], at: usize) -> [u16; 4]
+    requires { ⌜ at + 8 ≤ length (now s) ⌝ }
+    ensures { λ r. ⌜ r ≡ fieldsAt (now (s .entry)) at twos ⌝ }
+{
+    [
+        get2(s, at),
+        get2(s, at + 2),
+        get2(s, at + 4),
+        get2(s, at + 6),
+    ]
+}
+
+pub fn put_ones(s: &mut [u8], at: usize, x: [u8; 4])
+    requires { ⌜ at + 4 ≤ length (now s) ⌝ }
+    ensures { λ _. ⌜ now (s .exit) ≡ putFields (now (s .entry)) at ones (quad x) ⌝ }
+{
+    put1(s, at, x[0]);
+    put1(s, at + 1, x[1]);
+    put1(s, at + 2, x[2]);
+    put1(s, at + 3, x[3]);
+}
+
+pub fn put_twos(s: &mut [u8], at: usize, x: [u16; 4])
+    requires { ⌜ at + 8 ≤ length (now s) ⌝ }
+    ensures { λ _. ⌜ now (s .exit) ≡ putFields (now (s .entry)) at twos (quad x) ⌝ }
+{
+    put2(s, at, x[0]);
+    put2(s, at + 2, x[1]);
+    put2(s, at + 4, x[2]);
+    put2(s, at + 6, x[3]);
+}

@@ -1,0 +1,137 @@
+-- Storing what was loaded changes nothing: each record of an image whose codes are codes, written back as it was read,
+-- leaves every byte. Assumes nothing.
+use Prim.Native.Nat.{ℕ, zero, suc, _+_, _*_, _≤_, _<_}
+use mathlib.Core.Path.{_≡_, refl, ap, ap₂, sym, _∙_}
+use mathlib.Core.Bool.{Bool, true, false, _&&_}
+use mathlib.Core.List.{List, [], _∷_}
+use native.Mathlib.Nat.{add-assoc}
+use native.Mathlib.Omega.{arith}
+use borrow.Author.Tests.{leb-true, eqb-true, eqb-false}
+use lib.Dec.{eqb, leb}
+use lib.ListN.{getD}
+use Rattle.kinds.specs.Statuses.{codeOf, statusIf, statusOf, progressCode, progressIf, progressOf}
+use Rattle.kinds.specs.declared.Status.the-variants.{None, Pending, InProgress, Complete, Aborted, Canceled, Failed}
+use Rattle.kinds.specs.declared.Progress.the-variants as progress
+use Rattle.fields.specs.Field.{field, putField, fieldsAt, putFields}
+use Rattle.fields.proofs.Laws.{Bytes, put-back}
+use Rattle.fields.proofs.Runs.{puts-back}
+use Rattle.machine.specs.Stores.{Table}
+use Rattle.image.specs.Layout.{entryWidths, headWidths, tableWidths, configurationWidths, mastershipWidths, targetWidths, connectionsWidths, placeOf, changeAt, valuesAt, configurationAt, mastershipAt, targetAt, connectionsAt}
+use Rattle.image.specs.Records.{flagCode, flagOf, entryNumbers, entryAt, putEntryAt, changeOf, headNumbers, headAt, putHeadAt, configurationNumbers, configurationOf, putConfiguration, mastershipNumbers, mastershipOf, putMastership, targetNumbers, targetOf, putTarget, connectionsNumbers, connectionsOf, eight, putConnections}
+use Rattle.image.specs.View.{tableOf}
+use Rattle.image.specs.Formed.{flagOk, statusesOk, flagsOk}
+use Rattle.image.proofs.UpTo.{and-left, and-right}
+
+-- ---- a code that is one is read and written back as it was
+code-back : (n : ℕ) → n ≤ 6 → codeOf (statusOf n) ≡ n
+unfolding statusOf
+code-back zero h = refl
+code-back (suc zero) h = refl
+code-back (suc (suc zero)) h = refl
+code-back (suc (suc (suc zero))) h = refl
+code-back (suc (suc (suc (suc zero)))) h = refl
+code-back (suc (suc (suc (suc (suc zero))))) h = refl
+code-back (suc (suc (suc (suc (suc (suc zero)))))) h = refl
+code-back (suc (suc (suc (suc (suc (suc (suc n))))))) h = absurd (omega arith)
+
+state-back : (n : ℕ) → 1 ≤ n → n ≤ 3 → progressCode (progressOf n) ≡ n
+unfolding progressOf
+state-back zero a b = absurd (omega arith)
+state-back (suc zero) a b = refl
+state-back (suc (suc zero)) a b = refl
+state-back (suc (suc (suc zero))) a b = refl
+state-back (suc (suc (suc (suc n)))) a b = absurd (omega arith)
+
+flag-back : (n : ℕ) → n ≤ 1 → flagCode (flagOf n) ≡ n
+flag-back zero h = refl
+flag-back (suc zero) h = refl
+flag-back (suc (suc n)) h = absurd (omega arith)
+
+module _ (l : List ℕ) (y : Bytes l) where
+  -- ---- records with no codes
+  pub head-back : (at : ℕ) → putHeadAt l at (headAt l at) ≡ l
+  unfolding putHeadAt headAt fieldsAt
+  head-back at = puts-back headWidths l at y
+
+  pub change-back : putField l changeAt 2 (changeOf l) ≡ l
+  unfolding changeOf
+  change-back = put-back 2 l changeAt y
+
+  pub table-back : (b : Table) → putFields l (valuesAt b) tableWidths (tableOf l b) ≡ l
+  unfolding tableOf
+  table-back b = puts-back tableWidths l (valuesAt b) y
+
+  pub mastership-back : putMastership l (mastershipOf l) ≡ l
+  unfolding putMastership mastershipOf fieldsAt
+  mastership-back = puts-back mastershipWidths l mastershipAt y
+
+  -- ---- an entry whose statuses are codes
+  pub entry-stored-back : (n : ℕ) → statusesOk l (placeOf n) ≡ true → putEntryAt l n (entryAt l n) ≡ l
+  unfolding statusesOk putEntryAt entryAt fieldsAt
+  entry-stored-back n s =
+      let a : field l (placeOf n) 1 ≤ 6 = leb-true _ _ (and-left _ _ s) in
+      let s2 = and-right (leb (field l (placeOf n) 1) 6) _ s in
+      let b : field l (placeOf n + 1) 1 ≤ 6 = leb-true _ _ (and-left _ _ s2) in
+      let s3 = and-right (leb (field l (placeOf n + 1) 1) 6) _ s2 in
+      let c : field l (placeOf n + 2) 1 ≤ 6 = leb-true _ _ (and-left _ _ s3) in
+      let d : field l (placeOf n + 3) 1 ≤ 6 = leb-true _ _ (and-right (leb (field l (placeOf n + 2) 1) 6) _ s3) in
+      let x : placeOf n + 1 + 1 ≡ placeOf n + 2 = omega arith in
+      let z : placeOf n + 1 + 1 + 1 ≡ placeOf n + 3 = omega arith in
+      let c' : field l (placeOf n + 1 + 1) 1 ≤ 6 = rw x c in
+      let d' : field l (placeOf n + 1 + 1 + 1) 1 ≤ 6 = rw z d in
+      rw (
+        code-back (field l (placeOf n) 1) a,
+        code-back (field l (placeOf n + 1) 1) b,
+        code-back (field l (placeOf n + 1 + 1) 1) c',
+        code-back (field l (placeOf n + 1 + 1 + 1) 1) d',
+      )
+      (puts-back entryWidths l (placeOf n) y)
+
+  -- ---- configuration, target and connections, where the flags are flags
+  module _ (f : flagsOk l ≡ true) where
+    pub configuration-stored-back : putConfiguration l (configurationOf l) ≡ l
+    unfolding flagsOk putConfiguration configurationOf fieldsAt
+    configuration-stored-back =
+        let s = and-left (leb 1 (field l configurationAt 1) && leb (field l configurationAt 1) 3) _ f in
+        let a : 1 ≤ field l configurationAt 1 = leb-true _ _ (and-left _ _ s) in
+        let b : field l configurationAt 1 ≤ 3 = leb-true _ _ (and-right (leb 1 (field l configurationAt 1)) _ s) in
+        rw (state-back (field l configurationAt 1) a b) (puts-back configurationWidths l configurationAt y)
+
+    rest : (flagOk l (targetAt + 4)
+        && ((flagOk l (connectionsAt + 4) && (flagOk l (connectionsAt + 9) && (flagOk l (connectionsAt + 14) && flagOk l (connectionsAt + 19))))
+        && (flagOk l (connectionsAt + 24) && (flagOk l (connectionsAt + 29) && (flagOk l (connectionsAt + 34) && flagOk l (connectionsAt + 39)))))) ≡ true
+    unfolding flagsOk
+    rest = and-right (leb 1 (field l configurationAt 1) && leb (field l configurationAt 1) 3) _ f
+
+    pub target-stored-back : putTarget l (targetOf l) ≡ l
+    unfolding putTarget targetOf fieldsAt
+    target-stored-back = rw (flag-back (field l (targetAt + 4) 1) (leb-true _ _ (and-left _ _ rest))) (puts-back targetWidths l targetAt y)
+
+    nodes : ((flagOk l (connectionsAt + 4) && (flagOk l (connectionsAt + 9) && (flagOk l (connectionsAt + 14) && flagOk l (connectionsAt + 19))))
+        && (flagOk l (connectionsAt + 24) && (flagOk l (connectionsAt + 29) && (flagOk l (connectionsAt + 34) && flagOk l (connectionsAt + 39))))) ≡ true
+    nodes = and-right (flagOk l (targetAt + 4)) _ rest
+
+    four-flags : (a b d e : ℕ) → (flagOk l a && (flagOk l b && (flagOk l d && flagOk l e))) ≡ true
+        → (field l a 1 ≤ 1) × ((field l b 1 ≤ 1) × ((field l d 1 ≤ 1) × (field l e 1 ≤ 1)))
+    four-flags a b d e h =
+        let h2 = and-right (flagOk l a) _ h in
+        let h3 = and-right (flagOk l b) _ h2 in
+        (leb-true _ _ (and-left _ _ h), (leb-true _ _ (and-left _ _ h2), (leb-true _ _ (and-left _ _ h3), leb-true _ _ (and-right (flagOk l d) _ h3))))
+
+    pub connections-stored-back : putConnections l (connectionsOf l) ≡ l
+    unfolding putConnections connectionsOf fieldsAt
+    connections-stored-back =
+        let p = four-flags (connectionsAt + 4) (connectionsAt + 9) (connectionsAt + 14) (connectionsAt + 19) (and-left _ _ nodes) in
+        let q = four-flags (connectionsAt + 24) (connectionsAt + 29) (connectionsAt + 34) (connectionsAt + 39)
+        (and-right (flagOk l (connectionsAt + 4) && (flagOk l (connectionsAt + 9) && (flagOk l (connectionsAt + 14) && flagOk l (connectionsAt + 19)))) _ nodes) in
+        rw (
+          flag-back (field l (connectionsAt + 4) 1) (p .0),
+          flag-back (field l (connectionsAt + 9) 1) (p .1 .0),
+          flag-back (field l (connectionsAt + 14) 1) (p .1 .1 .0),
+          flag-back (field l (connectionsAt + 19) 1) (p .1 .1 .1),
+          flag-back (field l (connectionsAt + 24) 1) (q .0),
+          flag-back (field l (connectionsAt + 29) 1) (q .1 .0),
+          flag-back (field l (connectionsAt + 34) 1) (q .1 .1 .0),
+          flag-back (field l (connectionsAt + 39) 1) (q .1 .1 .1),
+        )
+        (puts-back connectionsWidths l connectionsAt y)

@@ -1,0 +1,157 @@
+-- What a row of reads gives, and what a row of writes leaves, over variables. Assumes nothing.
+use Prim.Native.Nat.{ℕ, zero, suc, _+_, _-_, _*_, _<_, _≤_}
+use mathlib.Core.Path.{_≡_, refl, ap, ap₂, sym, _∙_}
+use mathlib.Core.Logic.{inl, inr}
+use mathlib.Core.Bool.{Bool, true, false}
+use mathlib.Core.List.{List, [], _∷_, _++_}
+use native.Mathlib.Nat.{add-assoc, min-eq-left}
+use native.Mathlib.Numerals.{add-one}
+use native.Mathlib.Omega.{arith}
+use borrow.Author.Tests.{lt-ltb, le-ltb}
+use lib.Dec.{ltb}
+use lib.ListN.{length, getD, take, replicate, length-take, length-replicate, getD-replicate, replicate-append-replicate, List·getD-eq-default}
+use lib.Seq.{take-suc, take-all}
+use Rattle.kinds.specs.declared.Transaction.{Transaction}
+use Rattle.kinds.specs.declared.Side.{Side}
+use Rattle.kinds.specs.declared.Number.{Number}
+use Rattle.kinds.specs.declared.Status.{Status}
+use Rattle.kinds.specs.declared.Connection.{Connection}
+use Rattle.kinds.specs.Numbers.{num}
+use Rattle.kinds.specs.Statuses.{codeOf}
+use Rattle.fields.specs.Field.{field, putField, fieldsAt, putFields, ones, twos, quad, total}
+use Rattle.fields.proofs.Runs.{table-at, length-fields, length-puts, puts-append, puts-outside, total-twos}
+use Rattle.fields.proofs.Laws.{field-kept}
+use Rattle.machine.specs.State.{absent, never, nodeOf}
+use Rattle.machine.specs.Stores.{ofApplied, targetValues}
+use Rattle.image.specs.Layout.{codeWidths, markWidths, tableWidths, nodeWidths}
+use Rattle.image.specs.Records.{toSide, toConnections, codes, marks, entryAt, putEntryAt, toNode, putNodeAt, connectionsOf, putConnections}
+use Rattle.image.specs.View.{tableOf, writeIf, write}
+
+-- ---- an entry
+pub loaded : (l : List ℕ) (n : ℕ) (x y : Side) (f g h : ℕ) (i : Number) (p v r : List ℕ)
+    → x ≡ toSide l (36 * (n - 1)) (36 * (n - 1) + 8) → y ≡ toSide l (36 * (n - 1) + 2) (36 * (n - 1) + 12)
+    → f ≡ field l (36 * (n - 1) + 4) 1 → g ≡ field l (36 * (n - 1) + 5) 1 → h ≡ field l (36 * (n - 1) + 6) 2 → i ≡ num h
+    → p ≡ fieldsAt l (36 * (n - 1) + 16) ones → v ≡ fieldsAt l (36 * (n - 1) + 20) twos → r ≡ fieldsAt l (36 * (n - 1) + 28) twos
+    → _≡_ {A = Transaction} (record { phase = f; count = g; paths = p; values = v; change = x; rollback = y; index = i; kept = r }) (entryAt l n)
+unfolding entryAt fieldsAt
+loaded l n x y f g h i p v r q0 q1 q2 q3 q4 q5 q6 q7 q8 = simp (q0, q1, q2, q3, q5, q4, q6, q7, q8, add-assoc)
+
+pub coded : (l l1 l2 l3 l4 l5 l6 : List ℕ) (at a b d e : ℕ) (t : Transaction)
+    → a ≡ codeOf (t .change .commit) → b ≡ codeOf (t .change .apply) → d ≡ codeOf (t .rollback .commit) → e ≡ codeOf (t .rollback .apply)
+    → l1 ≡ putField l at 1 a → l2 ≡ putField l1 (at + 1) 1 b → l3 ≡ putField l2 (at + 2) 1 d → l4 ≡ putField l3 (at + 3) 1 e
+    → l5 ≡ putField l4 (at + 4) 1 (t .phase) → l6 ≡ putField l5 (at + 5) 1 (t .count) → l6 ≡ putFields l at codeWidths (codes t)
+unfolding putFields
+coded l l1 l2 l3 l4 l5 l6 at a b d e t p1 p2 p3 p4 q1 q2 q3 q4 q5 q6 = simp (q6, q5, q4, q3, q2, q1, p1, p2, p3, p4, add-assoc)
+
+pub stored : (l l1 l2 l3 l4 l5 : List ℕ) (n : ℕ) (t : Transaction)
+    → l1 ≡ putFields l (36 * (n - 1)) codeWidths (codes t) → l2 ≡ putFields l1 (36 * (n - 1) + 6) markWidths (marks t)
+    → l3 ≡ putFields l2 (36 * (n - 1) + 16) ones (quad (t .paths)) → l4 ≡ putFields l3 (36 * (n - 1) + 20) twos (quad (t .values))
+    → l5 ≡ putFields l4 (36 * (n - 1) + 28) twos (quad (t .kept)) → l5 ≡ putEntryAt l n t
+unfolding putEntryAt putFields
+stored l l1 l2 l3 l4 l5 n t q1 q2 q3 q4 q5 = simp (q5, q4, q3, q2, q1, add-assoc)
+
+-- ---- the eight connections
+pub nodes-loaded : (l : List ℕ) (a b d e f g h i : Connection)
+    → a ≡ toNode l 4843 → b ≡ toNode l 4848 → d ≡ toNode l 4853 → e ≡ toNode l 4858 → f ≡ toNode l 4863 → g ≡ toNode l 4868 → h ≡ toNode l 4873 → i ≡ toNode l 4878
+    → (a ∷ b ∷ d ∷ e ∷ f ∷ g ∷ h ∷ i ∷ []) ≡ connectionsOf l
+unfolding connectionsOf fieldsAt
+nodes-loaded l a b d e f g h i q0 q1 q2 q3 q4 q5 q6 q7 = rw (q0, q1, q2, q3, q4, q5, q6, q7)
+
+nodes-at : (m : ℕ) (l : List ℕ) (at k : ℕ) → k < m → getD (toConnections (fieldsAt l at (nodeWidths m))) k never ≡ toNode l (at + 5 * k)
+unfolding fieldsAt
+nodes-at zero l at k h = absurd (omega arith)
+nodes-at (suc m) l at zero h = let z : at + 5 * 0 ≡ at = omega arith in rw z
+nodes-at (suc m) l at (suc k) h =
+    let e : at + 4 + 1 + 5 * k ≡ at + 5 * suc k = omega arith in nodes-at m l (at + 4 + 1) k (omega arith) ∙ ap (toNode l) e
+
+pub node-loaded : (l : List ℕ) (n : ℕ) (x : Connection) → 1 ≤ n → n ≤ 8 → x ≡ toNode l (4843 + 5 * (n - 1)) → x ≡ nodeOf (connectionsOf l) n
+unfolding connectionsOf
+node-loaded l zero x a b q = absurd (omega arith)
+node-loaded l (suc k) x a b q =
+    let e : suc k - 1 ≡ k = omega arith in q ∙ ap (λ (j : ℕ). toNode l (4843 + 5 * j)) e ∙ sym (nodes-at 8 l 4843 k (omega arith))
+
+-- ---- one value of a table at a place
+pub value-loaded : (l : List ℕ) (at p k x : ℕ) → k ≡ p → k < 32 → x ≡ field l (at + 2 * k) 2 → x ≡ getD (fieldsAt l at tableWidths) p 0
+value-loaded l at p k x e h q = q ∙ ap (λ (j : ℕ). field l (at + 2 * j) 2) e ∙ sym (table-at 32 l at p (omega arith))
+
+pub value-none : (l : List ℕ) (at p k : ℕ) → k ≡ p → 32 ≤ k → 0 ≡ getD (fieldsAt l at tableWidths) p 0
+value-none l at p k e h = sym (List·getD-eq-default (fieldsAt l at tableWidths) 0 (omega (arith, length-fields tableWidths l at)))
+
+pub value-stored : (l m : List ℕ) (at p k v : ℕ) → k ≡ p → k < 32 → m ≡ putField l (at + 2 * k) 2 v → m ≡ writeIf (ltb p 32) (putField l (at + 2 * p) 2 v) l
+value-stored l m at p k v e h q = rw (lt-ltb p 32 (omega arith)) (q ∙ rw e)
+
+pub value-lost : (l : List ℕ) (at p k v : ℕ) → k ≡ p → 32 ≤ k → l ≡ writeIf (ltb p 32) (putField l (at + 2 * p) 2 v) l
+value-lost l at p k v e h = rw (le-ltb p 32 (omega arith))
+
+-- ---- connections stored
+pub nodes-stored : (l l1 l2 : List ℕ) (xs : List Connection)
+    → l1 ≡ putNodeAt (putNodeAt (putNodeAt (putNodeAt l 4843 (getD xs 0 never)) 4848 (getD xs 1 never)) 4853 (getD xs 2 never)) 4858 (getD xs 3 never)
+    → l2 ≡ putNodeAt (putNodeAt (putNodeAt (putNodeAt l1 4863 (getD xs 4 never)) 4868 (getD xs 5 never)) 4873 (getD xs 6 never)) 4878 (getD xs 7 never)
+    → l2 ≡ putConnections l xs
+unfolding putConnections putNodeAt putFields
+nodes-stored l l1 l2 xs p q = q ∙ rw p
+
+-- ---- a table of two-byte numbers, written one after another
+module _ (l vs : List ℕ) (at : ℕ) where
+  -- the first k of them
+  abbrev pub upToHere : ℕ → List ℕ
+  upToHere k = putFields l at (replicate k 2) (take k vs)
+
+  pub one-more : (m : List ℕ) (k v : ℕ) → k < length vs → m ≡ putField (upToHere k) (at + 2 * k) 2 v → v ≡ getD vs k 0 → m ≡ upToHere (k + 1)
+  unfolding putFields
+  one-more m k v h q e =
+      let t : take (k + 1) vs ≡ take k vs ++ (getD vs k 0 ∷ []) = ap (λ (j : ℕ). take j vs) (add-one k) ∙ take-suc vs k 0 h in
+      let w : replicate {A = ℕ} (k + 1) 2 ≡ replicate k 2 ++ (2 ∷ []) = sym (replicate-append-replicate {A = ℕ} k 1 2) in
+      let n : length (replicate {A = ℕ} k 2) ≡ length (take k vs) = length-replicate {A = ℕ} k 2 ∙ sym (length-take k vs ∙ min-eq-left (omega arith)) in
+      q
+      ∙ ap₂ (λ (x y : ℕ). putField (upToHere k) (at + x) 2 y) (sym (total-twos k)) e
+      ∙ sym (ap₂ (λ (x y : List ℕ). putFields l at x y) w t ∙ puts-append (replicate k 2) (take k vs) (2 ∷ []) (getD vs k 0 ∷ []) l at n)
+
+  pub length-here : (k : ℕ) → length (upToHere k) ≡ length l
+  length-here k = length-puts (replicate k 2) (take k vs) l at
+
+  -- what lies before the table is read as before
+  pub before-here : (k a : ℕ) → a + 2 ≤ at → field (upToHere k) a 2 ≡ field l a 2
+  before-here k a h = field-kept l (upToHere k) at (at + total (replicate k 2)) (puts-outside (replicate k 2) (take k vs) l at) 2 a (inl h)
+
+-- ---- the target's values, all at once: what stands in the slice after k of them, none at first, one more, all 32
+abbrev pub Here : List ℕ → List ℕ → List ℕ → ℕ → Type 0
+Here l vs s k = (s ≡ upToHere l vs 4760 k) × (length s ≡ length l)
+
+here : (l vs s : List ℕ) (k : ℕ) → s ≡ upToHere l vs 4760 k → Here l vs s k
+here l vs s k e = (e, ap length e ∙ length-here l vs 4760 k)
+
+pub clear-none : (l : List ℕ) → Here l absent l 0
+unfolding putFields
+clear-none l = (refl, refl)
+
+pub copy-none : (l : List ℕ) → Here l (tableOf l ofApplied) l 0
+unfolding putFields
+copy-none l = (refl, refl)
+
+pub clear-more : (l s m : List ℕ) (k : ℕ) → k < 32 → Here l absent s k → m ≡ putField s (4760 + 2 * k) 2 0 → Here l absent m (k + 1)
+clear-more l s m k h p q =
+    here l absent m (k + 1)
+    (one-more l absent 4760 m k 0 (omega (arith, length-replicate {A = ℕ} 32 0)) (q ∙ ap (λ (x : List ℕ). putField x (4760 + 2 * k) 2 0) (p .0))
+    (sym (getD-replicate {A = ℕ} 32 k 0 0 h)))
+
+pub copy-more : (l s m : List ℕ) (k v : ℕ) → k < 32 → Here l (tableOf l ofApplied) s k → v ≡ field s (4696 + 2 * k) 2
+    → m ≡ putField s (4760 + 2 * k) 2 v → Here l (tableOf l ofApplied) m (k + 1)
+unfolding tableOf
+copy-more l s m k v h p r q =
+    here l (tableOf l ofApplied) m (k + 1)
+    (one-more l (tableOf l ofApplied) 4760 m k v (omega (arith, length-fields tableWidths l 4696))
+    (q ∙ ap (λ (x : List ℕ). putField x (4760 + 2 * k) 2 v) (p .0))
+    (r ∙ ap (λ (x : List ℕ). field x (4696 + 2 * k) 2) (p .0) ∙ before-here l (tableOf l ofApplied) 4760 k (4696 + 2 * k) (omega arith)
+    ∙ sym (table-at 32 l 4696 k h)))
+
+pub all-here : (l s vs : List ℕ) (k : ℕ) → k ≤ 32 → 32 ≤ k → length vs ≡ 32 → Here l vs s k → s ≡ write l (targetValues vs)
+unfolding write
+all-here l s vs k a b z p =
+    let e : k ≡ 32 = omega arith in
+    let t : take 32 vs ≡ vs = take-all 32 vs (omega arith) in
+    p .0 ∙ ap (upToHere l vs 4760) e ∙ ap (λ (x : List ℕ). putFields l 4760 tableWidths x) t
+
+pub length-table : (l : List ℕ) → length (tableOf l ofApplied) ≡ 32
+unfolding tableOf
+length-table l = length-fields tableWidths l 4696

@@ -1,0 +1,53 @@
+-- A well-formed image: it has the one length, its codes are codes, and the state that it shows is well-formed
+-- (paper: The state, Well-formed). Assumes nothing.
+use Prim.Native.Nat.{ℕ, zero, suc, _+_}
+use mathlib.Core.List.{List}
+use mathlib.Core.Bool.{Bool, true, false, _&&_}
+use lib.Dec.{eqb, leb, ltb}
+use lib.ListN.{length}
+use Rattle.fields.specs.Field.{field, fieldsAt, ones}
+use Rattle.machine.specs.WellFormed.{pairsOk, wellFormed}
+use Rattle.image.specs.Layout.{placeOf, configurationAt, targetAt, connectionsAt, imageLength}
+use Rattle.image.specs.Records.{logLength}
+use Rattle.image.specs.View.{view}
+
+-- a test of each number from 1 to n
+unfoldable pub allUpTo : (ℕ → Bool) → ℕ → Bool
+allUpTo p zero = true
+allUpTo p (suc n) = allUpTo p n && p (suc n)
+
+-- the four statuses of the entry at a place
+unfoldable pub statusesOk : List ℕ → ℕ → Bool
+statusesOk l at = leb (field l at 1) 6 && (leb (field l (at + 1) 1) 6 && (leb (field l (at + 2) 1) 6 && leb (field l (at + 3) 1) 6))
+
+abbrev pub entryStatusesOk : List ℕ → ℕ → Bool
+entryStatusesOk l n = statusesOk l (placeOf n)
+
+-- a flag is 0 or 1
+abbrev pub flagOk : List ℕ → ℕ → Bool
+flagOk l at = leb (field l at 1) 1
+
+-- the configuration's state, the target's running, and the eight nodes' connected
+unfoldable pub flagsOk : List ℕ → Bool
+flagsOk l =
+    (leb 1 (field l configurationAt 1) && leb (field l configurationAt 1) 3)
+    && (flagOk l (targetAt + 4)
+    && ((flagOk l (connectionsAt + 4) && (flagOk l (connectionsAt + 9) && (flagOk l (connectionsAt + 14) && flagOk l (connectionsAt + 19))))
+    && (flagOk l (connectionsAt + 24) && (flagOk l (connectionsAt + 29) && (flagOk l (connectionsAt + 34) && flagOk l (connectionsAt + 39))))))
+
+abbrev pub codesOk : List ℕ → Bool
+codesOk l = allUpTo (entryStatusesOk l) (logLength l) && flagsOk l
+
+unfoldable pub formed : List ℕ → Bool
+formed l = eqb (length l) imageLength && (codesOk l && wellFormed (view l))
+
+-- ---- the same, in the order of the scan (that it is the same: proofs/Scanned)
+-- the phase, r.index and the two ordinals of entry n at a place
+unfoldable pub marksOk : List ℕ → ℕ → ℕ → Bool
+marksOk l at n =
+    (leb 1 (field l (at + 4) 1) && leb (field l (at + 4) 1) 2) && (ltb (field l (at + 6) 2) n && (leb (field l (at + 8) 4) 256 && leb (field l (at + 12) 4) 256))
+
+-- all that is asked of entry n
+unfoldable pub entryFormed : List ℕ → ℕ → Bool
+entryFormed l n =
+    statusesOk l (placeOf n) && (marksOk l (placeOf n) n && pairsOk (field l (placeOf n + 5) 1) (fieldsAt l (placeOf n + 16) ones))

@@ -1,0 +1,65 @@
+-- The state that an image shows, and the image with a row of stores made in it. Assumes nothing.
+use Prim.Native.Nat.{ℕ, zero, suc, _+_, _*_}
+use mathlib.Core.List.{List, [], _∷_, _++_}
+use mathlib.Core.Bool.{Bool, true, false}
+use lib.Dec.{ltb}
+use Rattle.kinds.specs.Numbers.{num}
+use Rattle.fields.specs.Field.{field, putField, fieldsAt, putFields}
+use Rattle.machine.specs.State.{Part, Net, State}
+use Rattle.machine.specs.Stores.{Table, ofCommitted, ofApplied, ofTarget, Store, grow, entry, change, committedHead, appliedHead, value, targetValues, configuration, mastership, connections, target}
+use Rattle.image.specs.Layout.{tableWidths, lengthAt, changeAt, committedAt, appliedAt, valuesAt}
+use Rattle.image.specs.Records.{entryAt, putEntryAt, logLength, changeOf, headAt, putHeadAt, configurationOf, putConfiguration, mastershipOf, putMastership, targetOf, putTarget, connectionsOf, putConnections}
+
+-- f 1, f 2 .. f n
+unfoldable pub upTo : {A : Type 0} → (ℕ → A) → ℕ → List A
+upTo f zero = []
+upTo f (suc n) = upTo f n ++ (f (suc n) ∷ [])
+
+-- a table of 32 values
+unfoldable pub tableOf : List ℕ → Table → List ℕ
+tableOf l b = fieldsAt l (valuesAt b) tableWidths
+
+abbrev pub partOf : List ℕ → ℕ → Table → Part
+partOf l at b = record { head = headAt l at; values = tableOf l b }
+
+abbrev pub netOf : List ℕ → Net
+netOf l =
+    record {
+      configuration = configurationOf l;
+      mastership = mastershipOf l;
+      connections = connectionsOf l;
+      target = targetOf l;
+      values = tableOf l ofTarget;
+    }
+
+unfoldable pub view : List ℕ → State
+view l =
+    record {
+      log = upTo (entryAt l) (logLength l);
+      change = num (changeOf l);
+      committed = partOf l committedAt ofCommitted;
+      applied = partOf l appliedAt ofApplied;
+      net = netOf l;
+    }
+
+-- ---- stores in an image
+abbrev pub writeIf : Bool → List ℕ → List ℕ → List ℕ
+writeIf true a b = a
+writeIf false a b = b
+
+unfoldable pub write : List ℕ → Store → List ℕ
+write l (grow t) = putField (putEntryAt l (logLength l + 1) t) lengthAt 2 (logLength l + 1)
+write l (entry i t) = putEntryAt l i t
+write l (change n) = putField l changeAt 2 (n .0)
+write l (committedHead h) = putHeadAt l committedAt h
+write l (appliedHead h) = putHeadAt l appliedAt h
+write l (value b p v) = writeIf (ltb p 32) (putField l (valuesAt b + 2 * p) 2 v) l
+write l (targetValues vs) = putFields l (valuesAt ofTarget) tableWidths vs
+write l (configuration g) = putConfiguration l g
+write l (mastership m) = putMastership l m
+write l (connections xs) = putConnections l xs
+write l (target t) = putTarget l t
+
+unfoldable pub written : List ℕ → List Store → List ℕ
+written l [] = l
+written l (e ∷ es) = written (write l e) es
