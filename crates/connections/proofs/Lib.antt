@@ -1,0 +1,4 @@
+pub mod Laws
+pub mod Lent
+pub mod Eight
+pub mod Only

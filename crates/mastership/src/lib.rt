@@ -1,0 +1,35 @@
+// The mastership record, lent by `&mut`: its call changes it where the caller keeps it. It is thin over the rule on the
+// record's master, term and conn; whoever has the record by value calls `master_of`.
+use kinds::Connection;
+use kinds::Mastership;
+use kinds::Term;
+use rules::Mastered;
+ghost use mathlib.Core.Path.{_≡_};
+ghost use Rattle.mastership.specs.Lent.{masterBy, masterOf, Masters};
+
+// The rule on the record's parts, for node n with a connection of this id.
+fn master_by(master: u8, term: Term, conn: u32, n: u8, id: u32, connected: bool) -> Mastered
+    ensures { λ r. ⌜ r ≡ masterBy master term conn n id connected ⌝ }
+{
+    let m = Mastership { master, term, conn };
+    let x = Connection { id, connected };
+    rules::master(m, n, x)
+}
+
+// Node n, whose connection has this id, asks for mastership or is found lost.
+pub fn master(m: &mut Mastership, n: u8, id: u32, connected: bool) -> u8
+    ensures { λ r. ⌜ Masters (now (m .entry)) n id connected r (now (m .exit)) ⌝ }
+{
+    let o = master_by(m.master, m.term, m.conn, n, id, connected);
+    *m = o.mastership;
+    o.answer
+}
+
+// The same on a record by value, which is kept in a local and lent: callers need no walk.
+pub fn master_of(m: Mastership, n: u8, id: u32, connected: bool) -> Mastered
+    ensures { λ r. ⌜ r ≡ masterOf m n id connected ⌝ }
+{
+    let mut mastership = m;
+    let answer = master(&mut mastership, n, id, connected);
+    Mastered { answer, mastership }
+}
