@@ -1,0 +1,205 @@
+-- What the code loads is what the view shows, so what its rules decide is what the machine decides. Assumes nothing.
+use Prim.Native.Nat.{ℕ, zero, suc, _+_, _-_, _*_, _≤_, _<_}
+use mathlib.Core.Path.{_≡_, refl, ap, ap₂, sym, _∙_}
+use mathlib.Core.Bool.{Bool, true, false, not, _&&_, _||_}
+use mathlib.Core.List.{List, [], _∷_}
+use native.Mathlib.Nat.{add-assoc}
+use native.Mathlib.Omega.{arith}
+use borrow.Author.Tests.{eq-eqb, ne-eqb, eqb-true, eqb-false, leb-true, le-leb, lt-leb}
+use lib.Dec.{eqb, leb, ltb}
+use lib.ListN.{length, getD}
+use Rattle.kinds.specs.declared.Transaction.{Transaction}
+use Rattle.kinds.specs.declared.Head.{Head}
+use Rattle.kinds.specs.declared.Number.{Number}
+use Rattle.kinds.specs.declared.Connection.{Connection}
+use Rattle.kinds.specs.declared.Mastership.{Mastership}
+use Rattle.kinds.specs.declared.Target.{Target}
+use Rattle.kinds.specs.declared.Configuration.{Configuration}
+use Rattle.kinds.specs.declared.Status.{Status}
+use Rattle.kinds.specs.declared.Status.the-variants.{None, Pending, InProgress, Complete, Aborted, Canceled, Failed}
+use Rattle.kinds.specs.Numbers.{num}
+use Rattle.kinds.specs.Statuses.{done, statusIf, statusOf}
+use Rattle.fields.specs.Field.{field, fieldsAt}
+use Rattle.rules.specs.declared.Plan.{Plan}
+use Rattle.rules.specs.AtRest.{atRest}
+use Rattle.rules.specs.CommitChange.{commitChange}
+use Rattle.rules.specs.CommitRollback.{commitRollback}
+use Rattle.rules.specs.ApplyChange.{applyChange}
+use Rattle.rules.specs.ApplyRollback.{applyRollback}
+use Rattle.rules.specs.Outside.{lineOpen}
+use Rattle.machine.specs.State.{State, entryOf, nodeOf, lineOpenFor}
+use Rattle.machine.specs.WellFormed.{allEntries, wellFormed}
+use Rattle.machine.specs.Settled.{entrySettled, settled}
+use Rattle.machine.specs.Calls.{restOf, presentOne, present, job1, job2, job3, job4, planOf}
+use Rattle.machine.specs.Kept as kept
+use Rattle.image.specs.Layout.{tableWidths, placeOf, imageLength}
+use Rattle.image.specs.Records.{entryAt, logLength, changeOf, headAt, configurationOf, mastershipOf, targetOf, connectionsOf}
+use Rattle.image.specs.View.{tableOf, view}
+use Rattle.image.specs.Formed.{allUpTo, formed}
+use Rattle.image.proofs.UpTo.{entry-upTo, all-same, all-entries}
+use Rattle.image.proofs.Scanned.{view-length, formed-length, formed-few, formed-state}
+use Rattle.controller.specs.Claims.{Entry, sideSettledAt, entrySettledAt}
+
+-- ---- a well-formed image
+module _ (l : List ℕ) (w : formed l ≡ true) where
+  pub size : 4883 ≤ length l
+  size = let e : length l ≡ imageLength = formed-length l w in omega arith
+
+  pub formed-view : kept.Formed (view l)
+  formed-view = kept.formed (view l) (formed-state l w)
+
+  -- Committed's index is in the log
+  pub index-in : headAt l 4612 .index .0 ≤ logLength l
+  unfolding view
+  index-in = let h : view l .committed .head .index .0 ≤ length (view l .log) = formed-view .committed .index in omega (arith, view-length l)
+
+  pub few : logLength l ≤ 128
+  few = formed-few l w
+
+-- the entry at Committed's index, where that is not 0
+pub index-one : (l : List ℕ) (h : Head) (i : ℕ) → formed l ≡ true → h ≡ headAt l 4612 → i ≡ h .index .0 → (i ≡ 0 → ⊥) → (1 ≤ i) × ((i ≤ 128) × (4883 ≤ length l))
+index-one l h i w e p n =
+    let k : i ≡ headAt l 4612 .index .0 = p ∙ ap (λ (x : Head). x .index .0) e in
+    let a : 1 ≤ i = omega (arith, n) in
+    let b : i ≤ 128 = omega (arith, index-in l w, few l w) in
+    (a, (b, size l w))
+
+-- an entry of the log
+pub entry-of : (l : List ℕ) (i : ℕ) → 1 ≤ i → i ≤ logLength l → entryOf (view l .log) i ≡ entryAt l i
+unfolding view
+entry-of l i a b = entry-upTo (entryAt l) (logLength l) i a b
+
+module _ (l : List ℕ) (i : ℕ) (e : Entry l i) where
+  pub entry-size : 4883 ≤ length l
+  entry-size = size l (e .formed)
+
+  pub entry-few : i ≤ 128
+  entry-few = let h = e .last in omega (arith, few l (e .formed))
+
+  pub this-entry : (t : Transaction) → t ≡ entryAt l i → t ≡ entryOf (view l .log) i
+  this-entry t q = q ∙ sym (entry-of l i (e .one) (e .last))
+
+-- ---- at rest
+pub rest-none : (l : List ℕ) (h : Head) (i j : ℕ) → h ≡ headAt l 4612 → i ≡ h .index .0 → i ≡ 0 → j ≡ h .target .0 → eqb j 0 ≡ restOf (view l)
+unfolding view
+rest-none l h i j e p z q =
+    let y : headAt l 4612 .index .0 ≡ 0 = ap (λ (x : Head). x .index .0) (sym e) ∙ sym p ∙ z in
+    let t : j ≡ headAt l 4612 .target .0 = q ∙ ap (λ (x : Head). x .target .0) e in
+    rw (y, t) (go (eqb (headAt l 4612 .target .0) 0))
+  where
+    go : (b : Bool) → b ≡ (b || false)
+    go true = refl
+    go false = refl
+
+at-index : (l : List ℕ) (i : ℕ) → i ≡ headAt l 4612 .index .0
+    → atRest (headAt l 4612) (entryOf (view l .log) i .change .commit) (entryOf (view l .log) i .rollback .commit) ≡ restOf (view l)
+unfolding view
+at-index l i k = ap (λ (x : ℕ). atRest (headAt l 4612) (entryOf (view l .log) x .change .commit) (entryOf (view l .log) x .rollback .commit)) k
+
+pub rest-some : (l : List ℕ) (h : Head) (i : ℕ) (t : Transaction) (r : Bool) → formed l ≡ true → h ≡ headAt l 4612 → i ≡ h .index .0 → (i ≡ 0 → ⊥) → t ≡ entryAt l i
+    → r ≡ atRest h (t .change .commit) (t .rollback .commit) → r ≡ restOf (view l)
+rest-some l h i t r w e p n q s =
+    let k : i ≡ headAt l 4612 .index .0 = p ∙ ap (λ (x : Head). x .index .0) e in
+    let a : 1 ≤ i = omega (arith, n) in
+    let b : i ≤ logLength l = omega (arith, index-in l w) in
+    s ∙ ap₂ (λ (x : Head) (u : Transaction). atRest x (u .change .commit) (u .rollback .commit)) e (q ∙ sym (entry-of l i a b)) ∙ at-index l i k
+
+-- ---- settled
+late : (a b d : Bool) → done (statusIf a Complete (statusIf b Aborted (statusIf d Canceled Failed))) ≡ true
+late true b d = refl
+late false true d = refl
+late false false true = refl
+late false false false = refl
+
+-- Done means 3 to 6, and what is no code is read as 6
+done-code : (n : ℕ) → done (statusOf n) ≡ leb 3 n
+unfolding statusOf
+done-code n = go (eqb n 0) refl (eqb n 1) refl (eqb n 2) refl
+  where
+    go : (a : Bool) → eqb n 0 ≡ a → (b : Bool) → eqb n 1 ≡ b → (d : Bool) → eqb n 2 ≡ d
+        → done (statusIf a None (statusIf b Pending (statusIf d InProgress (statusIf (eqb n 3) Complete (statusIf (eqb n 4) Aborted (statusIf (eqb n 5) Canceled Failed)))))) ≡ leb 3 n
+    go true p b q d r = let e : n < 3 = omega (arith, eqb-true n 0 p) in sym (lt-leb _ _ e)
+    go false p true q d r = let e : n < 3 = omega (arith, eqb-true n 1 q) in sym (lt-leb _ _ e)
+    go false p false q true r = let e : n < 3 = omega (arith, eqb-true n 2 r) in sym (lt-leb _ _ e)
+    go false p false q false r =
+        let e : 3 ≤ n = omega (arith, eqb-false n 0 p, eqb-false n 1 q, eqb-false n 2 r) in late (eqb n 3) (eqb n 4) (eqb n 5) ∙ sym (le-leb 3 n e)
+
+settled-at : (l : List ℕ) (o k : ℕ) → entrySettledAt l o k ≡ entrySettled o k (entryAt l k)
+unfolding entrySettledAt entryAt fieldsAt
+settled-at l o k = simp (done-code, add-assoc)
+
+pub settled-none : (l : List ℕ) (o : ℕ) → o ≡ field l 4692 4 → o ≡ 0 → true ≡ settled (view l)
+unfolding view headAt fieldsAt
+settled-none l o e z = rw (← e, z)
+
+pub settled-all : (l : List ℕ) (o n : ℕ) (r : Bool) → o ≡ field l 4692 4 → (o ≡ 0 → ⊥) → n ≡ logLength l → r ≡ allUpTo (entrySettledAt l o) n → r ≡ settled (view l)
+unfolding view headAt fieldsAt
+settled-all l o n r e z m q =
+    q ∙ ap (allUpTo (entrySettledAt l o)) m ∙ all-same (entrySettledAt l o) (λ k. entrySettled o k (entryAt l k)) (logLength l) (λ k a b. settled-at l o k)
+    ∙ sym (all-entries (entrySettled o) (entryAt l) (logLength l)) ∙ rw (← e, ne-eqb o 0 z)
+
+-- ---- the line
+pub line-shown : (l : List ℕ) (n : ℕ) (x : Connection) (m : Mastership) (t : Target) (g : Configuration) (r : Bool)
+    → x ≡ nodeOf (connectionsOf l) n → m ≡ mastershipOf l → t ≡ targetOf l → g ≡ configurationOf l → r ≡ lineOpen n x m t g → r ≡ lineOpenFor (view l .net) n
+unfolding view
+line-shown l n x m t g r p q u v w = w ∙ rw (p, q, u, v)
+
+-- ---- present values
+pub present-all : (l : List ℕ) (t : Transaction) (a b d e : ℕ)
+    → a ≡ presentOne (ltb 0 (t .count)) l (getD (t .paths) 0 0) → b ≡ presentOne (ltb 1 (t .count)) l (getD (t .paths) 1 0)
+    → d ≡ presentOne (ltb 2 (t .count)) l (getD (t .paths) 2 0) → e ≡ presentOne (ltb 3 (t .count)) l (getD (t .paths) 3 0)
+    → (a ∷ b ∷ d ∷ e ∷ []) ≡ present l t
+unfolding present
+present-all l t a b d e p q r s = rw (p, q, r, s)
+
+-- ---- the jobs
+module _ (l : List ℕ) (i : ℕ) (w : Entry l i) (t : Transaction) (e : t ≡ entryAt l i) (h : Head) (k : Number) (f : k ≡ num i) (p : Plan) where
+  z : t ≡ entryOf (view l .log) i
+  z = this-entry l i w t e
+
+  pub job1-shown : (c : Number) (q ok : Bool) (vs : List ℕ) → h ≡ headAt l 4612 → c ≡ num (changeOf l) → q ≡ restOf (view l)
+      → vs ≡ present (fieldsAt l 4622 tableWidths) t → p ≡ commitChange t h c q k ok vs → p ≡ job1 (view l) i ok
+  unfolding view tableOf
+  job1-shown c q ok vs eh ec eq ev ep =
+      ep ∙ ap₂ (λ (x : Head) (y : Number). commitChange t x y q k ok vs) eh ec
+      ∙ ap₂ (λ (x : Number) (y : Bool). commitChange t (headAt l 4612) (num (changeOf l)) y x ok vs) f eq
+      ∙ ap₂ (λ (x : Transaction) (y : List ℕ). commitChange x (headAt l 4612) (num (changeOf l)) (restOf (view l)) (num i) ok y) z
+      (ev ∙ ap (present (fieldsAt l 4622 tableWidths)) z)
+
+  pub job3-shown : (q : Bool) → h ≡ headAt l 4612 → q ≡ restOf (view l) → p ≡ commitRollback t h q k → p ≡ job3 (view l) i
+  unfolding view
+  job3-shown q eh eq ep =
+      ep ∙ ap₂ (λ (x : Transaction) (y : Head). commitRollback x y q k) z eh
+      ∙ ap₂ (λ (x : Bool) (y : Number). commitRollback (entryOf (view l .log) i) (headAt l 4612) x y) eq f
+
+  module _ (n : ℕ) (q o ok : Bool) (eh : h ≡ headAt l 4686) (eq : q ≡ settled (view l)) (eo : o ≡ lineOpenFor (view l .net) n) where
+    pub job2-shown : p ≡ applyChange t h q k o ok → p ≡ job2 (view l) n i ok
+    unfolding view
+    job2-shown ep =
+        ep ∙ ap₂ (λ (x : Transaction) (y : Head). applyChange x y q k o ok) z eh
+        ∙ ap₂ (λ (x : Bool) (y : Number). applyChange (entryOf (view l .log) i) (headAt l 4686) x y o ok) eq f
+        ∙ ap (λ (x : Bool). applyChange (entryOf (view l .log) i) (headAt l 4686) (settled (view l)) (num i) x ok) eo
+
+    pub job4-shown : p ≡ applyRollback t h q k o ok → p ≡ job4 (view l) n i ok
+    unfolding view
+    job4-shown ep =
+        ep ∙ ap₂ (λ (x : Transaction) (y : Head). applyRollback x y q k o ok) z eh
+        ∙ ap₂ (λ (x : Bool) (y : Number). applyRollback (entryOf (view l .log) i) (headAt l 4686) x y o ok) eq f
+        ∙ ap (λ (x : Bool). applyRollback (entryOf (view l .log) i) (headAt l 4686) (settled (view l)) (num i) x ok) eo
+
+module _ (s : State) (n j i : ℕ) (ok : Bool) (p : Plan) where
+  pub plan-1 : j ≡ 1 → p ≡ job1 s i ok → p ≡ planOf s n j i ok
+  unfolding planOf
+  plan-1 e q = rw (eq-eqb j 1 e) q
+
+  pub plan-2 : (j ≡ 1 → ⊥) → j ≡ 2 → p ≡ job2 s n i ok → p ≡ planOf s n j i ok
+  unfolding planOf
+  plan-2 a e q = rw (ne-eqb j 1 a, eq-eqb j 2 e) q
+
+  pub plan-3 : (j ≡ 1 → ⊥) → (j ≡ 2 → ⊥) → j ≡ 3 → p ≡ job3 s i → p ≡ planOf s n j i ok
+  unfolding planOf
+  plan-3 a b e q = rw (ne-eqb j 1 a, ne-eqb j 2 b, eq-eqb j 3 e) q
+
+  pub plan-4 : (j ≡ 1 → ⊥) → (j ≡ 2 → ⊥) → (j ≡ 3 → ⊥) → p ≡ job4 s n i ok → p ≡ planOf s n j i ok
+  unfolding planOf
+  plan-4 a b e q = rw (ne-eqb j 1 a, ne-eqb j 2 b, ne-eqb j 3 e) q

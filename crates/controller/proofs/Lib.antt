@@ -1,0 +1,7 @@
+pub mod Performed
+pub mod LentPairs
+pub mod Decided
+pub mod Answered
+pub mod Freshened
+pub mod Walked
+pub mod Shows

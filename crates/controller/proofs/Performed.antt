@@ -1,0 +1,103 @@
+-- A plan's stores as the code makes them, over variables: each row after the one before it. Assumes nothing.
+use Prim.Native.Nat.{ℕ, _+_, _*_, _≤_}
+use mathlib.Core.Path.{_≡_, refl, ap, sym, _∙_}
+use mathlib.Core.Bool.{Bool, true, false}
+use mathlib.Core.List.{List, [], _∷_, _++_, append-nil}
+use lib.Dec.{ltb}
+use lib.ListN.{getD}
+use Rattle.kinds.specs.declared.Transaction.{Transaction}
+use Rattle.kinds.specs.declared.Head.{Head}
+use Rattle.kinds.specs.declared.Number.{Number}
+use Rattle.kinds.specs.Numbers.{num}
+use Rattle.fields.specs.Field.{putField}
+use Rattle.rules.specs.declared.Plan.{Plan}
+use Rattle.rules.specs.declared.Lay.{Lay}
+use Rattle.rules.specs.declared.Lay.the-variants.{Nothing, Values, Kept}
+use Rattle.rules.specs.declared.Order.{Order}
+use Rattle.rules.specs.declared.Order.the-variants.{Neither, EntryOnly, HeadOnly, EntryThenHead, HeadThenEntry}
+use Rattle.machine.specs.Stores.{Table, ofCommitted, ofApplied, ofTarget, Store, change, committedHead, appliedHead}
+use Rattle.machine.specs.Rows.{layOne, overlay, laid, entryRow, changeRow, headRow, thenRow, rowsBy, rowsOf}
+use Rattle.image.specs.Layout.{committedAt, appliedAt, valuesAt}
+use Rattle.image.specs.Records.{putEntryAt, putHeadAt}
+use Rattle.image.specs.View.{writeIf, write, written}
+
+pub written-append : (l : List ℕ) (es fs : List Store) → written l (es ++ fs) ≡ written (written l es) fs
+unfolding written
+written-append l [] fs = refl
+written-append l (e ∷ es) fs = written-append (write l e) es fs
+
+-- a row after a row
+pub rows-on : (l m n : List ℕ) (es fs : List Store) → m ≡ written l es → n ≡ written m fs → n ≡ written l (es ++ fs)
+rows-on l m n es fs p q = q ∙ ap (λ (x : List ℕ). written x fs) p ∙ sym (written-append l es fs)
+
+-- ---- overlay
+pub lay-used : (l m : List ℕ) (at p v : ℕ) (u : Bool) → u ≡ true → m ≡ writeIf (ltb p 32) (putField l (at + 2 * p) 2 v) l
+    → (b : Table) → valuesAt b ≡ at → m ≡ written l (layOne u b p v)
+unfolding written write
+lay-used l m at p v u t q b e = rw (t, e) q
+
+pub lay-unused : (l : List ℕ) (at p v : ℕ) (u : Bool) → u ≡ false → (b : Table) → valuesAt b ≡ at → l ≡ written l (layOne u b p v)
+unfolding written
+lay-unused l at p v u t b e = rw t
+
+module _ (l l1 l2 l3 l4 ps vs : List ℕ) (n at : ℕ) where
+  pub laid-four : ((b : Table) → valuesAt b ≡ at → l1 ≡ written l (layOne (ltb 0 n) b (getD ps 0 0) (getD vs 0 0)))
+      → ((b : Table) → valuesAt b ≡ at → l2 ≡ written l1 (layOne (ltb 1 n) b (getD ps 1 0) (getD vs 1 0)))
+      → ((b : Table) → valuesAt b ≡ at → l3 ≡ written l2 (layOne (ltb 2 n) b (getD ps 2 0) (getD vs 2 0)))
+      → ((b : Table) → valuesAt b ≡ at → l4 ≡ written l3 (layOne (ltb 3 n) b (getD ps 3 0) (getD vs 3 0)))
+      → (b : Table) → valuesAt b ≡ at → l4 ≡ written l (overlay b ps vs n)
+  unfolding overlay
+  laid-four q1 q2 q3 q4 b e = simp (q4 b e, q3 b e, q2 b e, q1 b e, written-append)
+
+pub laid-by : (l m : List ℕ) (at : ℕ) (x y : Lay) (t : Transaction) → x ≡ y → ((b : Table) → valuesAt b ≡ at → m ≡ written l (laid b y t))
+    → (b : Table) → valuesAt b ≡ at → m ≡ written l (laid b x t)
+laid-by l m at x y t e q b z = q b z ∙ ap (λ (w : Lay). written l (laid b w t)) (sym e)
+
+pub laid-none : (l : List ℕ) (at : ℕ) (x : Lay) (t : Transaction) → x ≡ Nothing → (b : Table) → valuesAt b ≡ at → l ≡ written l (laid b x t)
+unfolding written
+laid-none l at x t e = laid-by l l at x Nothing t e (λ b z. refl)
+
+-- ---- Committed's change
+pub change-moved : (l m : List ℕ) (i : ℕ) (n : Number) (b : Bool) → b ≡ true → n ≡ num i → m ≡ write l (change n) → m ≡ written l (changeRow b i)
+unfolding written
+change-moved l m i n b t e q = rw t (q ∙ ap (λ (x : Number). write l (change x)) e)
+
+pub change-still : (l : List ℕ) (i : ℕ) (b : Bool) → b ≡ false → l ≡ written l (changeRow b i)
+unfolding written
+change-still l i b t = rw t
+
+-- ---- the head's store
+pub commit-row : (l l1 l2 l3 : List ℕ) (i : ℕ) (p : Plan) → l1 ≡ putHeadAt l 4612 (p .head) → l2 ≡ written l1 (changeRow (p .change) i)
+    → ((b : Table) → valuesAt b ≡ 4622 → l3 ≡ written l2 (laid b (p .lay) (p .entry))) → l3 ≡ written l (headRow true p i)
+unfolding written write
+commit-row l l1 l2 l3 i p q1 q2 q3 =
+    rows-on l l1 l3 (committedHead (p .head) ∷ []) (changeRow (p .change) i ++ laid ofCommitted (p .lay) (p .entry)) q1
+    (rows-on l1 l2 l3 (changeRow (p .change) i) (laid ofCommitted (p .lay) (p .entry)) q2 (q3 ofCommitted refl))
+
+pub apply-row : (l l1 l2 l3 : List ℕ) (i : ℕ) (p : Plan) → ((b : Table) → valuesAt b ≡ 4760 → l1 ≡ written l (laid b (p .lay) (p .entry)))
+    → l2 ≡ putHeadAt l1 4686 (p .head) → ((b : Table) → valuesAt b ≡ 4696 → l3 ≡ written l2 (laid b (p .lay) (p .entry)))
+    → l3 ≡ written l (headRow false p i)
+unfolding written write
+apply-row l l1 l2 l3 i p q1 q2 q3 =
+    rows-on l l1 l3 (laid ofTarget (p .lay) (p .entry)) (appliedHead (p .head) ∷ laid ofApplied (p .lay) (p .entry)) (q1 ofTarget refl)
+    (rows-on l1 l2 l3 (appliedHead (p .head) ∷ []) (laid ofApplied (p .lay) (p .entry)) q2 (q3 ofApplied refl))
+
+pub row-if : (l m : List ℕ) (b c : Bool) (i : ℕ) (p : Plan) → b ≡ c → m ≡ written l (headRow c p i) → m ≡ written l (headRow b p i)
+row-if l m b c i p e q = q ∙ ap (λ (x : Bool). written l (headRow x p i)) (sym e)
+
+-- ---- the plan
+module _ (l : List ℕ) (c : Bool) (p : Plan) (i : ℕ) (cut : Bool) where
+  pub one-store : (w : Order) (m : List ℕ) → p .order ≡ w → m ≡ written l (rowsBy w c p i cut) → m ≡ written l (rowsOf c p i cut)
+  unfolding rowsOf
+  one-store w m e q = q ∙ ap (λ (x : Order). written l (rowsBy x c p i cut)) (sym e)
+
+  pub no-store : p .order ≡ Neither → l ≡ written l (rowsOf c p i cut)
+  unfolding written
+  no-store e = one-store Neither l e refl
+
+  pub cut-row : (w : Order) (a b : List Store) (m : List ℕ) → p .order ≡ w → rowsBy w c p i cut ≡ thenRow cut a b → cut ≡ true → m ≡ written l a → m ≡ written l (rowsOf c p i cut)
+  cut-row w a b m e r t q = one-store w m e (q ∙ ap (written l) (sym (r ∙ ap (λ (x : Bool). thenRow x a b) t)))
+
+  pub then-row : (w : Order) (a b : List Store) (m n : List ℕ) → p .order ≡ w → rowsBy w c p i cut ≡ thenRow cut a b → cut ≡ false → m ≡ written l a → n ≡ written m b
+      → n ≡ written l (rowsOf c p i cut)
+  then-row w a b m n e r t q s = one-store w n e (rows-on l m n a b q s ∙ ap (written l) (sym (r ∙ ap (λ (x : Bool). thenRow x a b) t)))

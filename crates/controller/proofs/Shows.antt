@@ -1,0 +1,194 @@
+-- What the code reads is what the machine reads from what the image shows. Assumes nothing.
+use Prim.Native.Nat.{ℕ, zero, suc, _+_, _-_, _≤_, _<_}
+use mathlib.Core.Path.{_≡_, refl, ap, ap₂, sym, _∙_}
+use mathlib.Core.Bool.{Bool, true, false, _&&_}
+use mathlib.Core.List.{List, [], _∷_}
+use native.Mathlib.Omega.{arith}
+use borrow.Author.Tests.{eq-eqb, ne-eqb, leb-true, ltb-true}
+use lib.Dec.{eqb, leb, ltb}
+use lib.ListN.{length, getD}
+use Rattle.kinds.specs.declared.Transaction.{Transaction}
+use Rattle.kinds.specs.declared.Head.{Head}
+use Rattle.kinds.specs.declared.Number.{Number}
+use Rattle.kinds.specs.declared.Connection.{Connection}
+use Rattle.kinds.specs.declared.Configuration.{Configuration}
+use Rattle.kinds.specs.declared.Mastership.{Mastership}
+use Rattle.kinds.specs.declared.Target.{Target}
+use Rattle.kinds.specs.Numbers.{num}
+use Rattle.kinds.specs.Statuses.{codeOf, progressCode}
+use Rattle.fields.specs.Field.{field, fieldsAt, quad}
+use Rattle.machine.specs.State.{State, entryOf, inLog, isNode, nodeOf}
+use Rattle.machine.specs.Reads as reads
+use Rattle.machine.specs.Reads.{Query, ofTable, ofEntry, ofState, ofNode, Answer, shows, refuses, isField, fieldOf, flag, entryNumbers, stateNumbers, nodeNumbers, valuesIf, tableNumbers, read}
+use Rattle.image.specs.Layout.{tableWidths}
+use Rattle.image.specs.Records.{entryAt, logLength, changeOf, headNumbers, headAt, configurationOf, mastershipOf, targetOf, connectionsOf}
+use Rattle.image.specs.View.{tableOf, netOf, view}
+use Rattle.image.specs.Formed.{formed}
+use Rattle.image.proofs.UpTo.{and-left, and-right}
+use Rattle.image.proofs.Scanned.{view-length}
+use Rattle.controller.specs.declared.reads.Read.{Read}
+use Rattle.controller.specs.declared.reads.Heads.{Heads}
+use Rattle.controller.specs.Claims.{Entry}
+use Rattle.controller.specs.Reads.{given, unless, readOf, noHead, headsIf, headsOf, marks, netNumbers, placeIf, tablePlace}
+use Rattle.controller.proofs.Decided.{entry-of}
+
+-- ---- refusal 1, and what follows it
+module _ (l : List ℕ) (q : Query) (r : Read) (b : Bool) (eb : b ≡ formed l) where
+  pub unread : b ≡ false → r ≡ given (refuses 1) → r ≡ readOf l q
+  unfolding readOf
+  unread t p = let z : formed l ≡ false = sym eb ∙ t in p ∙ ap (λ (x : Bool). given (unless x (read (view l) q))) (sym z)
+
+  reading : b ≡ true → (a : Answer) → r ≡ given a → read (view l) q ≡ a → r ≡ readOf l q
+  unfolding readOf
+  reading t a p e =
+      let z : formed l ≡ true = sym eb ∙ t in p ∙ ap given (sym e) ∙ ap (λ (x : Bool). given (unless x (read (view l) q))) (sym z)
+
+  -- a number at a place
+  pub shows-by : b ≡ true → (v : ℕ) → r ≡ given (shows v) → read (view l) q ≡ shows v → r ≡ readOf l q
+  shows-by t v p e = reading t (shows v) p e
+
+  pub refuses-by : b ≡ true → (a : ℕ) → r ≡ given (refuses a) → read (view l) q ≡ refuses a → r ≡ readOf l q
+  refuses-by t a p e = reading t (refuses a) p e
+
+-- ---- a field in range
+pub in-range : (n f : ℕ) (b : Bool) → b ≡ isField n f → b ≡ true → (1 ≤ f) × (f ≤ n)
+in-range n f b e t =
+    let h : isField n f ≡ true = sym e ∙ t in (leb-true 1 f (and-left _ _ h), leb-true f n (and-right (leb 1 f) _ h))
+
+-- ---- values
+at-table : (l : List ℕ) (b at : ℕ) → at ≡ tablePlace b → fieldsAt l at tableWidths ≡ tableNumbers (view l) b
+unfolding tablePlace view tableOf
+at-table l b at e = ap (λ (x : ℕ). fieldsAt l x tableWidths) e ∙ go (eqb b 1) (eqb b 2)
+  where
+    go : (x y : Bool) → fieldsAt l (placeIf x 4622 (placeIf y 4696 4760)) tableWidths
+        ≡ valuesIf x (fieldsAt l 4622 tableWidths) (valuesIf y (fieldsAt l 4696 tableWidths) (fieldsAt l 4760 tableWidths))
+    go true y = refl
+    go false true = refl
+    go false false = refl
+
+pub table-room : (b at n : ℕ) → at ≡ tablePlace b → 4883 ≤ n → at + 64 ≤ n
+unfolding tablePlace
+table-room b at n e h = go (eqb b 1) (eqb b 2) e
+  where
+    go : (x y : Bool) → at ≡ placeIf x 4622 (placeIf y 4696 4760) → at + 64 ≤ n
+    go true y q = omega arith
+    go false true q = omega arith
+    go false false q = omega arith
+
+module _ (b p : ℕ) (k : Bool) (ek : k ≡ (isField 3 b && ltb p 32)) where
+  pub path-low : k ≡ true → p < 32
+  path-low t = ltb-true p 32 (and-right (isField 3 b) _ (sym ek ∙ t))
+
+  pub no-value : (s : State) → k ≡ false → read s (ofTable b p) ≡ refuses 2
+  unfolding read
+  no-value s t = let z : (isField 3 b && ltb p 32) ≡ false = sym ek ∙ t in ap (λ (x : Bool). reads.unless 2 x (shows (getD (tableNumbers s b) p 0))) z
+
+  pub value-is : (l : List ℕ) (at v w : ℕ) → k ≡ true → at ≡ tablePlace b → v ≡ getD (fieldsAt l at tableWidths) p 0 → w ≡ v
+      → read (view l) (ofTable b p) ≡ shows w
+  unfolding read
+  value-is l at v w t ea ev ew =
+      let z : (isField 3 b && ltb p 32) ≡ true = sym ek ∙ t in
+      ap (λ (x : Bool). reads.unless 2 x (shows (getD (tableNumbers (view l) b) p 0))) z
+      ∙ ap shows (sym (ew ∙ ev ∙ ap (λ (x : List ℕ). getD x p 0) (at-table l b at ea)))
+
+-- ---- a transaction
+pub entry-numbers : (t : Transaction) (m p v k : List ℕ) → m ≡ marks t → p ≡ quad (t .paths) → v ≡ quad (t .values) → k ≡ quad (t .kept)
+    → (getD m 0 0 ∷ getD m 1 0 ∷ getD m 2 0 ∷ getD m 3 0 ∷ getD m 4 0 ∷ getD m 5 0 ∷ getD m 6 0 ∷ getD m 7 0 ∷ getD m 8 0
+    ∷ getD p 0 0 ∷ getD p 1 0 ∷ getD p 2 0 ∷ getD p 3 0 ∷ getD v 0 0 ∷ getD v 1 0 ∷ getD v 2 0 ∷ getD v 3 0
+    ∷ getD k 0 0 ∷ getD k 1 0 ∷ getD k 2 0 ∷ getD k 3 0 ∷ []) ≡ entryNumbers t
+unfolding entryNumbers
+entry-numbers t m p v k em ep ev ek = rw (em, ep, ev, ek)
+
+module _ (i f : ℕ) (k : Bool) (ek : k ≡ isField 21 f) where
+  pub no-entry-field : (s : State) → k ≡ false → read s (ofEntry i f) ≡ refuses 2
+  unfolding read
+  no-entry-field s t =
+      let z : isField 21 f ≡ false = sym ek ∙ t in
+      ap (λ (x : Bool). reads.unless 2 x (reads.unless 5 (inLog s i) (shows (fieldOf (entryNumbers (entryOf (s .log) i)) f)))) z
+
+  module _ (l : List ℕ) (t : k ≡ true) (n : ℕ) (j : Bool) (en : n ≡ logLength l) (ej : j ≡ (leb 1 i && leb i n)) where
+    read-entry : (y : Bool) → j ≡ y → read (view l) (ofEntry i f) ≡ reads.unless 5 y (shows (fieldOf (entryNumbers (entryOf (view l .log) i)) f))
+    unfolding read
+    read-entry y u =
+        let z : isField 21 f ≡ true = sym ek ∙ t in
+        let x : inLog (view l) i ≡ y = ap (λ (d : ℕ). leb 1 i && leb i d) (view-length l ∙ sym en) ∙ sym ej ∙ u in
+        ap₂ (λ (c d : Bool). reads.unless 2 c (reads.unless 5 d (shows (fieldOf (entryNumbers (entryOf (view l .log) i)) f)))) z x
+
+    pub no-entry : j ≡ false → read (view l) (ofEntry i f) ≡ refuses 5
+    no-entry u = read-entry false u
+
+    pub entry-field-is : j ≡ true → Entry l i → (e : Transaction) (a : List ℕ) → e ≡ entryAt l i → a ≡ entryNumbers e
+        → read (view l) (ofEntry i f) ≡ shows (getD a (f - 1) 0)
+    entry-field-is u w e a ee ea =
+        read-entry true u ∙ ap (λ (x : List ℕ). shows (getD x (f - 1) 0)) (sym (ea ∙ ap entryNumbers (ee ∙ sym (entry-of l i (w .one) (w .last)))))
+
+-- ---- what the state has once
+pub net-numbers : (l : List ℕ) (g : Configuration) (m : Mastership) (t : Target) (a x y z : ℕ) → g ≡ configurationOf l → m ≡ mastershipOf l → t ≡ targetOf l
+    → a ≡ progressCode (g .state) → x ≡ g .term .0 → y ≡ m .term .0 → z ≡ flag (t .running)
+    → (a ∷ x ∷ m .master ∷ y ∷ m .conn ∷ t .id ∷ z ∷ []) ≡ netNumbers (netOf l)
+net-numbers l g m t a x y z eg em et ea ex ey ez = rw (ea, ex, ey, ez, eg, em, et)
+
+pub state-numbers : (l : List ℕ) (n d : ℕ) (g : Number) (h j : Head) (c a w : List ℕ) → n ≡ logLength l → g ≡ num (changeOf l) → d ≡ g .0
+    → h ≡ headAt l 4612 → c ≡ headNumbers h → j ≡ headAt l 4686 → a ≡ headNumbers j → w ≡ netNumbers (netOf l)
+    → (n ∷ getD c 0 0 ∷ d ∷ getD c 1 0 ∷ getD c 2 0 ∷ getD c 3 0 ∷ getD a 0 0 ∷ getD a 1 0 ∷ getD a 2 0 ∷ getD a 3 0
+    ∷ getD w 0 0 ∷ getD w 1 0 ∷ getD w 2 0 ∷ getD w 3 0 ∷ getD w 4 0 ∷ getD w 5 0 ∷ getD w 6 0 ∷ []) ≡ stateNumbers (view l)
+unfolding stateNumbers view
+state-numbers l n d g h j c a w en eg ed eh ec ej ea ew =
+    let m : n ≡ length (view l .log) = en ∙ sym (view-length l) in rw (m, ec, ea, ew, eh, ej, ed, eg)
+
+module _ (f : ℕ) (k : Bool) (ek : k ≡ isField 17 f) where
+  pub no-state-field : (s : State) → k ≡ false → read s (ofState f) ≡ refuses 2
+  unfolding read
+  no-state-field s t = let z : isField 17 f ≡ false = sym ek ∙ t in ap (λ (x : Bool). reads.unless 2 x (shows (fieldOf (stateNumbers s) f))) z
+
+  pub state-field-is : (l a : List ℕ) → k ≡ true → a ≡ stateNumbers (view l) → read (view l) (ofState f) ≡ shows (getD a (f - 1) 0)
+  unfolding read
+  state-field-is l a t e =
+      let z : isField 17 f ≡ true = sym ek ∙ t in
+      ap (λ (x : Bool). reads.unless 2 x (shows (fieldOf (stateNumbers (view l)) f))) z ∙ ap (λ (x : List ℕ). shows (getD x (f - 1) 0)) (sym e)
+
+-- ---- a node's connection
+module _ (n f : ℕ) (k : Bool) (ek : k ≡ (isNode n && isField 2 f)) where
+  pub no-node-field : (s : State) → k ≡ false → read s (ofNode n f) ≡ refuses 2
+  unfolding read
+  no-node-field s t =
+      let z : (isNode n && isField 2 f) ≡ false = sym ek ∙ t in
+      ap (λ (x : Bool). reads.unless 2 x (shows (fieldOf (nodeNumbers (nodeOf (s .net .connections) n)) f))) z
+
+  module _ (t : k ≡ true) where
+    fits : (isNode n && isField 2 f) ≡ true
+    fits = sym ek ∙ t
+
+    pub node-low : (1 ≤ n) × (n ≤ 8)
+    node-low = in-range 8 n (isNode n) refl (and-left _ _ fits)
+
+    pub node-field-low : (1 ≤ f) × (f ≤ 2)
+    node-field-low = in-range 2 f (isField 2 f) refl (and-right (isNode n) _ fits)
+
+    pub node-field-is : (l : List ℕ) (x : Connection) (a : List ℕ) → x ≡ nodeOf (connectionsOf l) n → a ≡ nodeNumbers x
+        → read (view l) (ofNode n f) ≡ shows (getD a (f - 1) 0)
+    unfolding read view
+    node-field-is l x a ex ea =
+        ap (λ (y : Bool). reads.unless 2 y (shows (fieldOf (nodeNumbers (nodeOf (connectionsOf l) n)) f))) fits
+        ∙ ap (λ (y : List ℕ). shows (getD y (f - 1) 0)) (sym (ea ∙ ap nodeNumbers ex))
+
+-- ---- both heads
+module _ (l : List ℕ) (b : Bool) (eb : b ≡ formed l) (h j : Head) where
+  pub heads-are : b ≡ true → h ≡ headAt l 4612 → j ≡ headAt l 4686 → record { committed = h; applied = j } ≡ headsOf l
+  unfolding headsOf view
+  heads-are t p q =
+      let z : formed l ≡ true = sym eb ∙ t in
+      ap₂ (λ (x y : Head). record { committed = x; applied = y }) p q ∙ ap (λ (x : Bool). headsIf x (view l)) (sym z)
+
+  pub no-heads : b ≡ false → h ≡ noHead → j ≡ noHead → record { committed = h; applied = j } ≡ headsOf l
+  unfolding headsOf
+  no-heads t p q =
+      let z : formed l ≡ false = sym eb ∙ t in
+      ap₂ (λ (x y : Head). record { committed = x; applied = y }) p q ∙ ap (λ (x : Bool). headsIf x (view l)) (sym z)
+
+-- ---- no second outcome
+pub only-read : (l : List ℕ) (q : Query) (r p : Read) → r ≡ readOf l q → p ≡ readOf l q → r ≡ p
+only-read l q r p a b = a ∙ sym b
+
+pub only-heads : (l : List ℕ) (r p : Heads) → r ≡ headsOf l → p ≡ headsOf l → r ≡ p
+only-heads l r p a b = a ∙ sym b

@@ -1,0 +1,31 @@
+-- `fresh` meets its contract. Assumes nothing.
+use Rattle.controller.proofs.Freshened.{freshened, not-freshened}
+use borrow.Author.Needs.{needs}
+use Rattle.controller.proofs.clearing.fresh.Statement.{statement}
+use Rattle.controller.proofs.clearing.fresh.Tie as tie
+
+clear-requires : tie.Need-clear-requires
+clear-requires c κs = search needs
+
+put1-requires : tie.Need-put1-requires
+put1-requires c κs = search needs
+
+of-requires : tie.Need-of-requires
+of-requires c κs = search needs
+
+same-length : tie.Need-same-length
+same-length c = search needs
+
+returns : tie.Need-returns
+returns c = freshened (c .before .before .before .before .before .before .before .before .before .before .before .args .s .now) _ _ _ (c .before .before .before .before .before .before .before .before .before .if1 .taken) (c .before .before .before .before .before .before .before .clear .ensures) (c .before .before .before .put1 .ensures) (c .of .ensures)
+
+of-requires-2 : tie.Need-of-requires-2
+of-requires-2 c κs = search needs
+
+returns-2 : tie.Need-returns-2
+returns-2 c = not-freshened (c .before .before .before .args .s .now) _ (c .before .if1 .left) (c .of2 .ensures)
+
+pub fresh-spec : {M : Type 1} → statement M
+fresh-spec =
+    tie.close
+    (tie.spec clear-requires put1-requires of-requires same-length returns of-requires-2 returns-2)

@@ -1,0 +1,47 @@
+use native.Mathlib.Omega.{arith}
+use Rattle.controller.proofs.Decided.{entry-size, entry-few, job3-shown}
+use borrow.Author.Needs.{needs}
+use Rattle.controller.proofs.deciding.job3.Statement.{statement}
+use Rattle.controller.proofs.deciding.job3.Tie as tie
+use Rattle.controller.proofs.deciding.job3.Reads as reads
+use Rattle.controller.proofs.deciding.job3.Lts as lts
+use Rattle.controller.proofs.deciding.rest.Reads as rest-reads
+use Rattle.image.proofs.load_entry.Reads as load-entry-reads
+use Rattle.image.proofs.load_head.Reads as load-head-reads
+use Rattle.kinds.proofs.Number.of.Reads as of-reads
+use Rattle.rules.proofs.commit_rollback.Reads as commit-rollback-reads
+
+-- src/deciding.rt:164:9
+load-entry-requires : tie.Need-load-entry-requires
+load-entry-requires c κs = (c .before .pre .one, (entry-few _ _ (c .before .pre), entry-size _ _ (c .before .pre)))
+
+-- src/deciding.rt:165:9
+load-head-requires : tie.Need-load-head-requires
+load-head-requires c κs = let h = entry-size _ _ (c .before .before .pre) in omega arith
+
+-- src/deciding.rt:166:9
+rest-requires : tie.Need-rest-requires
+rest-requires c κs = search needs
+
+-- src/deciding.rt:167:34
+of-requires : tie.Need-of-requires
+of-requires c κs = search needs
+
+-- src/deciding.rt:167:5
+commit-rollback-requires : tie.Need-commit-rollback-requires
+commit-rollback-requires c κs = search needs
+
+-- src/deciding.rt:160:1
+returns : tie.Need-returns
+returns c = job3-shown _ _ (c .before .before .before .before .before .before .pre) _ (c .before .before .before .before .load-entry .ensures) _ _ (c .before .of .ensures) _ _ (c .before .before .before .load-head .ensures) (c .before .before .rest .ensures) (c .commit-rollback .ensures)
+
+pub job3-spec : {M : Type 1} → statement M
+job3-spec =
+    tie.close
+    (tie.spec
+    load-entry-requires
+    load-head-requires
+    rest-requires
+    of-requires
+    commit-rollback-requires
+    returns)

@@ -1,0 +1,39 @@
+-- What a public call claims of its reply and of the image that it leaves: one contract for all of them. Assumes nothing.
+use Prim.Native.Nat.{ℕ, _+_, _≤_}
+use mathlib.Core.Path.{_≡_}
+use mathlib.Core.Bool.{Bool, true, false, not, _&&_, _||_}
+use mathlib.Core.List.{List}
+use lib.Dec.{eqb, leb}
+use Rattle.kinds.specs.declared.Reply.{Reply}
+use Rattle.machine.specs.Calls.{Outcome, Call, unless, decide}
+use Rattle.fields.specs.Field.{field}
+use Rattle.image.specs.Layout.{placeOf}
+use Rattle.image.specs.Records.{logLength}
+use Rattle.image.specs.View.{view, written}
+use Rattle.image.specs.Formed.{formed}
+
+-- refusal 1 comes first; then the machine decides from what the image shows
+unfoldable pub outcomeOf : List ℕ → Call → Outcome
+outcomeOf l c = unless 1 (formed l) (decide (view l) c)
+
+-- the reply, and every byte
+abbrev pub Claims : List ℕ → Call → Reply → List ℕ → Type 0
+Claims l c r m = (r ≡ outcomeOf l c .reply) × (m ≡ written l (outcomeOf l c .stores))
+
+-- the same of a well-formed image: what the inner functions claim
+abbrev pub Does : List ℕ → Call → Reply → List ℕ → Type 0
+Does l c r m = (r ≡ decide (view l) c .reply) × (m ≡ written l (decide (view l) c .stores))
+
+-- a well-formed image, and the number of an entry of its log
+pub record Entry (l : List ℕ) (i : ℕ) : Type 0 where
+  pub formed : formed l ≡ true
+  pub one : 1 ≤ i
+  pub last : i ≤ logLength l
+
+-- ---- settled, as the code reads it
+-- a side whose apply code is at a place, and its ordinal at another: it does not carry o, or is Done (3 to 6)
+abbrev pub sideSettledAt : List ℕ → ℕ → ℕ → ℕ → Bool
+sideSettledAt l o apply at = not (eqb (field l at 4) o) || leb 3 (field l apply 1)
+
+unfoldable pub entrySettledAt : List ℕ → ℕ → ℕ → Bool
+entrySettledAt l o n = sideSettledAt l o (placeOf n + 1) (placeOf n + 8) && sideSettledAt l o (placeOf n + 3) (placeOf n + 12)

@@ -1,0 +1,5 @@
+pub mod Claims
+pub mod Bytes
+pub mod Fresh
+pub mod Live
+pub mod Reads

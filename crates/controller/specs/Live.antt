@@ -1,0 +1,59 @@
+-- What `live` claims of its answer and of the room that it is lent (paper: The live list). Assumes nothing.
+use Prim.Native.Nat.{ℕ, _+_, _≤_}
+use mathlib.Core.Path.{_≡_}
+use mathlib.Core.Bool.{Bool, true, false}
+use mathlib.Core.List.{List, _++_}
+use lib.Dec.{leb}
+use lib.ListN.{length, drop}
+use Rattle.machine.specs.State.{State}
+use Rattle.machine.specs.LiveList.{hops, live}
+use Rattle.image.specs.Records.{logLength}
+use Rattle.image.specs.View.{view}
+use Rattle.image.specs.Formed.{formed}
+use Rattle.controller.specs.declared.walking.Listed.{Listed}
+
+-- the answer, and the room after it
+pub record Listing : Type 0 where
+  pub listed : Listed
+  pub room : List ℕ
+
+-- a refusal has length 0 and leaves the room as it is
+abbrev pub unlisted : ℕ → List ℕ → Listing
+unlisted a m = record { listed = record { answer = a; length = 0 }; room = m }
+
+abbrev pub unless : ℕ → List ℕ → Bool → Listing → Listing
+unless a m true x = x
+unless a m false x = unlisted a m
+
+-- the list, then the room past it as it was
+abbrev pub listing : List ℕ → List ℕ → Listing
+listing v m = record { listed = record { answer = 0; length = length v }; room = v ++ drop (length v) m }
+
+-- 14 where the list is longer than the room
+abbrev pub listingIn : List ℕ → List ℕ → Listing
+listingIn v m = unless 14 m (leb (length v) (length m)) (listing v m)
+
+unfoldable pub listingOf : List ℕ → List ℕ → Listing
+listingOf l m = unless 1 m (formed l) (listingIn (live (view l)) m)
+
+abbrev pub Lists : List ℕ → List ℕ → Listed → List ℕ → Type 0
+Lists l m r m′ = (r ≡ listingOf l m .listed) × (m′ ≡ listingOf l m .room)
+
+-- the same of a well-formed image
+abbrev pub ListsLive : List ℕ → List ℕ → Listed → List ℕ → Type 0
+ListsLive l m r m′ = (r ≡ listingIn (live (view l)) m .listed) × (m′ ≡ listingIn (live (view l)) m .room)
+
+-- ---- the walk, as the code makes it
+-- the list from a number on; r.index is below its own number, so that number is hops enough
+unfoldable pub liveFrom : State → ℕ → List ℕ
+liveFrom s v = hops v (s .log) v
+
+-- a well-formed image, and a number that is 0 or an entry's
+pub record Chained (l : List ℕ) (v : ℕ) : Type 0 where
+  pub formed : formed l ≡ true
+  pub last : v ≤ logLength l
+
+-- a place in the room from which the list has room
+pub record Placed (l : List ℕ) (v at n : ℕ) : Type 0 where
+  pub chained : Chained l v
+  pub room : at + length (liveFrom (view l) v) ≤ n

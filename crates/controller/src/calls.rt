@@ -1,0 +1,236 @@
+// Each call on a well-formed image: the refusals in the paper's order, then the stores.
+ghost use mathlib.Core.Path.{_≡_};
+ghost use mathlib.Core.Bool.{true, _&&_};
+ghost use Prim.Native.Nat.{_≤_};
+ghost use lib.Dec.{leb, eqb};
+ghost use Rattle.machine.specs.State.{isNode};
+ghost use Rattle.machine.specs.Calls.{rollback, start, stop, connect, disconnect, master, sync, work, workOk, commits};
+ghost use Rattle.image.specs.Formed.{formed};
+ghost use Rattle.controller.specs.Claims.{Does};
+ghost use Rattle.controller.specs.Bytes.{appendOf};
+use crate::deciding::plan_of;
+use crate::pairs::entered;
+use crate::pairs::valid;
+use crate::perform::perform;
+use connections::connect_of;
+use connections::disconnect_of;
+use connections::stop_of;
+use image::clear_target;
+use image::copy_target;
+use image::grow;
+use image::load_configuration;
+use image::load_connection;
+use image::load_connections;
+use image::load_entry;
+use image::load_mastership;
+use image::load_target;
+use image::log_length;
+use image::store_configuration;
+use image::store_connections;
+use image::store_entry;
+use image::store_mastership;
+use image::store_target;
+use kinds::Event;
+use kinds::Number;
+use kinds::Reply;
+use kinds::Status;
+use mastership::master_of;
+use rules::may_roll_back;
+use rules::reaches;
+use rules::rolled_back;
+use rules::synchronise;
+
+pub fn in_log(i: u16, n: u16) -> bool
+    ensures { λ r. ⌜ r ≡ (leb 1 i && leb i n) ⌝ }
+{
+    (1 <= i) & (i <= n)
+}
+
+pub fn is_node(n: u16) -> bool
+    ensures { λ r. ⌜ r ≡ isNode n ⌝ }
+{
+    (1 <= n) & (n <= 8)
+}
+
+pub fn append(s: &mut [u8], pairs: &[u8]) -> Reply
+    requires { ⌜ formed (now s) ≡ true ⌝ }
+    ensures { λ r. ⌜ Does (now (s .entry)) (appendOf (now (pairs .entry))) r (now (s .exit)) ⌝ }
+{
+    if valid(pairs) {
+        let n = log_length(s);
+        if n < 128 {
+            let t = entered(pairs);
+            grow(s, n, t);
+            let event = Event {
+                phase: 0,
+                stage: 0,
+                number: Number::of(n + 1),
+                status: Status::None,
+            };
+            return Reply { answer: 0, event };
+        }
+        return Reply::of(4);
+    }
+    Reply::of(3)
+}
+
+pub fn rollback(s: &mut [u8], number: u16) -> Reply
+    requires { ⌜ formed (now s) ≡ true ⌝ }
+    ensures { λ r. ⌜ Does (now (s .entry)) (rollback number) r (now (s .exit)) ⌝ }
+{
+    let n = log_length(s);
+    if in_log(number, n) {
+        let t = load_entry(s, number);
+        if may_roll_back(t) {
+            store_entry(s, number, rolled_back(t));
+            return Reply::of(0);
+        }
+        return Reply::of(6);
+    }
+    Reply::of(5)
+}
+
+pub fn start(s: &mut [u8]) -> Reply
+    requires { ⌜ formed (now s) ≡ true ⌝ }
+    ensures { λ r. ⌜ Does (now (s .entry)) start r (now (s .exit)) ⌝ }
+{
+    let x = rules::start(load_target(s));
+    let answer = x.answer;
+    if answer == 0 {
+        let target = x.target;
+        store_target(s, target);
+        return Reply::of(0);
+    }
+    Reply::of(answer)
+}
+
+pub fn stop(s: &mut [u8]) -> Reply
+    requires { ⌜ formed (now s) ≡ true ⌝ }
+    ensures { λ r. ⌜ Does (now (s .entry)) stop r (now (s .exit)) ⌝ }
+{
+    let x = rules::stop(load_target(s));
+    let answer = x.answer;
+    if answer == 0 {
+        let target = x.target;
+        let nodes = stop_of(load_connections(s));
+        store_target(s, target);
+        clear_target(s);
+        store_connections(s, nodes);
+        return Reply::of(0);
+    }
+    Reply::of(answer)
+}
+
+pub fn connect(s: &mut [u8], node: u16) -> Reply
+    requires { ⌜ formed (now s) ≡ true ⌝ }
+    ensures { λ r. ⌜ Does (now (s .entry)) (connect node) r (now (s .exit)) ⌝ }
+{
+    let t = load_target(s);
+    let x = connect_of(load_connections(s), node, t.running);
+    let answer = x.answer;
+    if answer == 0 {
+        let nodes = x.connections;
+        store_connections(s, nodes);
+        return Reply::of(0);
+    }
+    Reply::of(answer)
+}
+
+pub fn disconnect(s: &mut [u8], node: u16) -> Reply
+    requires { ⌜ formed (now s) ≡ true ⌝ }
+    ensures { λ r. ⌜ Does (now (s .entry)) (disconnect node) r (now (s .exit)) ⌝ }
+{
+    let x = disconnect_of(load_connections(s), node);
+    let answer = x.answer;
+    if answer == 0 {
+        let nodes = x.connections;
+        store_connections(s, nodes);
+        return Reply::of(0);
+    }
+    Reply::of(answer)
+}
+
+pub fn master(s: &mut [u8], node: u16) -> Reply
+    requires { ⌜ formed (now s) ≡ true ⌝ }
+    ensures { λ r. ⌜ Does (now (s .entry)) (master node) r (now (s .exit)) ⌝ }
+{
+    if is_node(node) {
+        let n = node as u8;
+        let c = load_connection(s, n);
+        let x = master_of(load_mastership(s), n, c.id, c.connected);
+        let answer = x.answer;
+        if answer == 0 {
+            let m = x.mastership;
+            store_mastership(s, m);
+            return Reply::of(0);
+        }
+        return Reply::of(answer);
+    }
+    Reply::of(2)
+}
+
+pub fn sync(s: &mut [u8], node: u16) -> Reply
+    requires { ⌜ formed (now s) ≡ true ⌝ }
+    ensures { λ r. ⌜ Does (now (s .entry)) (sync node) r (now (s .exit)) ⌝ }
+{
+    if is_node(node) {
+        let n = node as u8;
+        let m = load_mastership(s);
+        let reached = reaches(load_connection(s, n), m, load_target(s));
+        let term = m.term;
+        let x = synchronise(load_configuration(s), term, m.master == n, reached);
+        let answer = x.answer;
+        if answer == 0 {
+            let g = x.configuration;
+            store_configuration(s, g);
+            if x.copies {
+                copy_target(s);
+                return Reply::of(0);
+            }
+            return Reply::of(0);
+        }
+        return Reply::of(answer);
+    }
+    Reply::of(2)
+}
+
+fn args_ok(node: u16, job: u16, outcome: u16, cut: u16) -> bool
+    ensures { λ r. ⌜ r ≡ workOk node job outcome cut ⌝ }
+{
+    let node_ok = is_node(node);
+    (node_ok & ((1 <= job) & (job <= 4))) & ((outcome <= 1) & (cut <= 1))
+}
+
+fn of_commit(job: u16) -> bool
+    ensures { λ r. ⌜ r ≡ commits job ⌝ }
+{
+    if job == 1 {
+        return true;
+    }
+    job == 3
+}
+
+pub fn work(s: &mut [u8], node: u16, job: u16, number: u16, outcome: u16, cut: u16) -> Reply
+    requires { ⌜ formed (now s) ≡ true ⌝ }
+    ensures { λ r. ⌜ Does (now (s .entry)) (work node job number outcome cut) r (now (s .exit)) ⌝ }
+{
+    if args_ok(node, job, outcome, cut) {
+        let n = log_length(s);
+        if in_log(number, n) {
+            let m = load_mastership(s);
+            let at = node as u8;
+            if m.master == at {
+                let p = plan_of(s, at, job, number, outcome == 0);
+                perform(s, of_commit(job), number, p, cut == 1);
+                let event = p.event;
+                return Reply {
+                    answer: p.answer,
+                    event,
+                };
+            }
+            return Reply::of(10);
+        }
+        return Reply::of(5);
+    }
+    Reply::of(2)
+}

@@ -1,0 +1,201 @@
+// What a job plans: the records that its rules read are loaded from the image, and the rules decide.
+ghost use mathlib.Core.Path.{_≡_};
+ghost use mathlib.Core.Bool.{Bool, true, _&&_};
+ghost use Prim.Native.Nat.{_+_, _*_, _-_, _≤_};
+ghost use lib.Dec.{eqb, leb};
+ghost use lib.ListN.{length};
+ghost use Rattle.machine.specs.State.{lineOpenFor};
+ghost use Rattle.machine.specs.Settled.{settled};
+ghost use Rattle.machine.specs.Calls.{restOf, presentOne, present, job1, job2, job3, job4, planOf};
+ghost use Rattle.image.specs.Layout.{tableWidths, placeOf};
+ghost use Rattle.image.specs.Records.{entryAt, logLength};
+ghost use Rattle.image.specs.View.{view};
+ghost use Rattle.image.specs.Formed.{formed, allUpTo};
+ghost use Rattle.fields.specs.Field.{fieldsAt};
+ghost use Rattle.controller.specs.Claims.{Entry, sideSettledAt, entrySettledAt};
+use fields::get1;
+use fields::get4;
+use image::load_change;
+use image::load_configuration;
+use image::load_connection;
+use image::load_entry;
+use image::load_head;
+use image::load_mastership;
+use image::load_target;
+use image::load_value;
+use image::log_length;
+use kinds::Number;
+use kinds::Transaction;
+use rules::Plan;
+use rules::apply_change;
+use rules::apply_rollback;
+use rules::at_rest;
+use rules::commit_change;
+use rules::commit_rollback;
+use rules::line_open;
+
+// Whether the commit side is at rest.
+fn rest(s: &[u8]) -> bool
+    requires { ⌜ formed (now s) ≡ true ⌝ }
+    ensures { λ r. ⌜ r ≡ restOf (view (now (s .entry))) ⌝ }
+{
+    let h = load_head(s, 4612);
+    let i = h.index.get();
+    if i == 0 {
+        return h.target.get() == 0;
+    }
+    let t = load_entry(s, i);
+    let x = t.change;
+    let y = t.rollback;
+    let c = x.commit;
+    let r = y.commit;
+    at_rest(h, c, r)
+}
+
+// The committed value of a pair's path, where the pair is used.
+fn present_one(s: &[u8], used: bool, p: u8) -> u16
+    requires { ⌜ 4883 ≤ length (now s) ⌝ }
+    ensures { λ r. ⌜ r ≡ presentOne used (fieldsAt (now (s .entry)) 4622 tableWidths) p ⌝ }
+{
+    if used {
+        return load_value(s, 4622, p);
+    }
+    0
+}
+
+// The committed values of a change's paths.
+fn present(s: &[u8], t: Transaction) -> [u16; 4]
+    requires { ⌜ 4883 ≤ length (now s) ⌝ }
+    ensures { λ r. ⌜ r ≡ present (fieldsAt (now (s .entry)) 4622 tableWidths) t ⌝ }
+{
+    let n = t.count;
+    let p = t.paths;
+    let a = present_one(s, 0 < n, p[0]);
+    let b = present_one(s, 1 < n, p[1]);
+    let c = present_one(s, 2 < n, p[2]);
+    let d = present_one(s, 3 < n, p[3]);
+    [a, b, c, d]
+}
+
+// Whether a side does not carry ordinal o, or is Done applying: its apply code is at a place, its ordinal at another.
+fn side_settled(s: &[u8], o: u32, apply: usize, at: usize) -> bool
+    requires { ⌜ (apply + 1 ≤ length (now s)) × (at + 4 ≤ length (now s)) ⌝ }
+    ensures { λ r. ⌜ r ≡ sideSettledAt (now (s .entry)) o apply at ⌝ }
+{
+    if get4(s, at) == o {
+        return 3 <= get1(s, apply);
+    }
+    true
+}
+
+fn entry_settled(s: &[u8], o: u32, n: usize) -> bool
+    requires { ⌜ (1 ≤ n) × ((n ≤ 128) × (4883 ≤ length (now s))) ⌝ }
+    ensures { λ r. ⌜ r ≡ entrySettledAt (now (s .entry)) o n ⌝ }
+{
+    let at = 36 * (n - 1);
+    if side_settled(s, o, at + 1, at + 8) {
+        return side_settled(s, o, at + 3, at + 12);
+    }
+    false
+}
+
+// Entries 1 to n.
+fn entries_settled(s: &[u8], o: u32, n: usize) -> bool
+    requires { ⌜ (n ≤ 128) × (4883 ≤ length (now s)) ⌝ }
+    ensures { λ r. ⌜ r ≡ allUpTo (entrySettledAt (now (s .entry)) o) n ⌝ }
+{
+    let mut i = 0;
+    while i < n {
+        if !entry_settled(s, o, i + 1) {
+            return false;
+        }
+        i += 1;
+    }
+    true
+}
+
+// Whether the applied side is settled.
+fn settled(s: &[u8]) -> bool
+    requires { ⌜ formed (now s) ≡ true ⌝ }
+    ensures { λ r. ⌜ r ≡ settled (view (now (s .entry))) ⌝ }
+{
+    let o = get4(s, 4692);
+    if o == 0 {
+        return true;
+    }
+    let n = log_length(s);
+    entries_settled(s, o, n as usize)
+}
+
+// Whether the line is open for a node.
+fn line(s: &[u8], node: u8) -> bool
+    requires { ⌜ (formed (now s) ≡ true) × ((1 ≤ node) × (node ≤ 8)) ⌝ }
+    ensures { λ r. ⌜ r ≡ lineOpenFor (view (now (s .entry)) .net) node ⌝ }
+{
+    let x = load_connection(s, node);
+    let m = load_mastership(s);
+    let t = load_target(s);
+    let g = load_configuration(s);
+    line_open(node, x, m, t, g)
+}
+
+fn job1(s: &[u8], number: u16, accepted: bool) -> Plan
+    requires { ⌜ Entry (now s) number ⌝ }
+    ensures { λ r. ⌜ r ≡ job1 (view (now (s .entry))) number accepted ⌝ }
+{
+    let t = load_entry(s, number);
+    let h = load_head(s, 4612);
+    let change = load_change(s);
+    let quiet = rest(s);
+    let values = present(s, t);
+    commit_change(t, h, change, quiet, Number::of(number), accepted, values)
+}
+
+fn job2(s: &[u8], node: u8, number: u16, accepted: bool) -> Plan
+    requires { ⌜ Entry (now s) number × ((1 ≤ node) × (node ≤ 8)) ⌝ }
+    ensures { λ r. ⌜ r ≡ job2 (view (now (s .entry))) node number accepted ⌝ }
+{
+    let t = load_entry(s, number);
+    let h = load_head(s, 4686);
+    let quiet = settled(s);
+    let open = line(s, node);
+    apply_change(t, h, quiet, Number::of(number), open, accepted)
+}
+
+fn job3(s: &[u8], number: u16) -> Plan
+    requires { ⌜ Entry (now s) number ⌝ }
+    ensures { λ r. ⌜ r ≡ job3 (view (now (s .entry))) number ⌝ }
+{
+    let t = load_entry(s, number);
+    let h = load_head(s, 4612);
+    let quiet = rest(s);
+    commit_rollback(t, h, quiet, Number::of(number))
+}
+
+fn job4(s: &[u8], node: u8, number: u16, accepted: bool) -> Plan
+    requires { ⌜ Entry (now s) number × ((1 ≤ node) × (node ≤ 8)) ⌝ }
+    ensures { λ r. ⌜ r ≡ job4 (view (now (s .entry))) node number accepted ⌝ }
+{
+    let t = load_entry(s, number);
+    let h = load_head(s, 4686);
+    let quiet = settled(s);
+    let open = line(s, node);
+    apply_rollback(t, h, quiet, Number::of(number), open, accepted)
+}
+
+// The plan of a node's job for an entry.
+pub fn plan_of(s: &[u8], node: u8, job: u16, number: u16, accepted: bool) -> Plan
+    requires { ⌜ Entry (now s) number × ((1 ≤ node) × (node ≤ 8)) ⌝ }
+    ensures { λ r. ⌜ r ≡ planOf (view (now (s .entry))) node job number accepted ⌝ }
+{
+    if job == 1 {
+        return job1(s, number, accepted);
+    }
+    if job == 2 {
+        return job2(s, node, number, accepted);
+    }
+    if job == 3 {
+        return job3(s, number);
+    }
+    job4(s, node, number, accepted)
+}

@@ -1,0 +1,115 @@
+// The controller: every call of the paper on one lent image. A public call has no `requires`: it refuses by number, and
+// then every byte is what it had been.
+ghost use mathlib.Core.Path.{_≡_};
+ghost use mathlib.Core.Bool.{true};
+ghost use Rattle.machine.specs.Calls.{rollback, start, stop, connect, disconnect, master, sync, work};
+ghost use Rattle.image.specs.Formed.{formed};
+ghost use Rattle.controller.specs.Claims.{Claims, Does};
+ghost use Rattle.controller.specs.Bytes.{appendOf};
+use image::well_formed;
+use kinds::Reply;
+
+mod pairs; // pairs.rt: the lent pairs of an append
+mod perform; // perform.rt: a plan's stores, carried out
+mod deciding; // deciding.rt: what a job plans, from the records that it loads
+mod calls; // calls.rt: each call on a well-formed image
+mod clearing; // clearing.rt: a fresh image
+mod walking; // walking.rt: the live list
+mod reads; // reads.rt: one number of the state at a time
+
+pub use clearing::fresh;
+pub use reads::Heads;
+pub use reads::Read;
+pub use reads::both_heads;
+pub use reads::connection;
+pub use reads::record;
+pub use reads::transaction;
+pub use reads::value;
+pub use walking::Listed;
+pub use walking::live;
+
+// Takes a change into the log: its pairs, four bytes each.
+pub fn append(s: &mut [u8], pairs: &[u8]) -> Reply
+    ensures { λ r. ⌜ Claims (now (s .entry)) (appendOf (now (pairs .entry))) r (now (s .exit)) ⌝ }
+{
+    if well_formed(s) {
+        return calls::append(s, pairs);
+    }
+    Reply::of(1)
+}
+
+// Asks for the rollback of a change.
+pub fn rollback(s: &mut [u8], number: u16) -> Reply
+    ensures { λ r. ⌜ Claims (now (s .entry)) (rollback number) r (now (s .exit)) ⌝ }
+{
+    if well_formed(s) {
+        return calls::rollback(s, number);
+    }
+    Reply::of(1)
+}
+
+pub fn start(s: &mut [u8]) -> Reply
+    ensures { λ r. ⌜ Claims (now (s .entry)) start r (now (s .exit)) ⌝ }
+{
+    if well_formed(s) {
+        return calls::start(s);
+    }
+    Reply::of(1)
+}
+
+pub fn stop(s: &mut [u8]) -> Reply
+    ensures { λ r. ⌜ Claims (now (s .entry)) stop r (now (s .exit)) ⌝ }
+{
+    if well_formed(s) {
+        return calls::stop(s);
+    }
+    Reply::of(1)
+}
+
+pub fn connect(s: &mut [u8], node: u16) -> Reply
+    ensures { λ r. ⌜ Claims (now (s .entry)) (connect node) r (now (s .exit)) ⌝ }
+{
+    if well_formed(s) {
+        return calls::connect(s, node);
+    }
+    Reply::of(1)
+}
+
+pub fn disconnect(s: &mut [u8], node: u16) -> Reply
+    ensures { λ r. ⌜ Claims (now (s .entry)) (disconnect node) r (now (s .exit)) ⌝ }
+{
+    if well_formed(s) {
+        return calls::disconnect(s, node);
+    }
+    Reply::of(1)
+}
+
+// Gives mastership to a node that asks, or takes it from one that is lost.
+pub fn master(s: &mut [u8], node: u16) -> Reply
+    ensures { λ r. ⌜ Claims (now (s .entry)) (master node) r (now (s .exit)) ⌝ }
+{
+    if well_formed(s) {
+        return calls::master(s, node);
+    }
+    Reply::of(1)
+}
+
+// Brings the applied values to the target, in two calls.
+pub fn sync(s: &mut [u8], node: u16) -> Reply
+    ensures { λ r. ⌜ Claims (now (s .entry)) (sync node) r (now (s .exit)) ⌝ }
+{
+    if well_formed(s) {
+        return calls::sync(s, node);
+    }
+    Reply::of(1)
+}
+
+// One step of a job: 1 commit change, 2 apply change, 3 commit rollback, 4 apply rollback.
+pub fn work(s: &mut [u8], node: u16, job: u16, number: u16, outcome: u16, cut: u16) -> Reply
+    ensures { λ r. ⌜ Claims (now (s .entry)) (work node job number outcome cut) r (now (s .exit)) ⌝ }
+{
+    if well_formed(s) {
+        return calls::work(s, node, job, number, outcome, cut);
+    }
+    Reply::of(1)
+}

@@ -1,0 +1,88 @@
+// The live list: a recursive walk from the committed revision; each hop goes to r.index until 0.
+ghost use mathlib.Core.Path.{_≡_};
+ghost use mathlib.Core.Bool.{true};
+ghost use mathlib.Core.List.{_++_};
+ghost use Prim.Native.Nat.{_+_, _≤_, _<_};
+ghost use lib.ListN.{length, take, drop};
+ghost use Rattle.machine.specs.State.{entryOf};
+ghost use Rattle.image.specs.View.{view};
+ghost use Rattle.image.specs.Formed.{formed};
+ghost use Rattle.controller.specs.Claims.{Entry};
+ghost use Rattle.controller.specs.Live.{Lists, ListsLive, liveFrom, Chained, Placed};
+use image::load_entry;
+use image::load_head;
+use image::well_formed;
+
+// The refusal, or 0, and the length of the list.
+pub struct Listed {
+    pub answer: u8,
+    pub length: u16,
+}
+
+// Where a hop from an entry goes: to a lower number.
+fn hop(s: &[u8], v: u16) -> u16
+    requires { ⌜ Entry (now s) v ⌝ }
+    ensures { λ r. ⌜ (r ≡ entryOf (view (now (s .entry)) .log) v .index .0) × (r < v) ⌝ }
+{
+    let t = load_entry(s, v);
+    let i = t.index;
+    i.get()
+}
+
+// How many hops there are from v to 0.
+fn count(s: &[u8], v: u16) -> u16
+    requires { ⌜ Chained (now s) v ⌝ }
+    ensures { λ r. ⌜ (r ≡ length (liveFrom (view (now (s .entry))) v)) × (r ≤ v) ⌝ }
+{
+    if v == 0 {
+        return 0;
+    }
+    let next = hop(s, v);
+    count(s, next) + 1
+}
+
+// Writes the list from v on, at a place and after it.
+fn walk(s: &[u8], v: u16, room: &mut [u16], at: usize)
+    requires { ⌜ Placed (now s) v at (length (now room)) ⌝ }
+    ensures { λ _. ⌜ now (room .exit) ≡ take at (now (room .entry)) ++ (liveFrom (view (now (s .entry))) v ++ drop (at + length (liveFrom (view (now (s .entry))) v)) (now (room .entry))) ⌝ }
+{
+    if v == 0 {
+        return;
+    }
+    let next = hop(s, v);
+    room[at] = v;
+    walk(s, next, room, at + 1);
+}
+
+fn list(s: &[u8], room: &mut [u16]) -> Listed
+    requires { ⌜ formed (now s) ≡ true ⌝ }
+    ensures { λ r. ⌜ ListsLive (now (s .entry)) (now (room .entry)) r (now (room .exit)) ⌝ }
+{
+    let h = load_head(s, 4612);
+    let v = h.revision.get();
+    let n = count(s, v);
+    if n as usize <= room.len() {
+        walk(s, v, room, 0);
+        return Listed {
+            answer: 0,
+            length: n,
+        };
+    }
+    Listed {
+        answer: 14,
+        length: 0,
+    }
+}
+
+// The live list, newest first, in the room lent, and its length; room past it stays. Refuses 1, 14.
+pub fn live(s: &[u8], room: &mut [u16]) -> Listed
+    ensures { λ r. ⌜ Lists (now (s .entry)) (now (room .entry)) r (now (room .exit)) ⌝ }
+{
+    if well_formed(s) {
+        return list(s, room);
+    }
+    Listed {
+        answer: 1,
+        length: 0,
+    }
+}

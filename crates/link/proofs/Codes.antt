@@ -1,0 +1,249 @@
+-- Codes stay codes: a store that has room leaves the statuses of every entry and the flags in range. Assumes nothing.
+use Prim.Native.Nat.{ℕ, _+_, _*_, _≤_, _<_}
+use mathlib.Core.Path.{_≡_, refl, ap, sym, _∙_, subst}
+use mathlib.Core.Logic.{inl, inr}
+use mathlib.Core.Bool.{Bool, true, false, _&&_}
+use mathlib.Core.List.{List, [], _∷_}
+use native.Mathlib.Omega.{arith}
+use borrow.Author.Tests.{eqb-true, eqb-false, le-leb, ltb-true, ltb-false}
+use lib.Dec.{eqb, leb, ltb}
+use lib.ListN.{length, getD}
+use Rattle.kinds.specs.declared.Transaction.{Transaction}
+use Rattle.kinds.specs.declared.Connection.{Connection}
+use Rattle.kinds.specs.declared.Configuration.{Configuration}
+use Rattle.kinds.specs.declared.Mastership.{Mastership}
+use Rattle.kinds.specs.declared.Target.{Target}
+use Rattle.kinds.specs.Statuses.{progressCode}
+use Rattle.machine.specs.State.{never}
+use Rattle.fields.specs.Field.{field, putField, fieldsAt, putFields, total}
+use Rattle.fields.proofs.Laws.{Outside, put-outside}
+use Rattle.fields.proofs.Runs.{Fit, puts-outside, puts-same, fields-kept}
+use Rattle.machine.specs.Entries.{and-both}
+use Rattle.machine.specs.Stores.{Table, ofCommitted, ofApplied, ofTarget, Store, grow, entry, change, committedHead, appliedHead, value, targetValues, configuration, mastership, connections, target}
+use Rattle.image.specs.Layout.{entryWidths, headWidths, tableWidths, configurationWidths, mastershipWidths, targetWidths, connectionsWidths, placeOf, lengthAt, changeAt, committedAt, appliedAt, valuesAt, configurationAt, mastershipAt, targetAt, connectionsAt, imageLength}
+use Rattle.image.specs.Records.{flagCode, entryNumbers, putEntryAt, logLength, headNumbers, putHeadAt, configurationNumbers, putConfiguration, mastershipNumbers, putMastership, targetNumbers, putTarget, connectionsNumbers, eight, putConnections}
+use Rattle.image.specs.View.{write, writeIf, written}
+use Rattle.image.specs.Formed.{allUpTo, statusesOk, entryStatusesOk, flagsOk, codesOk}
+use Rattle.image.proofs.UpTo.{and-left, and-right, all-at, all-from}
+use Rattle.image.proofs.Kept.{Apart, statuses-kept, length-kept}
+use Rattle.image.proofs.Sized.{SizedEntry, SizedConnections, code-low, progress-low, flag-low, entry-room, configuration-room, target-room, connections-room, eight-all}
+use Rattle.image.proofs.Shown.{Fits, FitsAll, grown, entries-apart, entry-outside, grow-outside, length-write, count-write, grown-few}
+
+-- ---- the flags, in the three runs where they lie
+abbrev pub stateOk : List ℕ → Bool
+stateOk g = leb 1 (getD g 0 0) && leb (getD g 0 0) 3
+
+abbrev pub runningOk : List ℕ → Bool
+runningOk t = leb (getD t 1 0) 1
+
+abbrev pub nodesOk : List ℕ → Bool
+nodesOk x =
+    (leb (getD x 1 0) 1 && (leb (getD x 3 0) 1 && (leb (getD x 5 0) 1 && leb (getD x 7 0) 1)))
+    && (leb (getD x 9 0) 1 && (leb (getD x 11 0) 1 && (leb (getD x 13 0) 1 && leb (getD x 15 0) 1)))
+
+abbrev pub stateRun : List ℕ → List ℕ
+stateRun l = fieldsAt l configurationAt configurationWidths
+
+abbrev pub targetRun : List ℕ → List ℕ
+targetRun l = fieldsAt l targetAt targetWidths
+
+abbrev pub nodesRun : List ℕ → List ℕ
+nodesRun l = fieldsAt l connectionsAt connectionsWidths
+
+flags-are : (l : List ℕ) → flagsOk l ≡ (stateOk (stateRun l) && (runningOk (targetRun l) && nodesOk (nodesRun l)))
+unfolding flagsOk fieldsAt
+flags-are l = refl
+
+-- each of them, anew
+state-ok : (g : Configuration) → stateOk (configurationNumbers g) ≡ true
+state-ok g = and-both (leb 1 (progressCode (g .state))) (leb (progressCode (g .state)) 3) (le-leb _ _ (progress-low (g .state) .0)) (le-leb _ _ (progress-low (g .state) .1))
+
+running-ok : (t : Target) → runningOk (targetNumbers t) ≡ true
+running-ok t = le-leb (flagCode (t .running)) 1 (flag-low (t .running))
+
+nodes-ok : (xs : List Connection) → nodesOk (connectionsNumbers (eight xs)) ≡ true
+nodes-ok xs = rw (low 0, low 1, low 2, low 3, low 4, low 5, low 6, low 7)
+  where
+    low : (k : ℕ) → leb (flagCode (getD xs k never .connected)) 1 ≡ true
+    low k = le-leb _ 1 (flag-low (getD xs k never .connected))
+
+-- ---- the statuses of an entry that was stored
+stored-statuses : (m : List ℕ) (at : ℕ) (t : Transaction) → fieldsAt m at entryWidths ≡ entryNumbers t → statusesOk m at ≡ true
+unfolding statusesOk fieldsAt
+stored-statuses m at t q =
+    let two : at + 2 ≡ at + 1 + 1 = omega arith in
+    let three : at + 3 ≡ at + 1 + 1 + 1 = omega arith in
+    and-both _ _ (ap (λ (x : List ℕ). leb (getD x 0 0) 6) q ∙ le-leb _ _ (code-low (t .change .commit)))
+    (and-both _ _ (ap (λ (x : List ℕ). leb (getD x 1 0) 6) q ∙ le-leb _ _ (code-low (t .change .apply)))
+    (and-both _ _ (ap (λ (x : ℕ). leb (field m x 1) 6) two ∙ ap (λ (x : List ℕ). leb (getD x 2 0) 6) q ∙ le-leb _ _ (code-low (t .rollback .commit)))
+    (ap (λ (x : ℕ). leb (field m x 1) 6) three ∙ ap (λ (x : List ℕ). leb (getD x 3 0) 6) q ∙ le-leb _ _ (code-low (t .rollback .apply)))))
+
+-- ---- an image of which the codes are codes
+pub record Codes (l : List ℕ) : Type 0 where
+  pub entries : (k : ℕ) → 1 ≤ k → k ≤ logLength l → statusesOk l (placeOf k) ≡ true
+  pub state : stateOk (stateRun l) ≡ true
+  pub running : runningOk (targetRun l) ≡ true
+  pub nodes : nodesOk (nodesRun l) ≡ true
+
+pub codes : (l : List ℕ) → codesOk l ≡ true → Codes l
+codes l h =
+    let e : (stateOk (stateRun l) && (runningOk (targetRun l) && nodesOk (nodesRun l))) ≡ true = sym (flags-are l) ∙ and-right (allUpTo (entryStatusesOk l) (logLength l)) (flagsOk l) h in
+    let r : (runningOk (targetRun l) && nodesOk (nodesRun l)) ≡ true = and-right (stateOk (stateRun l)) _ e in
+    record {
+      entries = all-at (entryStatusesOk l) (logLength l) (and-left (allUpTo (entryStatusesOk l) (logLength l)) (flagsOk l) h);
+      state = and-left (stateOk (stateRun l)) _ e;
+      running = and-left (runningOk (targetRun l)) _ r;
+      nodes = and-right (runningOk (targetRun l)) _ r;
+    }
+
+pub codes-ok : (l : List ℕ) → Codes l → codesOk l ≡ true
+codes-ok l c =
+    and-both (allUpTo (entryStatusesOk l) (logLength l)) (flagsOk l) (all-from (entryStatusesOk l) (logLength l) (c .entries))
+    (flags-are l ∙ and-both (stateOk (stateRun l)) _ (c .state) (and-both (runningOk (targetRun l)) (nodesOk (nodesRun l)) (c .running) (c .nodes)))
+
+-- ---- what a store changes, from a to below e
+module _ (l m : List ℕ) (a e : ℕ) (o : Outside l m a e) (c : Codes l) where
+  same-state : Apart a e configurationAt 5 → stateOk (stateRun m) ≡ true
+  same-state h = ap (λ (x : List ℕ). stateOk x) (fields-kept l m a e o configurationWidths configurationAt h) ∙ c .state
+
+  same-running : Apart a e targetAt 5 → runningOk (targetRun m) ≡ true
+  same-running h = ap (λ (x : List ℕ). runningOk x) (fields-kept l m a e o targetWidths targetAt h) ∙ c .running
+
+  same-nodes : Apart a e connectionsAt 40 → nodesOk (nodesRun m) ≡ true
+  same-nodes h = ap (λ (x : List ℕ). nodesOk x) (fields-kept l m a e o connectionsWidths connectionsAt h) ∙ c .nodes
+
+  -- before the flags
+  below : ((k : ℕ) → 1 ≤ k → k ≤ logLength m → statusesOk m (placeOf k) ≡ true) → e ≤ configurationAt → Codes m
+  below h q = record { entries = h; state = same-state (inr (omega arith)); running = same-running (inr (omega arith)); nodes = same-nodes (inr (omega arith)) }
+
+  -- past the log
+  same-statuses : lengthAt + 2 ≤ a → logLength l ≤ 128 → (k : ℕ) → 1 ≤ k → k ≤ logLength m → statusesOk m (placeOf k) ≡ true
+  same-statuses p f k x y =
+      let n : logLength m ≡ logLength l = length-kept l m a e o (inl p) in statuses-kept l m a e o k (inl (omega arith)) ∙ c .entries k x (omega arith)
+
+module _ (l : List ℕ) (z : length l ≡ imageLength) (f : logLength l ≤ 128) (c : Codes l) where
+  -- ---- entries
+  stored : (i : ℕ) (t : Transaction) → SizedEntry t → i ≤ 128 → statusesOk (putEntryAt l i t) (placeOf i) ≡ true
+  unfolding putEntryAt
+  stored i t h k = stored-statuses _ (placeOf i) t (puts-same entryWidths (entryNumbers t) l (placeOf i) (entry-room t h) (omega arith))
+
+  entry-codes : (i : ℕ) (t : Transaction) → SizedEntry t → (1 ≤ i) × (i ≤ logLength l) → Codes (putEntryAt l i t)
+  entry-codes i t h b =
+      let m = putEntryAt l i t in
+      let o : Outside l m (placeOf i) (placeOf i + 36) = entry-outside l z f i t in
+      let n : logLength m ≡ logLength l = length-kept l m _ _ o (inr (omega (arith, b .0, b .1))) in
+      below l m _ _ o c (λ k p q. go k p (omega arith) (eqb k i) refl) (omega (arith, b .0, b .1))
+    where
+      go : (k : ℕ) → 1 ≤ k → k ≤ logLength l → (x : Bool) → eqb k i ≡ x → statusesOk (putEntryAt l i t) (placeOf k) ≡ true
+      go k p q true e = subst (λ (x : ℕ). statusesOk (putEntryAt l i t) (placeOf x) ≡ true) (sym (eqb-true k i e)) (stored i t h (omega (arith, b .1)))
+      go k p q false e =
+          statuses-kept l (putEntryAt l i t) _ _ (entry-outside l z f i t) k (entries-apart i k (b .0) p (eqb-false k i e)) ∙ c .entries k p q
+
+  grow-codes : (t : Transaction) → SizedEntry t → logLength l < 128 → Codes (putField (putEntryAt l (logLength l + 1) t) lengthAt 2 (logLength l + 1))
+  unfolding write
+  grow-codes t h b =
+      let n = logLength l in
+      let l1 = putEntryAt l (n + 1) t in
+      let m = putField l1 lengthAt 2 (n + 1) in
+      let w : logLength m ≡ n + 1 = count-write l z f (grow t) (h, b) in
+      below l m _ _ (grow-outside l z f t b) c (λ k p q. go k p (omega arith) (ltb k (n + 1)) refl) (omega arith)
+    where
+      up : (k : ℕ) → k ≤ 128 → statusesOk (putField (putEntryAt l (logLength l + 1) t) lengthAt 2 (logLength l + 1)) (placeOf k) ≡ statusesOk (putEntryAt l (logLength l + 1) t) (placeOf k)
+      up k q =
+          statuses-kept (putEntryAt l (logLength l + 1) t) _ lengthAt (lengthAt + 2) (put-outside 2 (putEntryAt l (logLength l + 1) t) lengthAt (logLength l + 1)) k (inl (omega arith))
+
+      go : (k : ℕ) → 1 ≤ k → k ≤ logLength l + 1 → (x : Bool) → ltb k (logLength l + 1) ≡ x
+          → statusesOk (putField (putEntryAt l (logLength l + 1) t) lengthAt 2 (logLength l + 1)) (placeOf k) ≡ true
+      go k p q true e =
+          let d : k < logLength l + 1 = ltb-true k (logLength l + 1) e in
+          up k (omega arith) ∙ statuses-kept l (putEntryAt l (logLength l + 1) t) _ _ (entry-outside l z f (logLength l + 1) t) k (inl (omega arith)) ∙ c .entries k p (omega arith)
+      go k p q false e =
+          let d : logLength l + 1 ≡ k = omega (arith, ltb-false k (logLength l + 1) e) in
+          up k (omega arith) ∙ subst (λ (x : ℕ). statusesOk (putEntryAt l (logLength l + 1) t) (placeOf x) ≡ true) d (stored (logLength l + 1) t h (omega arith))
+
+  -- ---- past the log
+  put-codes : (at x : ℕ) → lengthAt + 2 ≤ at → at + 2 ≤ configurationAt → Codes (putField l at 2 x)
+  put-codes at x p q = let o : Outside l (putField l at 2 x) at (at + 2) = put-outside 2 l at x in below l _ _ _ o c (same-statuses l _ _ _ o c p f) q
+
+  puts-codes : (ws xs : List ℕ) (at : ℕ) → lengthAt + 2 ≤ at → at + total ws ≤ configurationAt → Codes (putFields l at ws xs)
+  puts-codes ws xs at p q =
+      let o : Outside l (putFields l at ws xs) at (at + total ws) = puts-outside ws xs l at in below l _ _ _ o c (same-statuses l _ _ _ o c p f) q
+
+  value-codes : (x : Bool) (b : Table) (p v : ℕ) → ltb p 32 ≡ x → Codes (writeIf x (putField l (valuesAt b + 2 * p) 2 v) l)
+  value-codes true ofCommitted p v e = put-codes _ v (omega arith) (omega (arith, ltb-true p 32 e))
+  value-codes true ofApplied p v e = put-codes _ v (omega arith) (omega (arith, ltb-true p 32 e))
+  value-codes true ofTarget p v e = put-codes _ v (omega arith) (omega (arith, ltb-true p 32 e))
+  value-codes false b p v e = c
+
+  configuration-codes : (g : Configuration) → g .term .0 < 4294967296 → Codes (putConfiguration l g)
+  unfolding putConfiguration
+  configuration-codes g h =
+      let m = putFields l configurationAt configurationWidths (configurationNumbers g) in
+      let o : Outside l m configurationAt (configurationAt + 5) = puts-outside configurationWidths (configurationNumbers g) l configurationAt in
+      record {
+        entries = same-statuses l m _ _ o c (omega arith) f;
+        state = ap (λ (x : List ℕ). stateOk x) (puts-same configurationWidths (configurationNumbers g) l configurationAt (configuration-room g h) (omega arith)) ∙ state-ok g;
+        running = same-running l m _ _ o c (inr (omega arith));
+        nodes = same-nodes l m _ _ o c (inr (omega arith));
+      }
+
+  mastership-codes : (x : Mastership) → Codes (putMastership l x)
+  unfolding putMastership
+  mastership-codes x =
+      let m = putFields l mastershipAt mastershipWidths (mastershipNumbers x) in
+      let o : Outside l m mastershipAt (mastershipAt + 9) = puts-outside mastershipWidths (mastershipNumbers x) l mastershipAt in
+      record {
+        entries = same-statuses l m _ _ o c (omega arith) f;
+        state = same-state l m _ _ o c (inl (omega arith));
+        running = same-running l m _ _ o c (inr (omega arith));
+        nodes = same-nodes l m _ _ o c (inr (omega arith));
+      }
+
+  target-codes : (t : Target) → t .id < 4294967296 → Codes (putTarget l t)
+  unfolding putTarget
+  target-codes t h =
+      let m = putFields l targetAt targetWidths (targetNumbers t) in
+      let o : Outside l m targetAt (targetAt + 5) = puts-outside targetWidths (targetNumbers t) l targetAt in
+      record {
+        entries = same-statuses l m _ _ o c (omega arith) f;
+        state = same-state l m _ _ o c (inl (omega arith));
+        running = ap (λ (x : List ℕ). runningOk x) (puts-same targetWidths (targetNumbers t) l targetAt (target-room t h) (omega arith)) ∙ running-ok t;
+        nodes = same-nodes l m _ _ o c (inr (omega arith));
+      }
+
+  nodes-codes : (xs : List Connection) → SizedConnections xs → Codes (putConnections l xs)
+  unfolding putConnections
+  nodes-codes xs h =
+      let ns = connectionsNumbers (eight xs) in
+      let m = putFields l connectionsAt connectionsWidths ns in
+      let o : Outside l m connectionsAt (connectionsAt + 40) = puts-outside connectionsWidths ns l connectionsAt in
+      let r : Fit connectionsWidths ns = subst (λ (y : List Connection). Fit connectionsWidths (connectionsNumbers y)) (eight-all xs (h .size)) (connections-room xs h) in
+      record {
+        entries = same-statuses l m _ _ o c (omega arith) f;
+        state = same-state l m _ _ o c (inl (omega arith));
+        running = same-running l m _ _ o c (inl (omega arith));
+        nodes = ap (λ (x : List ℕ). nodesOk x) (puts-same connectionsWidths ns l connectionsAt r (omega arith)) ∙ nodes-ok xs;
+      }
+
+  -- ---- any store
+  pub write-codes : (e : Store) → Fits (logLength l) e → Codes (write l e)
+  unfolding write putHeadAt
+  write-codes (grow t) h = grow-codes t (h .0) (h .1)
+  write-codes (entry i t) h = entry-codes i t (h .0) (h .1)
+  write-codes (change n) h = put-codes changeAt (n .0) (omega arith) (omega arith)
+  write-codes (committedHead k) h = puts-codes headWidths (headNumbers k) committedAt (omega arith) (omega arith)
+  write-codes (appliedHead k) h = puts-codes headWidths (headNumbers k) appliedAt (omega arith) (omega arith)
+  write-codes (value b p v) h = value-codes (ltb p 32) b p v refl
+  write-codes (targetValues vs) h = puts-codes tableWidths vs (valuesAt ofTarget) (omega arith) (omega arith)
+  write-codes (configuration g) h = configuration-codes g h
+  write-codes (mastership m) h = mastership-codes m
+  write-codes (connections xs) h = nodes-codes xs h
+  write-codes (target t) h = target-codes t h
+
+-- ---- any row of stores
+pub codes-written : (es : List Store) (l : List ℕ) → length l ≡ imageLength → logLength l ≤ 128 → FitsAll (logLength l) es → Codes l → Codes (written l es)
+unfolding written
+codes-written [] l z f h c = c
+codes-written (e ∷ es) l z f h c =
+    let n : logLength (write l e) ≡ grown (logLength l) e = count-write l z f e (h .0) in
+    codes-written es (write l e) (length-write l z f e) (omega (arith, grown-few (logLength l) e (h .0) f)) (rw n (h .1)) (write-codes l z f c e (h .0))

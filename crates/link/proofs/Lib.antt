@@ -1,0 +1,9 @@
+pub mod Sizes
+pub mod Rooms
+pub mod Codes
+pub mod Lent
+pub mod Refused
+pub mod Link
+pub mod Unused
+pub mod Agree
+pub mod Fresh
