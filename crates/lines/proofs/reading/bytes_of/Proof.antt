@@ -1,0 +1,21 @@
+use borrow.Author.Tests.{eq-eqb, ne-eqb, lt-ltb, le-ltb, le-leb, lt-leb}
+use borrow.Author.Needs.{needs}
+use Rattle.lines.proofs.reading.bytes_of.Statement.{statement}
+use Rattle.lines.proofs.reading.bytes_of.Tie as tie
+use Rattle.lines.proofs.reading.bytes_of.Reads as reads
+use Rattle.lines.proofs.reading.bytes_of.Lts as lts
+
+-- src/reading.rt:290:16
+mul-result : tie.Need-mul-result
+mul-result c = search needs
+
+-- src/reading.rt:290:9
+returns : tie.Need-returns
+returns c = simp (lt-ltb _ _ (c .if1 .taken))
+
+-- src/reading.rt:286:1
+returns-2 : tie.Need-returns-2
+returns-2 c = simp (le-ltb _ _ (c .if1 .left))
+
+pub bytes-of-spec : {M : Type 1} → statement M
+bytes-of-spec = tie.close (tie.spec mul-result returns returns-2)

@@ -1,0 +1,6 @@
+pub mod Text
+pub mod Decimal
+pub mod Grammar
+pub mod Reading
+pub mod Handed
+pub mod Replies

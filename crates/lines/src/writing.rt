@@ -1,0 +1,84 @@
+// The lines that the program writes: a reply, and the closing line (paper: Program and host).
+ghost use mathlib.Core.Path.{_≡_};
+ghost use Prim.Native.Nat.{_+_, _≤_, _<_};
+ghost use lib.ListN.{length};
+ghost use mathlib.Core.List.{_++_};
+ghost use Rattle.lines.specs.Decimal.{decimal};
+ghost use Rattle.lines.specs.Replies.{keyed, replyLine, closingLine, Put, Written};
+use kinds::Reply;
+
+// The decimal digits of `n` from `at` on; answers where they end.
+fn put_decimal(out: &mut [u8], at: usize, n: u32) -> usize
+    requires { ⌜ at + length (decimal n) ≤ length (now out) ⌝ }
+    ensures { λ r. ⌜ Put (now (out .entry)) at (decimal n) r (now (out .exit)) ⌝ }
+{
+    if n < 10 {
+        out[at] = 48 + n as u8;
+        return at + 1;
+    }
+    let end = put_decimal(out, at, n / 10);
+    out[end] = 48 + (n % 10) as u8;
+    end + 1
+}
+
+// The bytes of `t` from `at` on; answers where they end.
+fn put_text(out: &mut [u8], at: usize, t: &[u8]) -> usize
+    requires { ⌜ at + length (now t) ≤ length (now out) ⌝ }
+    ensures { λ r. ⌜ Put (now (out .entry)) at (now (t .entry)) r (now (out .exit)) ⌝ }
+{
+    let mut i = 0;
+    while i < t.len() {
+        out[at + i] = t[i];
+        i += 1;
+    }
+    at + i
+}
+
+// A key and its number.
+fn put_keyed(out: &mut [u8], at: usize, key: &[u8], n: u32) -> usize
+    requires { ⌜ at + length (keyed (now key) n) ≤ length (now out) ⌝ }
+    ensures { λ r. ⌜ Put (now (out .entry)) at (keyed (now (key .entry)) n) r (now (out .exit)) ⌝ }
+{
+    let end = put_text(out, at, key);
+    put_decimal(out, end, n)
+}
+
+// The length of the reply's line, written at the start of `out`; 0 and nothing written where `out` has no room for 96 bytes.
+pub fn write_reply(out: &mut [u8], reply: Reply) -> usize
+    ensures { λ r. ⌜ Written (now (out .entry)) (replyLine reply) r (now (out .exit)) ⌝ }
+{
+    if out.len() < 96 {
+        return 0;
+    }
+    let event = reply.event;
+    let number = event.number;
+    let status = event.status;
+    let n = number.get();
+    let s = status.code();
+    let a = put_keyed(out, 0, b"answer=", reply.answer as u32);
+    let b = put_keyed(out, a, b" phase=", event.phase as u32);
+    let c = put_keyed(out, b, b" stage=", event.stage as u32);
+    let d = put_keyed(out, c, b" number=", n as u32);
+    let e = put_keyed(out, d, b" status=", s as u32);
+    put_text(out, e, b"\n")
+}
+
+// The same for the closing line.
+pub fn write_closing(
+    out: &mut [u8],
+    committed: u16,
+    committed_ordinal: u32,
+    applied: u16,
+    applied_ordinal: u32,
+) -> usize
+    ensures { λ r. ⌜ Written (now (out .entry)) (closingLine committed «committed_ordinal» applied «applied_ordinal») r (now (out .exit)) ⌝ }
+{
+    if out.len() < 96 {
+        return 0;
+    }
+    let a = put_keyed(out, 0, b"committed=", committed as u32);
+    let b = put_keyed(out, a, b" committed_ordinal=", committed_ordinal);
+    let c = put_keyed(out, b, b" applied=", applied as u32);
+    let d = put_keyed(out, c, b" applied_ordinal=", applied_ordinal);
+    put_text(out, d, b"\n")
+}

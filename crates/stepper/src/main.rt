@@ -1,0 +1,201 @@
+// The stepper: calls from standard input, one to a line, an answer to a line on standard output, and a closing line (paper:
+// Program and host). It reads and writes by blocks and keeps one image, one block, one buffer of answers and the reader of
+// one line, whatever the input's length and its lines' length.
+ghost use Prim.Native.Nat.{_≤_};
+ghost use lib.ListN.{length};
+use kinds::Reply;
+use libc::STDIN_FILENO;
+use libc::STDOUT_FILENO;
+use lines::Call;
+use lines::Line;
+use lines::Reader;
+
+// Between two bytes: the line so far, whether it has a byte, and how much of the buffer is answers not yet written.
+struct Session {
+    line: Reader,
+    begun: bool,
+    used: usize,
+}
+
+struct Turn {
+    more: bool,
+    session: Session,
+}
+
+fn append(image: &mut [u8], pairs: [u8; 20], n: usize) -> Reply
+    requires { ⌜ n ≤ 20 ⌝ }
+{
+    controller::append(image, &pairs[..n])
+}
+
+// The call that a line says, made on the image; an unreadable line is refused with 2.
+fn answer(image: &mut [u8], line: Line) -> Reply
+    requires { ⌜ line .length ≤ 20 ⌝ }
+{
+    let call = line.call;
+    match call {
+        Call::Unreadable => Reply::of(2),
+        Call::Append => {
+            let pairs = line.pairs;
+            append(image, pairs, line.length)
+        }
+        Call::Rollback(number) => controller::rollback(image, number),
+        Call::Start => controller::start(image),
+        Call::Stop => controller::stop(image),
+        Call::Connect(node) => controller::connect(image, node),
+        Call::Disconnect(node) => controller::disconnect(image, node),
+        Call::Master(node) => controller::master(image, node),
+        Call::Sync(node) => controller::sync(image, node),
+        Call::Work {
+            node,
+            job,
+            number,
+            outcome,
+            cut,
+        } => controller::work(image, node, job, number, outcome, cut),
+    }
+}
+
+// Writes the answers that wait, if another might not fit behind them; answers how many bytes wait.
+fn room(out: &[u8], used: usize) -> usize
+    ensures { λ r. ⌜ r ≤ length (now (out .entry)) ⌝ }
+{
+    if out.len() < used {
+        return 0;
+    }
+    if 96 <= out.len() - used {
+        return used;
+    }
+    io::write_all(STDOUT_FILENO, &out[..used]);
+    0
+}
+
+// Writes the answers that wait.
+fn flush(out: &[u8], used: usize) {
+    if used <= out.len() {
+        io::write_all(STDOUT_FILENO, &out[..used]);
+    }
+}
+
+// A line has ended: its call is made, and its answer put behind those that wait.
+fn end_line(image: &mut [u8], out: &mut [u8], s: Session) -> usize {
+    let line = lines::finish(s.line);
+    let reply = answer(image, line);
+    let at = room(out, s.used);
+    let n = lines::write_reply(&mut out[at..], reply);
+    at + n
+}
+
+fn take_byte(image: &mut [u8], out: &mut [u8], s: Session, b: u8) -> Session {
+    if b == b'\n' {
+        let used = end_line(image, out, s);
+        let line = lines::fresh();
+        return Session {
+            line,
+            begun: false,
+            used,
+        };
+    }
+    let line = lines::push(s.line, b);
+    Session {
+        line,
+        begun: true,
+        used: s.used,
+    }
+}
+
+// The bytes of one read.
+fn feed(image: &mut [u8], out: &mut [u8], s: Session, block: &[u8]) -> Session {
+    let mut session = s;
+    let mut i = 0;
+    while i < block.len() {
+        session = take_byte(image, out, session, block[i]);
+        i += 1;
+    }
+    session
+}
+
+// Reads once, answers every line that ended, and says whether to go on: who types a line sees its answer.
+fn read_once(image: &mut [u8], out: &mut [u8], s: Session) -> Turn {
+    let mut block = io::large_buffer();
+    let got = libc::read(STDIN_FILENO, &mut block);
+    if got <= 0 {
+        return Turn {
+            more: false,
+            session: s,
+        };
+    }
+    let n = io::count(got, &block);
+    let fed = feed(image, out, s, &block[..n]);
+    flush(out, fed.used);
+    let line = fed.line;
+    let session = Session {
+        line,
+        begun: fed.begun,
+        used: 0,
+    };
+    Turn {
+        more: true,
+        session,
+    }
+}
+
+// Nothing says that the input ends, so the reads are counted down, from a number that no run uses up.
+fn read_all(image: &mut [u8], out: &mut [u8]) -> Session {
+    let line = lines::fresh();
+    let mut session = Session {
+        line,
+        begun: false,
+        used: 0,
+    };
+    let mut reads = u64::MAX;
+    while reads > 0 {
+        let turn = read_once(image, out, session);
+        session = turn.session;
+        if !turn.more {
+            return session;
+        }
+        reads -= 1;
+    }
+    session
+}
+
+// The last line, if it has no newline; answers how many bytes wait.
+fn end_last(image: &mut [u8], out: &mut [u8], s: Session) -> usize {
+    if s.begun {
+        return end_line(image, out, s);
+    }
+    s.used
+}
+
+// All that waits is written, and then the closing line.
+fn close(image: &[u8], out: &mut [u8], used: usize)
+    requires { ⌜ 4883 ≤ length (now image) ⌝ }
+{
+    let c = image::load_head(image, 4612);
+    let a = image::load_head(image, 4686);
+    let revision = c.revision;
+    let ordinal = c.ordinal;
+    let applied = a.revision;
+    let applied_ordinal = a.ordinal;
+    if used <= out.len() {
+        io::write_all(STDOUT_FILENO, &out[..used]);
+    }
+    let n = lines::write_closing(
+        out,
+        revision.get(),
+        ordinal.get(),
+        applied.get(),
+        applied_ordinal.get(),
+    );
+    io::write_all(STDOUT_FILENO, &out[..n]);
+}
+
+fn main() {
+    let mut image = [0u8; 4883];
+    controller::fresh(&mut image);
+    let mut out = [0u8; 65536];
+    let last = read_all(&mut image, &mut out);
+    let used = end_last(&mut image, &mut out, last);
+    close(&image, &mut out, used);
+}
