@@ -1,0 +1,448 @@
+-- The commit side: each store of jobs 1 and 3, and each store of an entry, keeps its part of the invariant. Assumes
+-- nothing.
+use Prim.Native.Nat.{ℕ, zero, suc, _≤_, _<_}
+use native.Mathlib.Omega.{arith}
+use mathlib.Core.List.{List, [], _∷_, _++_}
+use mathlib.Core.Bool.{Bool, true, false, _&&_, _||_}
+use mathlib.Core.Path.{_≡_, refl, sym, ap, _∙_, subst}
+use lib.Dec.{eqb, ltb, leb}
+use lib.ListN.{length, getD}
+use borrow.Author.Tests.{eqb-true, eqb-false, eq-eqb, ne-eqb, ltb-true}
+use Rattle.kinds.specs.declared.Transaction.{Transaction}
+use Rattle.kinds.specs.declared.Head.{Head}
+use Rattle.kinds.specs.declared.Number.{Number}
+use Rattle.kinds.specs.declared.Ordinal.{Ordinal}
+use Rattle.kinds.specs.declared.Status.{Status}
+use Rattle.kinds.specs.declared.Status.the-variants.{None, Pending, InProgress, Complete, Failed}
+use Rattle.kinds.specs.Numbers.{num}
+use Rattle.kinds.specs.Statuses.{done, isComplete}
+use Rattle.kinds.specs.Records.{withChange, withRollback}
+use Rattle.rules.specs.Heads.{aimed, landed, passed}
+use Rattle.rules.specs.Sides.{begun, committed, invalid}
+use Rattle.rules.specs.Outside.{rolledBack}
+use Rattle.rules.specs.AtRest.{atRest}
+use Rattle.machine.specs.State.{Part, entryOf, putEntry}
+use Rattle.machine.specs.Next.{over}
+use Rattle.machine.specs.Cases.{and-left, and-right, or-cases}
+use Rattle.machine.specs.Entries.{put-all, add-all, length-put, length-add, length-over}
+use Rattle.history.specs.Values.{at-over}
+use Rattle.history.specs.Ops.{Op, push, pop, pushed, popped, top, tail, stack, newest, Rising, Falls, stack-low, stack-falls, pushed-above, popped-above, on-top, opAt-last, clash}
+use Rattle.history.specs.Invariant.{val, Linked, says, returns, isGoing, complete, commitView, CommitEntry, Committed, isEnded}
+use Rattle.history.specs.Frames.{Same, same, val-same, linked-same, put-same, LinkedStack, stack-linked, not-going, complete-same, by-eq}
+
+-- ---- at rest
+abbrev Rests : List Transaction → Head → Type 0
+Rests l h = atRest h (entryOf l (h .index .0) .change .commit) (entryOf l (h .index .0) .rollback .commit) ≡ true
+
+module _ (h : Head) (c r : Status) (e : atRest h c r ≡ true) where
+  -- the three clauses of rest
+  rest-cases : {R : Type 0} → (h .index .0 ≡ 0 → h .target .0 ≡ 0 → R) → (h .target .0 ≡ h .index .0 → done c ≡ true → R)
+      → (h .target .0 ≡ h .revision .0 → h .revision .0 < h .index .0 → done r ≡ true → R)
+      → R
+  rest-cases f g k =
+      let i = h .index .0 in
+      let t = h .target .0 in
+      let v = h .revision .0 in
+      or-cases (eqb i 0 && eqb t 0) _ e (λ x. f (eqb-true i 0 (and-left (eqb i 0) _ x)) (eqb-true t 0 (and-right (eqb i 0) _ x)))
+      (λ x. or-cases (leb 1 i && (eqb t i && done c)) (leb 1 i && (eqb t v && (ltb v i && done r))) x
+      (λ y. let z : (eqb t i && done c) ≡ true = and-right (leb 1 i) _ y in g (eqb-true t i (and-left (eqb t i) _ z)) (and-right (eqb t i) (done c) z))
+      (λ y. let z : (eqb t v && (ltb v i && done r)) ≡ true = and-right (leb 1 i) _ y in
+      let u : (ltb v i && done r) ≡ true = and-right (eqb t v) _ z in
+      k (eqb-true t v (and-left (eqb t v) _ z)) (ltb-true v i (and-left (ltb v i) _ u)) (and-right (ltb v i) (done r) u)))
+
+  rest-between : h .revision .0 ≤ h .index .0 → (h .revision .0 ≤ h .target .0) × (h .target .0 ≤ h .index .0)
+  rest-between b = rest-cases (λ x y. omega arith) (λ x y. omega arith) (λ x y z. omega arith)
+
+  rest-not-closing : (k : ℕ) → 1 ≤ k → h .target .0 ≡ k → h .index .0 ≡ k → h .revision .0 ≡ k → c ≡ InProgress → ⊥
+  rest-not-closing k p t i v d = rest-cases (λ x y. omega arith) (λ x y. clash (sym y ∙ ap done d)) (λ x y z. omega arith)
+
+  rest-not-returned : (k : ℕ) → h .target .0 ≡ h .revision .0 → h .index .0 ≡ k → h .revision .0 < k → r ≡ InProgress → ⊥
+  rest-not-returned k t i v d = rest-cases (λ x y. omega arith) (λ x y. omega arith) (λ x y z. clash (sym z ∙ ap done d))
+
+-- ---- the newest live change returns to a lower number
+tip-falls : (l : List Transaction) (ks : List ℕ) → Falls ks → LinkedStack l ks → (r : ℕ) → r ≡ top ks → 1 ≤ r → entryOf l r .index .0 < r
+unfolding Falls LinkedStack
+tip-falls l [] f s r e b = absurd (omega arith)
+tip-falls l (k ∷ ks) f s r e b = rw e (omega (arith, s .0 .back, f .0))
+
+some : (l : List Transaction) (k : ℕ) → isGoing (entryOf l k .change .commit) ≡ true → 1 ≤ k
+some l zero e = clash (sym e)
+some l (suc k) e = omega arith
+
+pub some-back : (l : List Transaction) (k : ℕ) → isGoing (entryOf l k .rollback .commit) ≡ true → 1 ≤ k
+some-back l zero e = clash (sym e)
+some-back l (suc k) e = omega arith
+
+module _ {l : List Transaction} {c : ℕ} {part : Part} {ops : List Op} (inv : Committed l c part ops) where
+  abbrev hd : Head
+  hd = part .head
+
+  -- the revision, where it is not 0, returns to a lower number
+  pub tip-back : (k : ℕ) → k ≡ hd .revision .0 → 1 ≤ k → entryOf l k .index .0 < k
+  tip-back k e b = tip-falls l (stack ops) (stack-falls ops (inv .rising)) (stack-linked l ops (inv .rising) (inv .linked)) k (e ∙ inv .tip) b
+
+  -- a rollback in progress is of a change that was committed
+  pub asked : (k : ℕ) → entryOf l k .rollback .commit ≡ InProgress → k ≤ c
+  asked k e = by-eq k (hd .revision .0) (λ x. omega (arith, inv .low, inv .mid)) (λ x. omega (arith, inv .entries k .returned e x .index, inv .mid))
+
+  resting : Rests l hd → (hd .revision .0 ≤ hd .target .0) × (hd .target .0 ≤ hd .index .0)
+  resting r = rest-between hd (entryOf l (hd .index .0) .change .commit) (entryOf l (hd .index .0) .rollback .commit) r (inv .low)
+
+  not-closing : Rests l hd → (k : ℕ) → entryOf l k .change .commit ≡ InProgress → k ≤ c → ⊥
+  not-closing r k x y =
+      let f = inv .entries k .closing x y in
+      rest-not-closing hd (entryOf l (hd .index .0) .change .commit) (entryOf l (hd .index .0) .rollback .commit) r k (some l k (ap isGoing x)) (f .target) (f .index) (f .revision) (rw (f .index) x)
+
+  not-returned : Rests l hd → (k : ℕ) → entryOf l k .rollback .commit ≡ InProgress → (k ≡ hd .revision .0 → ⊥) → ⊥
+  not-returned r k x y =
+      let f = inv .entries k .returned x y in
+      rest-not-returned hd (entryOf l (hd .index .0) .change .commit) (entryOf l (hd .index .0) .rollback .commit) r k (f .target) (f .index) (f .below) (rw (f .index) x)
+
+  not-returning : Rests l hd → (k : ℕ) → entryOf l k .rollback .commit ≡ InProgress → ⊥
+  not-returning r k x =
+      by-eq k (hd .revision .0) (λ y. omega (arith, resting r, inv .entries k .returning x y, tip-back k y (some-back l k (ap isGoing x)))) (not-returned r k x)
+
+  -- ---- job 1
+  -- while change i is in flight nothing else of the commit side is in progress
+  module _ (i : ℕ) (e : i ≡ suc c) (g : hd .target .0 ≡ i) where
+    alone : (k : ℕ) → entryOf l k .change .commit ≡ InProgress → k ≤ c → ⊥
+    alone k x y = omega (arith, inv .entries k .closing x y .target)
+
+    alone-back : (k : ℕ) → entryOf l k .rollback .commit ≡ InProgress → ⊥
+    alone-back k x =
+        by-eq k (hd .revision .0)
+        (λ z. omega (arith, inv .entries k .returning x z, tip-back k z (some-back l k (ap isGoing x)), asked k x))
+        (λ z. omega (arith, inv .entries k .returned x z .target, inv .low, inv .mid))
+
+  pub aim-change : (i : ℕ) → i ≡ suc c → Rests l hd → Committed l c (record { head = aimed hd (num i); values = part .values }) ops
+  aim-change i e r =
+      record {
+        entries = λ k. let o = inv .entries k in record {
+          begun = o .begun;
+          flight = λ x y. let f = o .flight x y in record { origin = f .origin; target = e ∙ sym y; restores = f .restores };
+          closing = λ x y. absurd (not-closing r k x y);
+          failed = o .failed;
+          failing = λ x y. e ∙ sym y;
+          returning = λ x y. absurd (not-returning r k x);
+          returned = λ x y. absurd (not-returning r k x);
+          done = o .done;
+          undone = o .undone;
+        };
+        rising = inv .rising;
+        linked = inv .linked;
+        count = inv .count;
+        newest = inv .newest;
+        tip = inv .tip;
+        holds = inv .holds;
+        room = inv .room;
+        low = inv .low;
+        mid = inv .mid;
+        high = inv .high;
+      }
+
+  -- one entry is stored, its pairs as they were if its number is at most n, which no live change passes
+  pub put-committed : (i : ℕ) (t : Transaction) (n : ℕ) → newest ops ≤ n → (i ≤ n → Same (entryOf l i) t)
+      → CommitEntry hd c (part .values) ops i (commitView t)
+      → Committed (putEntry l i t) c part ops
+  put-committed i t n b q o =
+      let m = putEntry l i t in
+      let s : (k : ℕ) → k ≤ n → Same (entryOf l k) (entryOf m k) = put-same l i t n q in
+      record {
+        entries = put-all (λ k u. CommitEntry hd c (part .values) ops k (commitView u)) l i t (inv .entries) o;
+        rising = inv .rising;
+        linked = linked-same l m n s ops (inv .rising) b (inv .linked);
+        count = inv .count;
+        newest = inv .newest;
+        tip = inv .tip;
+        holds = λ p x. inv .holds p x ∙ sym (val-same l m n s (stack ops) (stack-falls ops (inv .rising)) (omega (arith, stack-low ops (inv .rising))) p);
+        room = inv .room;
+        low = inv .low;
+        mid = inv .mid;
+        high = rw length-put (inv .high);
+      }
+
+  -- the commit of i begins: it is to return to the revision, and vs puts back the present values
+  pub begin-change : (i : ℕ) (t : Transaction) → i ≡ suc c → hd .target .0 ≡ i → entryOf l i .change .commit ≡ Pending
+      → commitView t .change ≡ InProgress
+      → commitView t .rollback ≡ entryOf l i .rollback .commit
+      → commitView t .index ≡ hd .revision .0
+      → ((p : ℕ) → returns t p (says t p (getD (part .values) p 0)) ≡ getD (part .values) p 0)
+      → Committed (putEntry l i t) c part ops
+  begin-change i t e g d tc tr ti tk =
+      let o = inv .entries i in
+      let nb : entryOf l i .rollback .commit ≡ InProgress → ⊥ = λ x. omega (arith, asked i x) in
+      put-committed i t c (inv .newest) (λ b. absurd (omega arith)) (record {
+        begun = λ x. omega arith;
+        flight = λ x y. record { origin = ti; target = g; restores = λ p q. tk p };
+        closing = λ x y. absurd (omega arith);
+        failed = λ x. omega arith;
+        failing = λ x y. g;
+        returning = λ x y. absurd (nb (sym tr ∙ x));
+        returned = λ x y. absurd (nb (sym tr ∙ x));
+        done = o .done ∙ ap (λ z. complete z c i) d ∙ sym (ap (λ z. complete z c i) tc ∙ ne-eqb c i (λ x. omega arith));
+        undone = o .undone ∙ sym (ap (λ z. complete z (hd .revision .0) (t .index .0)) tr ∙ complete-same (entryOf l i .rollback .commit) (hd .revision .0) (entryOf l i .index .0) (hd .revision .0) (t .index .0) (λ x. absurd (nb x)));
+      })
+
+  -- it lands: one push more
+  pub land-change : (i : ℕ) (o : Ordinal) → i ≡ suc c → i ≤ length l → entryOf l i .change .commit ≡ InProgress → o .0 ≡ suc (hd .ordinal .0)
+      → Committed l i
+      (record { head = landed hd (num i) (num i) o; values = over (entryOf l i .paths) (entryOf l i .values) (entryOf l i .count) (part .values) })
+      (push i ∷ ops)
+  unfolding pushed popped Rising Linked stack newest val
+  land-change i o e b d n =
+      let t = entryOf l i in
+      let f = inv .entries i .flight d e in
+      record {
+        entries = λ k. let x = inv .entries k in record {
+          begun = λ y. omega (arith, x .begun y);
+          flight = λ y z. absurd (omega (arith, x .begun y));
+          closing = λ y z. by-eq k i
+              (λ u. record { last = opAt-last (push i) ops (o .0) (omega (arith, inv .count)) ∙ ap push (sym u); target = f .target ∙ sym u; index = sym u; revision = sym u })
+              (λ u. absurd (alone i e (f .target) k y (omega arith)));
+          failed = λ y. omega (arith, x .failed y);
+          failing = λ y z. absurd (omega (arith, x .failed y));
+          returning = λ y z. absurd (alone-back i e (f .target) k y);
+          returned = λ y z. absurd (alone-back i e (f .target) k y);
+          done = went k (eqb i k) refl;
+          undone = x .undone ∙ sym (complete-same (entryOf l k .rollback .commit) (hd .revision .0) (entryOf l k .index .0) i (entryOf l k .index .0) (λ y. absurd (alone-back i e (f .target) k y)));
+        };
+        rising = (omega (arith, inv .newest), inv .rising);
+        linked = (record { back = f .origin ∙ inv .tip; keeps = λ p q. rw (← inv .holds p q) (f .restores p q) }, inv .linked);
+        count = omega (arith, inv .count);
+        newest = omega arith;
+        tip = refl;
+        holds = λ p q. at-over p _ _ _ (part .values) (omega (arith, inv .room)) ∙ ap (says t p) (inv .holds p q);
+        room = length-over (t .paths) (t .values) (t .count) (part .values) ∙ inv .room;
+        low = omega arith;
+        mid = omega arith;
+        high = b;
+      }
+    where
+      went : (k : ℕ) (y : Bool) → eqb i k ≡ y → (y || pushed k ops) ≡ complete (entryOf l k .change .commit) i k
+      went k true y = rw (← eqb-true i k y) (rw d (sym (eq-eqb i i refl)))
+      went k false y =
+          inv .entries k .done
+          ∙ sym (complete-same (entryOf l k .change .commit) c k i k
+          (λ z. ((λ u. alone i e (inv .entries i .flight d e .target) k z (omega arith)), (λ u. eqb-false i k y u))))
+
+  -- its status is stored
+  pub finish-change : (i : ℕ) (o : Ordinal) → entryOf l i .change .commit ≡ InProgress → c ≡ i
+      → Committed (putEntry l i (withChange (entryOf l i) (committed (entryOf l i .change) o))) c part ops
+  finish-change i o d e =
+      let x = inv .entries i in
+      put-committed i _ c (inv .newest) (λ b. record { count = refl; paths = refl; values = refl; kept = refl; index = refl }) (record {
+        begun = not-going Complete refl;
+        flight = not-going Complete refl;
+        closing = not-going Complete refl;
+        failed = λ y. clash (ap isComplete y);
+        failing = λ y. clash (ap isComplete y);
+        returning = x .returning;
+        returned = x .returned;
+        done = x .done ∙ ap (λ z. complete z c i) d ∙ eq-eqb c i e;
+        undone = x .undone;
+      })
+
+  -- it is rejected, and the head passes it
+  pub fail-change : (i : ℕ) → i ≡ suc c → entryOf l i .change .commit ≡ InProgress
+      → Committed (putEntry l i (withChange (entryOf l i) (invalid (entryOf l i .change)))) c part ops
+  fail-change i e d =
+      let x = inv .entries i in
+      put-committed i _ c (inv .newest) (λ b. record { count = refl; paths = refl; values = refl; kept = refl; index = refl }) (record {
+        begun = not-going Failed refl;
+        flight = not-going Failed refl;
+        closing = not-going Failed refl;
+        failed = λ y. omega arith;
+        failing = λ y z. x .flight d e .target;
+        returning = x .returning;
+        returned = x .returned;
+        done = x .done ∙ ap (λ z. complete z c i) d ∙ ne-eqb c i (λ y. omega arith);
+        undone = x .undone;
+      })
+
+  pub pass-change : (i : ℕ) → i ≡ suc c → i ≤ length l → entryOf l i .change .commit ≡ Failed
+      → Committed l i (record { head = passed hd (num i); values = part .values }) ops
+  pass-change i e b d =
+      let g : hd .target .0 ≡ i = inv .entries i .failing d e in
+      let other : (k : ℕ) → entryOf l k .change .commit ≡ InProgress → k ≡ i → ⊥ = λ k x y. not-going Failed refl (sym d ∙ subst (λ z. entryOf l z .change .commit ≡ InProgress) y x) in
+      record {
+        entries = λ k. let x = inv .entries k in record {
+          begun = λ y. omega (arith, x .begun y);
+          flight = λ y z. absurd (omega (arith, x .begun y));
+          closing = λ y z. by-eq k i (λ u. absurd (other k y u)) (λ u. absurd (alone i e g k y (omega arith)));
+          failed = λ y. omega (arith, x .failed y);
+          failing = λ y z. absurd (omega (arith, x .failed y));
+          returning = λ y z. absurd (alone-back i e g k y);
+          returned = λ y z. absurd (alone-back i e g k y);
+          done = x .done ∙ sym (complete-same (entryOf l k .change .commit) c k i k (λ y. ((λ z. alone i e g k y (omega arith)), (λ z. other k y (sym z)))));
+          undone = x .undone;
+        };
+        rising = inv .rising;
+        linked = inv .linked;
+        count = inv .count;
+        newest = omega (arith, inv .newest);
+        tip = inv .tip;
+        holds = inv .holds;
+        room = inv .room;
+        low = omega (arith, inv .low, inv .mid);
+        mid = omega arith;
+        high = b;
+      }
+
+  -- ---- job 3
+  pub aim-rollback : (n : Number) → Rests l hd → Committed l c (record { head = aimed hd n; values = part .values }) ops
+  aim-rollback n r =
+      record {
+        entries = λ k. let x = inv .entries k in record {
+          begun = x .begun;
+          flight = λ y z. absurd (omega (arith, resting r, inv .mid, x .flight y z .target));
+          closing = λ y z. absurd (not-closing r k y z);
+          failed = x .failed;
+          failing = λ y z. absurd (omega (arith, resting r, inv .mid, x .failing y z));
+          returning = λ y z. absurd (not-returning r k y);
+          returned = λ y z. absurd (not-returning r k y);
+          done = x .done;
+          undone = x .undone;
+        };
+        rising = inv .rising;
+        linked = inv .linked;
+        count = inv .count;
+        newest = inv .newest;
+        tip = inv .tip;
+        holds = inv .holds;
+        room = inv .room;
+        low = inv .low;
+        mid = inv .mid;
+        high = inv .high;
+      }
+
+  pub begin-rollback : (i : ℕ) → 1 ≤ i → hd .revision .0 ≡ i → hd .target .0 ≡ entryOf l i .index .0 → entryOf l i .rollback .commit ≡ Pending
+      → Committed (putEntry l i (withRollback (entryOf l i) (begun (entryOf l i .rollback)))) c part ops
+  begin-rollback i p e g d =
+      let x = inv .entries i in
+      put-committed i _ c (inv .newest) (λ b. record { count = refl; paths = refl; values = refl; kept = refl; index = refl }) (record {
+        begun = x .begun;
+        flight = λ y z. let f = x .flight y z in record { origin = f .origin; target = f .target; restores = f .restores };
+        closing = x .closing;
+        failed = x .failed;
+        failing = x .failing;
+        returning = λ y z. g;
+        returned = λ y z. absurd (z (sym e));
+        done = x .done;
+        undone = x .undone ∙ ap (λ z. complete z (hd .revision .0) (entryOf l i .index .0)) d
+            ∙ sym (ne-eqb (hd .revision .0) (entryOf l i .index .0) (λ y. omega (arith, tip-back i (sym e) p)));
+      })
+
+  -- the rollback of i lands: one pop more
+  pub land-rollback : (i : ℕ) (o : Ordinal) → 1 ≤ i → hd .revision .0 ≡ i → entryOf l i .rollback .commit ≡ InProgress → o .0 ≡ suc (hd .ordinal .0)
+      → Committed l c
+      (record { head = landed hd (num i) (entryOf l i .index) o; values = over (entryOf l i .paths) (entryOf l i .kept) (entryOf l i .count) (part .values) })
+      (pop i ∷ ops)
+  unfolding pushed popped Rising Linked stack newest LinkedStack val
+  land-rollback i o p e d n =
+      let t = entryOf l i in
+      let w : stack ops ≡ i ∷ tail (stack ops) = on-top (stack ops) i (sym (inv .tip) ∙ e) p in
+      let s : LinkedStack l (i ∷ tail (stack ops)) = subst (LinkedStack l) w (stack-linked l ops (inv .rising) (inv .linked)) in
+      record {
+        entries = λ k. let x = inv .entries k in record {
+          begun = x .begun;
+          flight = λ y z. absurd (omega (arith, x .flight y z .target, g, low, asked i d));
+          closing = λ y z. absurd (omega (arith, x .closing y z .target, x .closing y z .revision, g, low));
+          failed = x .failed;
+          failing = λ y z. absurd (omega (arith, x .failing y z, g, low, asked i d));
+          returning = λ y z. absurd (only k (λ u. omega (arith, low)) y);
+          returned = λ y z. by-eq k i
+              (λ u. record { last = opAt-last (pop i) ops (o .0) (omega (arith, inv .count)) ∙ ap pop (sym u); target = g; index = sym u; below = omega (arith, low) })
+              (λ u. absurd (only k u y));
+          done = x .done;
+          undone = went k (eqb i k) refl;
+        };
+        rising = (w, inv .rising);
+        linked = inv .linked;
+        count = omega (arith, inv .count);
+        newest = inv .newest;
+        tip = s .0 .back;
+        holds = λ q b. at-over q _ _ _ (part .values) (omega (arith, inv .room)) ∙ ap (returns t q) (inv .holds q b ∙ ap (λ ks. val l ks q) w) ∙ s .0 .keeps q b;
+        room = length-over (t .paths) (t .kept) (t .count) (part .values) ∙ inv .room;
+        low = omega (arith, low);
+        mid = asked i d;
+        high = inv .high;
+      }
+    where
+      g : hd .target .0 ≡ entryOf l i .index .0
+      g = inv .entries i .returning d (sym e)
+
+      low : entryOf l i .index .0 < i
+      low = tip-back i (sym e) p
+
+      -- no other rollback is in progress
+      only : (k : ℕ) → (k ≡ i → ⊥) → entryOf l k .rollback .commit ≡ InProgress → ⊥
+      only k u y = omega (arith, inv .entries k .returned y (λ z. u (z ∙ e)) .target, inv .entries i .returning d (sym e), tip-back i (sym e) p)
+
+      went : (k : ℕ) (y : Bool) → eqb i k ≡ y → (y || popped k ops) ≡ complete (entryOf l k .rollback .commit) (entryOf l i .index .0) (entryOf l k .index .0)
+      went k true y = rw (← eqb-true i k y) (rw d (sym (eq-eqb (entryOf l i .index .0) (entryOf l i .index .0) refl)))
+      went k false y =
+          inv .entries k .undone
+          ∙ sym (complete-same (entryOf l k .rollback .commit) (hd .revision .0) (entryOf l k .index .0) (entryOf l i .index .0) (entryOf l k .index .0)
+          (λ z. absurd (only k (λ u. eqb-false i k y (sym u)) z)))
+
+  pub finish-rollback : (i : ℕ) (o : Ordinal) → entryOf l i .rollback .commit ≡ InProgress → hd .revision .0 ≡ entryOf l i .index .0
+      → Committed (putEntry l i (withRollback (entryOf l i) (committed (entryOf l i .rollback) o))) c part ops
+  finish-rollback i o d e =
+      let x = inv .entries i in
+      put-committed i _ c (inv .newest) (λ b. record { count = refl; paths = refl; values = refl; kept = refl; index = refl }) (record {
+        begun = x .begun;
+        flight = λ y z. let f = x .flight y z in record { origin = f .origin; target = f .target; restores = f .restores };
+        closing = x .closing;
+        failed = x .failed;
+        failing = x .failing;
+        returning = not-going Complete refl;
+        returned = not-going Complete refl;
+        done = x .done;
+        undone = x .undone ∙ ap (λ z. complete z (hd .revision .0) (entryOf l i .index .0)) d ∙ eq-eqb (hd .revision .0) (entryOf l i .index .0) e;
+      })
+
+  -- ---- the calls from outside
+  pub ask-committed : (i : ℕ) → entryOf l i .rollback .commit ≡ None → Committed (putEntry l i (rolledBack (entryOf l i))) c part ops
+  ask-committed i d =
+      let x = inv .entries i in
+      put-committed i _ c (inv .newest) (λ b. record { count = refl; paths = refl; values = refl; kept = refl; index = refl }) (record {
+        begun = x .begun;
+        flight = λ y z. let f = x .flight y z in record { origin = f .origin; target = f .target; restores = f .restores };
+        closing = x .closing;
+        failed = x .failed;
+        failing = x .failing;
+        returning = not-going Pending refl;
+        returned = not-going Pending refl;
+        done = x .done;
+        undone = x .undone ∙ ap (λ z. complete z (hd .revision .0) (entryOf l i .index .0)) d;
+      })
+
+  -- an entry with nothing begun is appended
+  pub append-committed : (t : Transaction) → commitView t .change ≡ Pending → commitView t .rollback ≡ None → Committed (l ++ (t ∷ [])) c part ops
+  append-committed t d r =
+      let m = l ++ (t ∷ []) in
+      let b : newest ops ≤ length l = omega (arith, inv .newest, inv .high) in
+      let s : (k : ℕ) → k ≤ length l → Same (entryOf l k) (entryOf m k) = add-all (λ k u. k ≤ length l → Same (entryOf l k) u) l t (λ k x. same (entryOf l k)) (λ x. absurd (omega arith)) in
+      record {
+        entries = add-all (λ k u. CommitEntry hd c (part .values) ops k (commitView u)) l t (inv .entries) (record {
+          begun = λ y. not-going Pending refl (sym d ∙ y);
+          flight = λ y. not-going Pending refl (sym d ∙ y);
+          closing = λ y. not-going Pending refl (sym d ∙ y);
+          failed = λ y. clash (ap isEnded (sym y ∙ d));
+          failing = λ y. clash (ap isEnded (sym y ∙ d));
+          returning = λ y. not-going None refl (sym r ∙ y);
+          returned = λ y. not-going None refl (sym r ∙ y);
+          done = pushed-above ops (inv .rising) (suc (length l)) (omega arith) ∙ sym (ap (λ z. complete z c (suc (length l))) d);
+          undone = popped-above ops (inv .rising) (suc (length l)) (omega arith) ∙ sym (ap (λ z. complete z (hd .revision .0) (t .index .0)) r);
+        });
+        rising = inv .rising;
+        linked = linked-same l m (length l) s ops (inv .rising) b (inv .linked);
+        count = inv .count;
+        newest = inv .newest;
+        tip = inv .tip;
+        holds = λ p x. inv .holds p x ∙ sym (val-same l m (length l) s (stack ops) (stack-falls ops (inv .rising)) (omega (arith, stack-low ops (inv .rising))) p);
+        room = inv .room;
+        low = inv .low;
+        mid = inv .mid;
+        high = rw length-add (omega (arith, inv .high));
+      }

@@ -1,0 +1,80 @@
+-- Demand 3, stated: what the committed values, the applied values, an open line and the live list are, after any calls, by
+-- the events that were given. The statuses in the log are not looked at. Proved in Reached. Assumes nothing.
+use Prim.Native.Nat.{ℕ, zero, suc, _<_}
+use mathlib.Core.List.{List, [], _∷_}
+use mathlib.Core.Bool.{Bool, true, false, not, _&&_, _||_}
+use mathlib.Core.Path.{_≡_}
+use lib.Dec.{eqb, ltb}
+use lib.ListN.{length, getD}
+use Rattle.kinds.specs.declared.Transaction.{Transaction}
+use Rattle.kinds.specs.declared.Event.{Event}
+use Rattle.kinds.specs.declared.Status.{Status}
+use Rattle.kinds.specs.declared.Status.the-variants.{Complete}
+use Rattle.kinds.specs.Statuses.{codeOf}
+use Rattle.machine.specs.State.{State, entryOf, lineOpenFor}
+use Rattle.machine.specs.LiveList as list
+
+-- ---- completed: an event with this status was given for a phase (1 Change, 2 Rollback), a stage (1 Commit, 2 Apply) and
+-- a number
+abbrev pub tells : Status → Event → (phase stage number : ℕ) → Bool
+tells x e p g k = eqb (codeOf (e .status)) (codeOf x) && (eqb (e .phase) p && (eqb (e .stage) g && eqb (e .number .0) k))
+
+unfoldable pub told : Status → List Event → (phase stage number : ℕ) → Bool
+told x [] p g k = false
+told x (e ∷ es) p g k = tells x e p g k || told x es p g k
+
+abbrev pub completed : List Event → (phase stage number : ℕ) → Bool
+completed es p g k = told Complete es p g k
+
+-- ---- live: change k's stage has completed, and its rollback's has not
+abbrev pub live : List Event → (stage number : ℕ) → Bool
+live es g k = completed es 1 g k && not (completed es 2 g k)
+
+-- ---- a change sets a path, and to what
+-- place k, one of those in use, names path p
+abbrev pub names : Transaction → ℕ → ℕ → Bool
+names t p k = ltb k (t .count) && eqb (getD (t .paths) k 0) p
+
+abbrev pub sets : Transaction → ℕ → Bool
+sets t p = names t p 3 || (names t p 2 || (names t p 1 || names t p 0))
+
+abbrev pub valueIf : Bool → ℕ → ℕ → ℕ
+valueIf true a b = a
+valueIf false a b = b
+
+abbrev pub valueAt : Transaction → ℕ → ℕ
+valueAt t p =
+    valueIf (names t p 3) (getD (t .values) 3 0) (valueIf (names t p 2) (getD (t .values) 2 0) (valueIf (names t p 1) (getD (t .values) 1 0) (getD (t .values) 0 0)))
+
+-- ---- highest-numbered: of changes 1 to n, the value of the highest that f holds of and that sets p; absent where none does
+unfoldable pub highest : List Transaction → (ℕ → Bool) → ℕ → ℕ → ℕ
+highest l f zero p = 0
+highest l f (suc n) p = valueIf (f (suc n) && sets (entryOf l (suc n)) p) (valueAt (entryOf l (suc n)) p) (highest l f n p)
+
+-- the changes 1 to n that f holds of, newest first
+abbrev pub listIf : Bool → ℕ → List ℕ → List ℕ
+listIf true k ks = k ∷ ks
+listIf false k ks = ks
+
+unfoldable pub newestFirst : (ℕ → Bool) → ℕ → List ℕ
+newestFirst f zero = []
+newestFirst f (suc n) = listIf (f (suc n)) (suc n) (newestFirst f n)
+
+-- where k hops from v lead
+unfoldable pub hopped : List Transaction → ℕ → ℕ → ℕ
+hopped l zero v = v
+hopped l (suc k) v = hopped l k (entryOf l v .index .0)
+
+-- ---- the demand
+pub record Demand3 (s : State) (es : List Event) : Type 0 where
+  -- the committed value of every path is that of the highest-numbered change setting it whose commit Complete event has
+  -- been given and whose rollback commit Complete event has not, or absent
+  pub committed : (p : ℕ) → p < 32 → getD (s .committed .values) p 0 ≡ highest (s .log) (live es 1) (length (s .log)) p
+  -- the same, with apply
+  pub applied : (p : ℕ) → p < 32 → getD (s .applied .values) p 0 ≡ highest (s .log) (live es 2) (length (s .log)) p
+  -- whenever the line is open for some node, the target's values are the applied values
+  pub line : (n : ℕ) → lineOpenFor (s .net) n ≡ true → s .net .values ≡ s .applied .values
+  -- the live list is exactly the changes of the first part, newest first
+  pub live : list.live s ≡ newestFirst (live es 1) (length (s .log))
+  -- and its length is the number of hops until 0
+  pub hops : hopped (s .log) (length (list.live s)) (s .committed .head .revision .0) ≡ 0

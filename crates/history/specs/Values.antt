@@ -1,0 +1,121 @@
+-- What pairs say of a path: laid over values, and put back by the values kept. Assumes nothing.
+use Prim.Native.Nat.{ℕ, _<_}
+use mathlib.Core.List.{List}
+use mathlib.Core.Bool.{Bool, true, false, _&&_, _||_}
+use mathlib.Core.Path.{_≡_, refl, sym, ap, _∙_}
+use lib.Dec.{eqb, ltb}
+use lib.ListN.{length, getD, set, length-set}
+use lib.Seq.{getD-set-same, getD-set-other}
+use borrow.Author.Tests.{eqb-true, eqb-false}
+use Rattle.kinds.specs.declared.Transaction.{Transaction}
+use Rattle.machine.specs.Calls.{present, presentAt}
+use Rattle.machine.specs.Next.{laying, layingAt, over}
+use Rattle.machine.specs.Cases.{and-left, and-right}
+use Rattle.history.specs.Demand3.{valueIf, sets, valueAt}
+
+-- place k, of the n used ones, names path p
+abbrev pub namesAt : List ℕ → ℕ → ℕ → ℕ → Bool
+namesAt ps n p k = ltb k n && eqb (getD ps k 0) p
+
+-- what n pairs say of path p, or d where they are silent
+unfoldable pub look : List ℕ → ℕ → List ℕ → ℕ → ℕ → ℕ
+look ps n vs p d =
+    valueIf (namesAt ps n p 3) (getD vs 3 0)
+    (valueIf (namesAt ps n p 2) (getD vs 2 0) (valueIf (namesAt ps n p 1) (getD vs 1 0) (valueIf (namesAt ps n p 0) (getD vs 0 0) d)))
+
+module _ (p : ℕ) where
+  at-laying : (b : Bool) (l : List ℕ) (q v : ℕ) → p < length l → getD (laying b l q v) p 0 ≡ valueIf (b && eqb q p) v (getD l p 0)
+  at-laying false l q v h = refl
+  at-laying true l q v h = go (eqb q p) refl
+    where
+      go : (t : Bool) → eqb q p ≡ t → getD (set l q v) p 0 ≡ valueIf t v (getD l p 0)
+      go true e = rw (eqb-true q p e) (getD-set-same l p v 0 h)
+      go false e = getD-set-other l q p v 0 (λ x. eqb-false q p e (sym x))
+
+  fits : (b : Bool) (l : List ℕ) (q v : ℕ) → p < length l → p < length (laying b l q v)
+  fits false l q v h = h
+  fits true l q v h = rw length-set h
+
+  pub at-over : (ps vs : List ℕ) (n : ℕ) (l : List ℕ) → p < length l → getD (over ps vs n l) p 0 ≡ look ps n vs p (getD l p 0)
+  unfolding over look
+  at-over ps vs n l h =
+      let a = layingAt ps vs n l 0 in
+      let b = layingAt ps vs n a 1 in
+      let c = layingAt ps vs n b 2 in
+      let ha : p < length a = fits (ltb 0 n) l (getD ps 0 0) (getD vs 0 0) h in
+      let hb : p < length b = fits (ltb 1 n) a (getD ps 1 0) (getD vs 1 0) ha in
+      let hc : p < length c = fits (ltb 2 n) b (getD ps 2 0) (getD vs 2 0) hb in
+      at-laying (ltb 3 n) c (getD ps 3 0) (getD vs 3 0) hc
+      ∙ ap (valueIf (namesAt ps n p 3) (getD vs 3 0))
+      (at-laying (ltb 2 n) b (getD ps 2 0) (getD vs 2 0) hb
+      ∙ ap (valueIf (namesAt ps n p 2) (getD vs 2 0))
+      (at-laying (ltb 1 n) a (getD ps 1 0) (getD vs 1 0) ha ∙ ap (valueIf (namesAt ps n p 1) (getD vs 1 0)) (at-laying (ltb 0 n) l (getD ps 0 0) (getD vs 0 0) h)))
+
+-- ---- what is kept puts back what stood there
+module _ (a b c d : Bool) (k0 k1 k2 k3 v0 v1 v2 v3 : ℕ) where
+  abbrev kept : ℕ → ℕ
+  kept x = valueIf a k3 (valueIf b k2 (valueIf c k1 (valueIf d k0 x)))
+
+  abbrev laid : ℕ → ℕ
+  laid x = valueIf a v3 (valueIf b v2 (valueIf c v1 (valueIf d v0 x)))
+
+restores : (a b c d : Bool) (k0 k1 k2 k3 v0 v1 v2 v3 x : ℕ) → (a ≡ true → k3 ≡ x) → (b ≡ true → k2 ≡ x) → (c ≡ true → k1 ≡ x) → (d ≡ true → k0 ≡ x)
+    → kept a b c d k0 k1 k2 k3 v0 v1 v2 v3 (laid a b c d k0 k1 k2 k3 v0 v1 v2 v3 x) ≡ x
+restores true b c d k0 k1 k2 k3 v0 v1 v2 v3 x e f g h = e refl
+restores false true c d k0 k1 k2 k3 v0 v1 v2 v3 x e f g h = f refl
+restores false false true d k0 k1 k2 k3 v0 v1 v2 v3 x e f g h = g refl
+restores false false false true k0 k1 k2 k3 v0 v1 v2 v3 x e f g h = h refl
+restores false false false false k0 k1 k2 k3 v0 v1 v2 v3 x e f g h = refl
+
+never-laid : (a b c d : Bool) (k0 k1 k2 k3 v0 v1 v2 v3 x : ℕ) → kept a b c d k0 k1 k2 k3 v0 v1 v2 v3 (laid a b c d k0 k1 k2 k3 v0 v1 v2 v3 x) ≡ x
+    → kept a b c d k0 k1 k2 k3 v0 v1 v2 v3 x ≡ x
+never-laid true b c d k0 k1 k2 k3 v0 v1 v2 v3 x e = e
+never-laid false true c d k0 k1 k2 k3 v0 v1 v2 v3 x e = e
+never-laid false false true d k0 k1 k2 k3 v0 v1 v2 v3 x e = e
+never-laid false false false true k0 k1 k2 k3 v0 v1 v2 v3 x e = e
+never-laid false false false false k0 k1 k2 k3 v0 v1 v2 v3 x e = e
+
+-- the present values of a change's paths, laid over it, put back what was there
+pub present-restores : (vs : List ℕ) (t : Transaction) (ws : List ℕ) (p : ℕ)
+    → look (t .paths) (t .count) (present vs t) p (look (t .paths) (t .count) ws p (getD vs p 0)) ≡ getD vs p 0
+unfolding look present
+present-restores vs t ws p =
+    let ps = t .paths in
+    let n = t .count in
+    restores (namesAt ps n p 3) (namesAt ps n p 2) (namesAt ps n p 1) (namesAt ps n p 0)
+    (presentAt vs t 0) (presentAt vs t 1) (presentAt vs t 2) (presentAt vs t 3) (getD ws 0 0) (getD ws 1 0) (getD ws 2 0) (getD ws 3 0) (getD vs p 0)
+    (was 3) (was 2) (was 1) (was 0)
+  where
+    was : (k : ℕ) → namesAt (t .paths) (t .count) p k ≡ true → presentAt vs t k ≡ getD vs p 0
+    was k e =
+        rw (and-left (ltb k (t .count)) _ e) (ap (λ q. getD vs q 0) (eqb-true (getD (t .paths) k 0) p (and-right (ltb k (t .count)) _ e)))
+
+-- what is kept puts it back where the change was never laid, too
+pub back-again : (ps : List ℕ) (n : ℕ) (ks vs : List ℕ) (p d : ℕ) → look ps n ks p (look ps n vs p d) ≡ d → look ps n ks p d ≡ d
+unfolding look
+back-again ps n ks vs p d e =
+    never-laid (namesAt ps n p 3) (namesAt ps n p 2) (namesAt ps n p 1) (namesAt ps n p 0) (getD ks 0 0) (getD ks 1 0) (getD ks 2 0) (getD ks 3 0) (getD vs 0 0) (getD vs 1 0)
+    (getD vs 2 0) (getD vs 3 0) d e
+
+-- what a change says of a path: its value where it sets it
+pub look-sets : (t : Transaction) (p d : ℕ) → look (t .paths) (t .count) (t .values) p d ≡ valueIf (sets t p) (valueAt t p) d
+unfolding look
+look-sets t p d = go (namesAt ps n p 3) (namesAt ps n p 2) (namesAt ps n p 1) (namesAt ps n p 0)
+  where
+    ps : List ℕ
+    ps = t .paths
+
+    n : ℕ
+    n = t .count
+
+    vs : List ℕ
+    vs = t .values
+
+    go : (a b c e : Bool)
+        → valueIf a (getD vs 3 0) (valueIf b (getD vs 2 0) (valueIf c (getD vs 1 0) (valueIf e (getD vs 0 0) d)))
+        ≡ valueIf (a || (b || (c || e))) (valueIf a (getD vs 3 0) (valueIf b (getD vs 2 0) (valueIf c (getD vs 1 0) (getD vs 0 0)))) d
+    go true b c e = refl
+    go false true c e = refl
+    go false false true e = refl
+    go false false false true = refl
+    go false false false false = refl
