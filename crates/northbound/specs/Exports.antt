@@ -1,0 +1,38 @@
+-- What an exported function claims: the controller's contract, with the answer packed. Assumes nothing.
+use Prim.Native.Nat.{ℕ}
+use mathlib.Core.Path.{_≡_}
+use mathlib.Core.Bool.{Bool, true, false}
+use mathlib.Core.List.{List}
+use lib.Dec.{eqb}
+use lib.ListN.{length}
+use Rattle.kinds.specs.Events.{refusal}
+use Rattle.machine.specs.Calls.{Call}
+use Rattle.machine.specs.Reads.{Query}
+use Rattle.image.specs.Layout.{imageLength}
+use Rattle.image.specs.View.{written}
+use Rattle.image.specs.Formed.{formed}
+use Rattle.controller.specs.Claims.{outcomeOf}
+use Rattle.controller.specs.Fresh.{answerIf, imageIf}
+use Rattle.controller.specs.Live.{listingOf}
+use Rattle.controller.specs.Reads.{readOf}
+use Rattle.northbound.specs.Packing.{Packs, PacksRead, PacksListed}
+
+abbrev pub Claims : List ℕ → Call → ℕ → List ℕ → Type 0
+Claims l c p m = Packs (outcomeOf l c .reply) p × (m ≡ written l (outcomeOf l c .stores))
+
+abbrev pub Freshens : List ℕ → ℕ → List ℕ → Type 0
+Freshens l p m = Packs (refusal (answerIf (eqb (length l) imageLength))) p × (m ≡ imageIf (eqb (length l) imageLength) l)
+
+abbrev pub Lists : List ℕ → List ℕ → ℕ → List ℕ → Type 0
+Lists l m p m′ = PacksListed (listingOf l m .listed) p × (m′ ≡ listingOf l m .room)
+
+abbrev pub Shows : List ℕ → Query → ℕ → Type 0
+Shows l q p = PacksRead (readOf l q) p
+
+-- 0 where it is well-formed, else the refusal
+abbrev pub answerOf : Bool → ℕ
+answerOf true = 0
+answerOf false = 1
+
+abbrev pub Tells : List ℕ → ℕ → Type 0
+Tells l p = p ≡ answerOf (formed l)

@@ -1,0 +1,47 @@
+-- What an answer is as one number: the answer in the lowest byte, and above it the event, or from bit 32 on the number read.
+-- Assumes nothing.
+use Prim.Native.Nat.{ℕ, _+_, _*_, _/_, _%_}
+use mathlib.Core.Path.{_≡_}
+use Rattle.kinds.specs.declared.Reply.{Reply}
+use Rattle.kinds.specs.Numbers.{num}
+use Rattle.kinds.specs.Statuses.{codeOf, statusOf}
+use Rattle.controller.specs.declared.reads.Read.{Read}
+use Rattle.controller.specs.declared.walking.Listed.{Listed}
+
+-- answer, phase, stage and status, a byte each, then the number
+unfoldable pub packed : Reply → ℕ
+packed r =
+    r .answer + 256 * r .event .phase + 65536 * r .event .stage + 16777216 * codeOf (r .event .status) + 4294967296 * r .event .number .0
+
+unfoldable pub packedRead : Read → ℕ
+packedRead r = r .answer + 4294967296 * r .value
+
+unfoldable pub packedListed : Listed → ℕ
+packedListed r = r .answer + 4294967296 * r .length
+
+-- ---- and back
+abbrev pub low : ℕ → ℕ
+low p = p % 256
+
+abbrev pub high : ℕ → ℕ
+high p = p / 4294967296
+
+abbrev pub unpacked : ℕ → Reply
+unpacked p =
+    record { answer = low p; event = record { phase = low (p / 256); stage = low (p / 65536); number = num (high p); status = statusOf (low (p / 16777216)) } }
+
+abbrev pub unpackedRead : ℕ → Read
+unpackedRead p = record { answer = low p; value = high p }
+
+abbrev pub unpackedListed : ℕ → Listed
+unpackedListed p = record { answer = low p; length = high p }
+
+-- ---- a number that is an answer packed, and reads back as that answer: nothing is lost
+abbrev pub Packs : Reply → ℕ → Type 0
+Packs r p = (p ≡ packed r) × (unpacked p ≡ r)
+
+abbrev pub PacksRead : Read → ℕ → Type 0
+PacksRead r p = (p ≡ packedRead r) × (unpackedRead p ≡ r)
+
+abbrev pub PacksListed : Listed → ℕ → Type 0
+PacksListed r p = (p ≡ packedListed r) × (unpackedListed p ≡ r)

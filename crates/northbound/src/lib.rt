@@ -1,0 +1,179 @@
+// What the northbound server, written in C, calls: numbers and lent slices in, one packed number out. A slice is a pointer
+// and a length. Nothing is decided here.
+ghost use mathlib.Core.Path.{_≡_};
+ghost use Rattle.machine.specs.Calls.{rollback, start, stop, connect, disconnect, master, sync, work};
+ghost use Rattle.machine.specs.Reads.{ofTable, ofEntry, ofState, ofNode};
+ghost use Rattle.controller.specs.Bytes.{appendOf};
+ghost use Rattle.northbound.specs.Packing.{Packs, PacksRead, PacksListed};
+ghost use Rattle.northbound.specs.Exports.{Claims, Freshens, Lists, Shows, Tells};
+use controller::Listed;
+use controller::Read;
+use image::well_formed;
+use kinds::Reply;
+
+// ---- the packing
+
+fn pack(r: Reply) -> u64
+    ensures { λ p. ⌜ Packs r p ⌝ }
+{
+    let e = r.event;
+    let n = e.number;
+    let status = e.status;
+    let code = status.code();
+    let number = n.get();
+    (r.answer as u64)
+        + 256 * (e.phase as u64)
+        + 65536 * (e.stage as u64)
+        + 16777216 * (code as u64)
+        + 4294967296 * (number as u64)
+}
+
+fn pack_read(r: Read) -> u64
+    ensures { λ p. ⌜ PacksRead r p ⌝ }
+{
+    (r.answer as u64) + 4294967296 * (r.value as u64)
+}
+
+fn pack_listed(r: Listed) -> u64
+    ensures { λ p. ⌜ PacksListed r p ⌝ }
+{
+    (r.answer as u64) + 4294967296 * (r.length as u64)
+}
+
+// ---- the calls
+
+// Makes a fresh image; 1 where the length is not 4,883.
+#[no_mangle]
+pub extern "C" fn makowist_fresh(image: &mut [u8]) -> u64
+    ensures { λ r. ⌜ Freshens (now (image .entry)) r (now (image .exit)) ⌝ }
+{
+    pack(controller::fresh(image))
+}
+
+// Takes a change into the log: four bytes a pair, its path and its value, each little-endian.
+#[no_mangle]
+pub extern "C" fn makowist_append(image: &mut [u8], pairs: &[u8]) -> u64
+    ensures { λ r. ⌜ Claims (now (image .entry)) (appendOf (now (pairs .entry))) r (now (image .exit)) ⌝ }
+{
+    pack(controller::append(image, pairs))
+}
+
+// Asks for the rollback of a change.
+#[no_mangle]
+pub extern "C" fn makowist_rollback(image: &mut [u8], number: u16) -> u64
+    ensures { λ r. ⌜ Claims (now (image .entry)) (rollback number) r (now (image .exit)) ⌝ }
+{
+    pack(controller::rollback(image, number))
+}
+
+#[no_mangle]
+pub extern "C" fn makowist_start(image: &mut [u8]) -> u64
+    ensures { λ r. ⌜ Claims (now (image .entry)) start r (now (image .exit)) ⌝ }
+{
+    pack(controller::start(image))
+}
+
+#[no_mangle]
+pub extern "C" fn makowist_stop(image: &mut [u8]) -> u64
+    ensures { λ r. ⌜ Claims (now (image .entry)) stop r (now (image .exit)) ⌝ }
+{
+    pack(controller::stop(image))
+}
+
+#[no_mangle]
+pub extern "C" fn makowist_connect(image: &mut [u8], node: u16) -> u64
+    ensures { λ r. ⌜ Claims (now (image .entry)) (connect node) r (now (image .exit)) ⌝ }
+{
+    pack(controller::connect(image, node))
+}
+
+#[no_mangle]
+pub extern "C" fn makowist_disconnect(image: &mut [u8], node: u16) -> u64
+    ensures { λ r. ⌜ Claims (now (image .entry)) (disconnect node) r (now (image .exit)) ⌝ }
+{
+    pack(controller::disconnect(image, node))
+}
+
+// Gives mastership to a node that asks, or takes it from one that is lost.
+#[no_mangle]
+pub extern "C" fn makowist_master(image: &mut [u8], node: u16) -> u64
+    ensures { λ r. ⌜ Claims (now (image .entry)) (master node) r (now (image .exit)) ⌝ }
+{
+    pack(controller::master(image, node))
+}
+
+// Brings the applied values to the target, in two calls.
+#[no_mangle]
+pub extern "C" fn makowist_sync(image: &mut [u8], node: u16) -> u64
+    ensures { λ r. ⌜ Claims (now (image .entry)) (sync node) r (now (image .exit)) ⌝ }
+{
+    pack(controller::sync(image, node))
+}
+
+// One step of a job: 1 commit change, 2 apply change, 3 commit rollback, 4 apply rollback.
+#[no_mangle]
+pub extern "C" fn makowist_work(
+    image: &mut [u8],
+    node: u16,
+    job: u16,
+    number: u16,
+    outcome: u16,
+    cut: u16,
+) -> u64
+    ensures { λ r. ⌜ Claims (now (image .entry)) (work node job number outcome cut) r (now (image .exit)) ⌝ }
+{
+    pack(controller::work(image, node, job, number, outcome, cut))
+}
+
+// ---- the reads
+
+// Whether the image is well-formed: 0 where it is, 1 where not.
+#[no_mangle]
+pub extern "C" fn makowist_well_formed(image: &[u8]) -> u64
+    ensures { λ r. ⌜ Tells (now (image .entry)) r ⌝ }
+{
+    if well_formed(image) {
+        return 0;
+    }
+    1
+}
+
+// The live list, newest first, in the room lent, and its length.
+#[no_mangle]
+pub extern "C" fn makowist_live(image: &[u8], room: &mut [u16]) -> u64
+    ensures { λ r. ⌜ Lists (now (image .entry)) (now (room .entry)) r (now (room .exit)) ⌝ }
+{
+    pack_listed(controller::live(image, room))
+}
+
+// The value of a path: table 1 Committed, 2 Applied, 3 the target.
+#[no_mangle]
+pub extern "C" fn makowist_value(image: &[u8], table: u16, path: u16) -> u64
+    ensures { λ r. ⌜ Shows (now (image .entry)) (ofTable table path) r ⌝ }
+{
+    pack_read(controller::value(image, table, path))
+}
+
+// A field of a transaction.
+#[no_mangle]
+pub extern "C" fn makowist_transaction(image: &[u8], number: u16, field: u16) -> u64
+    ensures { λ r. ⌜ Shows (now (image .entry)) (ofEntry number field) r ⌝ }
+{
+    pack_read(controller::transaction(image, number, field))
+}
+
+// A field of what the state has once.
+#[no_mangle]
+pub extern "C" fn makowist_record(image: &[u8], field: u16) -> u64
+    ensures { λ r. ⌜ Shows (now (image .entry)) (ofState field) r ⌝ }
+{
+    pack_read(controller::record(image, field))
+}
+
+// A field of a node's connection.
+#[no_mangle]
+pub extern "C" fn makowist_connection(image: &[u8], node: u16, field: u16) -> u64
+    ensures { λ r. ⌜ Shows (now (image .entry)) (ofNode node field) r ⌝ }
+{
+    pack_read(controller::connection(image, node, field))
+}

@@ -1,0 +1,199 @@
+//! The calls that are measured, each with the image that it is made on.
+
+use makowist_host::controller::State;
+use makowist_host::image::{self, at, ENTRY, LENGTH};
+use makowist_host::lean;
+use makowist_host::northbound::{self, act, bytes_of, Request};
+use makowist_host::peer;
+use makowist_host::reads::Query;
+use std::ops::Range;
+
+/// How many entries the measured logs have.
+pub const LENGTHS: [usize; 4] = [0, 16, 64, 128];
+
+#[derive(Clone, Debug)]
+pub enum Call {
+    Request(Request),
+    Read(Query),
+    Live,
+    WellFormed,
+}
+
+pub struct Scene {
+    pub name: &'static str,
+    pub length: usize,
+    pub image: Vec<u8>,
+    pub call: Call,
+    /// The part of the log that the call writes.
+    written: Range<usize>,
+}
+
+/// Who does the work.
+#[derive(Clone, Copy, PartialEq, Eq, Debug)]
+pub enum Side {
+    /// The exported functions of the proved archive.
+    Proved,
+    /// The independent controller's rules on the records that the call needs.
+    Independent,
+    /// The independent controller with its whole state decoded and encoded.
+    Typed,
+    /// A plain sum of the image's used bytes.
+    Floor,
+    /// The same bytes summed by words of eight.
+    Words,
+    /// Nothing: what the measuring itself costs.
+    Nothing,
+}
+
+impl Side {
+    pub const ALL: [Side; 6] =
+        [Side::Proved, Side::Independent, Side::Typed, Side::Floor, Side::Words, Side::Nothing];
+}
+
+impl Scene {
+    fn new(name: &'static str, length: usize, state: &State, call: Call) -> Scene {
+        let mut image = vec![0; LENGTH];
+        image::encode(state, &mut image);
+        let mut scene = Scene { name, length, image, call, written: 0..0 };
+        let mut after = scene.image.clone();
+        scene.run(Side::Typed, &mut after, &mut [0; 128]);
+        let differs: Vec<usize> = (0..at::LOG_LENGTH).filter(|place| after[*place] != scene.image[*place]).collect();
+        if let (Some(first), Some(last)) = (differs.first(), differs.last()) {
+            scene.written = first / ENTRY * ENTRY..(last / ENTRY + 1) * ENTRY;
+        }
+        scene
+    }
+
+    /// Makes the call on the image and answers its reply.
+    pub fn run(&self, side: Side, image: &mut [u8], room: &mut [u16]) -> u64 {
+        match (side, &self.call) {
+            (Side::Nothing, _) => 0,
+            (Side::Floor, _) => (sum(&image[..ENTRY * self.length]) + sum(&image[at::LOG_LENGTH..])).into(),
+            (Side::Words, _) => sum_of_words(&image[..ENTRY * self.length])
+                .wrapping_add(sum_of_words(&image[at::LOG_LENGTH..])),
+            (Side::Proved, Call::Request(request)) => {
+                let pairs = match request {
+                    Request::Append(pairs) => pairs.as_slice(),
+                    _ => &[],
+                };
+                peer::serve(image, request, pairs)
+            }
+            (Side::Proved, Call::Read(query)) => peer::read(image, *query),
+            (Side::Proved, Call::Live) => peer::live(image, room),
+            (Side::Proved, Call::WellFormed) => peer::well_formed(image),
+            (Side::Independent, Call::Request(request)) => lean::serve(image, request),
+            (Side::Independent, Call::Read(query)) => lean::read(image, *query),
+            (Side::Independent, Call::Live) => lean::live(image, room),
+            (Side::Independent, Call::WellFormed) => well_formed(lean::is_well_formed(image)),
+            (Side::Typed, Call::Request(request)) => northbound::serve(image, request).packed(),
+            (Side::Typed, Call::Read(query)) => query.packed(image::decode(image).as_ref(), image),
+            (Side::Typed, Call::Live) => northbound::live(image, room),
+            (Side::Typed, Call::WellFormed) => well_formed(image::decode(image).is_some()),
+        }
+    }
+
+    /// Puts back what the call may have changed.
+    pub fn restore(&self, image: &mut [u8]) {
+        image[at::LOG_LENGTH..].copy_from_slice(&self.image[at::LOG_LENGTH..]);
+        image[self.written.clone()].copy_from_slice(&self.image[self.written.clone()]);
+    }
+
+    /// The three that do the work must agree on it before they are measured.
+    pub fn check(&self) -> u64 {
+        let answers = [Side::Proved, Side::Independent, Side::Typed].map(|side| {
+            let (mut image, mut room) = (self.image.clone(), vec![0; 128]);
+            (self.run(side, &mut image, &mut room), image, room)
+        });
+        assert!(answers[0] == answers[2] && answers[1] == answers[2], "{} at {}: the sides differ", self.name, self.length);
+        answers[0].0 & 0xff
+    }
+}
+
+fn well_formed(formed: bool) -> u64 {
+    if formed { peer::WELL_FORMED } else { peer::NOT_WELL_FORMED }
+}
+
+fn sum(bytes: &[u8]) -> u32 {
+    bytes.iter().map(|byte| u32::from(*byte)).sum()
+}
+
+fn sum_of_words(bytes: &[u8]) -> u64 {
+    let word = |eight: &[u8]| u64::from_le_bytes(eight.try_into().expect("eight bytes"));
+    bytes.chunks_exact(8).map(word).fold(0, u64::wrapping_add)
+}
+
+fn work(job: u16, number: usize) -> Request {
+    Request::Work { node: 1, job, number: number as u16, outcome: 0, cut: 0 }
+}
+
+fn append(number: usize) -> Request {
+    let path = (number % 29) as u16;
+    Request::Append(bytes_of(&[(path, 7), (path + 1, 8), (path + 2, 9)]))
+}
+
+/// Carries the requests out, all of which are accepted.
+fn led(mut state: State, requests: &[Request]) -> State {
+    for request in requests {
+        let served = act(&mut state, request);
+        assert!(served.reply.is_ok(), "{request:?}: {served:?}");
+    }
+    state
+}
+
+/// A log of that length, all of it committed and applied, with the line open for node 1.
+fn applied(length: usize) -> State {
+    let line = [Request::Start, Request::Connect(1), Request::Master(1), Request::Sync(1), Request::Sync(1)];
+    let mut state = led(State::fresh(), &line);
+    for number in 1..=length {
+        state = led(state, &[append(number), work(1, number), work(1, number), work(2, number), work(2, number)]);
+    }
+    state
+}
+
+/// Every call on a log of that length. An append's log is at most 127 long; jobs on an empty log are refused.
+pub fn scenes(length: usize) -> Vec<Scene> {
+    let base = applied(length);
+    let mut scenes = Vec::new();
+    let mut add = |name, state: &State, request| scenes.push(Scene::new(name, length, state, Call::Request(request)));
+
+    let before_last = applied(length.saturating_sub(1));
+    add("fresh", &base, Request::Fresh);
+    add("append", if length == 128 { &before_last } else { &base }, append(length.min(127) + 1));
+    add("rollback", &base, Request::Rollback(length as u16));
+    add("stop", &base, Request::Stop);
+    add("start", &led(base.clone(), &[Request::Stop]), Request::Start);
+    add("connect", &base, Request::Connect(2));
+    add("disconnect", &base, Request::Disconnect(1));
+    let freed = led(base.clone(), &[Request::Disconnect(1), Request::Master(1), Request::Connect(2)]);
+    add("master", &freed, Request::Master(2));
+    let synchronising = led(freed, &[Request::Master(2), Request::Sync(2)]);
+    add("sync", &synchronising, Request::Sync(2));
+
+    if length == 0 {
+        for (name, job) in [("job 1", 1), ("job 2", 2), ("job 3", 3), ("job 4", 4)] {
+            add(name, &base, work(job, 1));
+        }
+    } else {
+        let mut state = led(before_last, &[append(length)]);
+        for (name, job) in [("job 1 open", 1), ("job 1 accept", 1), ("job 2 open", 2), ("job 2 push", 2)] {
+            add(name, &state, work(job, length));
+            state = led(state, &[work(job, length)]);
+        }
+        state = led(state, &[Request::Rollback(length as u16)]);
+        for (name, job) in [("job 3 open", 3), ("job 3 return", 3), ("job 4 open", 4), ("job 4 push", 4)] {
+            add(name, &state, work(job, length));
+            state = led(state, &[work(job, length)]);
+        }
+    }
+    for (name, query) in [
+        ("read a value", Query::Value { table: 2, path: 9 }),
+        ("read a transaction", Query::Transaction { number: length as u16, field: 4 }),
+        ("read a record", Query::Record { field: 9 }),
+        ("read a connection", Query::Connection { node: 8, field: 1 }),
+    ] {
+        scenes.push(Scene::new(name, length, &base, Call::Read(query)));
+    }
+    scenes.push(Scene::new("live list", length, &base, Call::Live));
+    scenes.push(Scene::new("well-formed", length, &base, Call::WellFormed));
+    scenes
+}

@@ -1,0 +1,186 @@
+//! Two controllers side by side: each call goes to both, and reply and every byte must be the same.
+
+use crate::counts::Counts;
+use makowist_host::controller::State;
+use makowist_host::fault::Fault;
+use makowist_host::guarded::{Edge, Guarded};
+use makowist_host::image;
+use makowist_host::northbound::{self, Request, Served};
+use makowist_host::peer;
+use makowist_host::reads::Query;
+use std::fmt;
+
+/// A call on which the two did not agree.
+pub struct Difference(String);
+
+impl fmt::Display for Difference {
+    fn fmt(&self, to: &mut fmt::Formatter) -> fmt::Result {
+        to.write_str(&self.0)
+    }
+}
+
+pub type Compared<T> = Result<T, Difference>;
+
+/// What lies in room before the live list is written there.
+const UNWRITTEN: u16 = 0xabcd;
+
+/// The most room that a live list is lent, past the longest list.
+pub const MOST_ROOM: usize = 130;
+
+pub struct Desk {
+    lent: Guarded,
+    lent_pairs: Guarded,
+    lent_room: Guarded,
+    pub edge: Edge,
+    fault: Option<Fault>,
+    pub counts: Counts,
+}
+
+impl Desk {
+    pub fn new(fault: Option<Fault>) -> Desk {
+        Desk {
+            lent: Guarded::new(),
+            lent_pairs: Guarded::new(),
+            lent_room: Guarded::new(),
+            edge: Edge::End,
+            fault,
+            counts: Counts::default(),
+        }
+    }
+
+    /// Lays these bytes down as the image that the proved controller is lent from now on.
+    pub fn lend(&mut self, bytes: &[u8]) {
+        self.lent.bytes(bytes.len(), self.edge).copy_from_slice(bytes);
+    }
+
+    /// Sends a call to both from the state and its image, which has been lent, and leaves both after the call.
+    pub fn call(&mut self, state: &mut State, bytes: &mut [u8], request: &Request) -> Compared<Served> {
+        let served = self.act(state, request);
+        if served.reply.is_ok() {
+            northbound::store(state, request, bytes);
+        }
+        self.hold(bytes, request, served)
+    }
+
+    /// As `call`, leaving state and image as they were: answers those after the call where it was accepted.
+    pub fn call_from(&mut self, state: &State, bytes: &[u8], request: &Request) -> Compared<Option<(State, Vec<u8>)>> {
+        let mut after = state.clone();
+        let served = self.act(&mut after, request);
+        if served.reply.is_err() {
+            return self.hold(bytes, request, served).map(|_| None);
+        }
+        let mut after_bytes = bytes.to_vec();
+        northbound::store(&after, request, &mut after_bytes);
+        self.hold(&after_bytes, request, served)?;
+        self.lend(bytes);
+        Ok(Some((after, after_bytes)))
+    }
+
+    fn act(&self, state: &mut State, request: &Request) -> Served {
+        match self.fault {
+            None => northbound::act(state, request),
+            Some(fault) => fault.act(state, request),
+        }
+    }
+
+    /// As `call_from`, from bytes that have been lent and may be no image; `state` is what they decode to.
+    pub fn call_from_bytes(&mut self, state: Option<&State>, bytes: &[u8], request: &Request) -> Compared<()> {
+        if let (Some(state), true) = (state, *request != Request::Fresh) {
+            return self.call_from(state, bytes, request).map(|_| ());
+        }
+        let mut after_bytes = bytes.to_vec();
+        let served = northbound::serve(&mut after_bytes, request);
+        self.hold(&after_bytes, request, served)?;
+        self.lend(bytes);
+        Ok(())
+    }
+
+    /// Sends the call to the proved controller and holds its reply and its bytes against what is expected.
+    fn hold(&mut self, expected: &[u8], request: &Request, served: Served) -> Compared<Served> {
+        let pairs = match request {
+            Request::Append(pairs) => pairs.as_slice(),
+            _ => &[],
+        };
+        let lent_pairs = self.lent_pairs.bytes(pairs.len(), self.edge);
+        lent_pairs.copy_from_slice(pairs);
+        let lent = self.lent.bytes(expected.len(), self.edge);
+        let reply = peer::serve(lent, request, lent_pairs);
+        self.counts.called(request, &served);
+        if reply != served.packed() {
+            return Err(Difference(format!(
+                "{request:?}\n  independent reply {:#x} {:?} by rule {:?}\n  proved reply {reply:#x}\n{}",
+                served.packed(),
+                served.reply,
+                served.rule,
+                shown(expected)
+            )));
+        }
+        if lent_pairs != pairs {
+            return Err(Difference(format!("{request:?}: the lent pairs were written")));
+        }
+        same_bytes(expected, lent).map_err(|Difference(text)| {
+            Difference(format!("{request:?} by rule {:?}\n{text}\n{}", served.rule, shown(expected)))
+        })?;
+        Ok(served)
+    }
+
+    /// Compares one read from bytes that have been lent.
+    pub fn query(&mut self, state: Option<&State>, bytes: &[u8], query: Query) -> Compared<()> {
+        let expected = self.fault.map_or(query, |fault| fault.misread(query)).packed(state, bytes);
+        let lent = self.lent.bytes(bytes.len(), self.edge);
+        let reply = peer::read(lent, query);
+        self.counts.queried(query, expected);
+        if reply != expected {
+            return Err(Difference(format!(
+                "{query:?}\n  independent {expected:#x}\n  proved {reply:#x}\n{}",
+                shown(bytes)
+            )));
+        }
+        same_bytes(bytes, lent)
+    }
+
+    /// Compares whether lent bytes are well-formed, and their live list in that room.
+    pub fn read(&mut self, state: Option<&State>, bytes: &[u8], room: usize) -> Compared<()> {
+        let mut expected_room = [UNWRITTEN; MOST_ROOM];
+        let expected = northbound::live_of(state, &mut expected_room[..room]);
+        let lent_room = self.lent_room.numbers(room, self.edge);
+        lent_room.fill(UNWRITTEN);
+        let lent = self.lent.bytes(bytes.len(), self.edge);
+        let reply = peer::live(lent, lent_room);
+        let formed = peer::well_formed(lent);
+        self.counts.read(expected);
+        if reply != expected || lent_room != &expected_room[..room] {
+            return Err(Difference(format!(
+                "live list in room of {room}\n  independent {expected:#x} {:?}\n  proved {reply:#x} {lent_room:?}\n{}",
+                &expected_room[..room],
+                shown(bytes)
+            )));
+        }
+        let expected = if state.is_some() { peer::WELL_FORMED } else { peer::NOT_WELL_FORMED };
+        if formed != expected {
+            return Err(Difference(format!("well-formed: expected {expected}, proved {formed}\n{}", shown(bytes))));
+        }
+        same_bytes(bytes, lent)
+    }
+}
+
+fn same_bytes(expected: &[u8], found: &[u8]) -> Compared<()> {
+    if expected == found {
+        return Ok(());
+    }
+    let place = expected.iter().zip(found).position(|(expected, found)| expected != found).unwrap_or(0);
+    Err(Difference(format!(
+        "  byte {place}: independent {}, proved {} ({} bytes differ)",
+        expected[place],
+        found[place],
+        expected.iter().zip(found).filter(|(expected, found)| expected != found).count()
+    )))
+}
+
+/// The image after the call as the independent controller has it, for the reader of a difference.
+fn shown(bytes: &[u8]) -> String {
+    match image::decode(bytes) {
+        Some(state) => format!("  independent state after the call: {state:?}"),
+        None => format!("  {} bytes that are no image", bytes.len()),
+    }
+}

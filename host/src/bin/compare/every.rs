@@ -1,0 +1,104 @@
+//! Every state that a fresh controller with a few transactions and the line open can reach, and every call from each.
+
+use crate::desk::{Compared, Desk};
+use makowist_host::controller::State;
+use makowist_host::guarded::Edge;
+use makowist_host::image::LENGTH;
+use makowist_host::northbound::{bytes_of, Request};
+use makowist_host::reads::Query;
+use std::collections::HashSet;
+
+/// The changes that are appended, one after another. They meet on two paths, and one deletes.
+const CHANGES: [&[(u16, u16)]; 5] =
+    [&[(3, 7)], &[(3, 9), (5, 1)], &[(3, 0), (5, 2)], &[(0, 1), (3, 4), (5, 0), (31, 65535)], &[(5, 6)]];
+
+/// Of how many states one is read whole.
+const READ_ONE_IN: usize = 15;
+
+/// Walks breadth first, comparing every call from every state, and answers how many states there are.
+pub fn run(desk: &mut Desk, transactions: usize) -> Compared<usize> {
+    let mut seen = HashSet::new();
+    let mut level = vec![opened(desk)?];
+    seen.insert(level[0].0.clone());
+    while !level.is_empty() {
+        let mut next = Vec::new();
+        for (place, (state, bytes)) in level.iter().enumerate() {
+            desk.edge = if place % 2 == 0 { Edge::End } else { Edge::Begin };
+            desk.lend(bytes);
+            for (request, walks) in requests(state, transactions) {
+                let reached = desk.call_from(state, bytes, &request)?;
+                next.extend(reached.filter(|(after, _)| walks && seen.insert(after.clone())));
+            }
+            for room in 0..=transactions {
+                desk.read(Some(state), bytes, room)?;
+            }
+            if place % READ_ONE_IN == 0 {
+                for query in queries(state) {
+                    desk.query(Some(state), bytes, query)?;
+                }
+            }
+        }
+        level = next;
+    }
+    Ok(seen.len())
+}
+
+/// A fresh controller with the line open for node 1.
+fn opened(desk: &mut Desk) -> Compared<(State, Vec<u8>)> {
+    let mut state = State::fresh();
+    let mut bytes = vec![0xff; LENGTH];
+    desk.lend(&bytes);
+    for request in [
+        Request::Fresh,
+        Request::Start,
+        Request::Connect(1),
+        Request::Master(1),
+        Request::Sync(1),
+        Request::Sync(1),
+    ] {
+        desk.call(&mut state, &mut bytes, &request)?;
+    }
+    Ok((state, bytes))
+}
+
+/// Every call from a state, and whether the walk goes on from where it leads: those that leave the line as it is do.
+fn requests(state: &State, transactions: usize) -> Vec<(Request, bool)> {
+    let length = state.log.len();
+    let past = length as u16 + 1;
+    let append = Request::Append(bytes_of(CHANGES[length.min(CHANGES.len() - 1)]));
+    let mut all = vec![
+        (append, length < transactions),
+        (Request::Append(Vec::new()), false),
+        (Request::Append(bytes_of(&[(4, 1), (4, 2)])), false),
+        (Request::Fresh, false),
+        (Request::Start, false),
+        (Request::Stop, false),
+    ];
+    for node in [0, 1, 2, 8, 9] {
+        let calls = [Request::Connect, Request::Disconnect, Request::Master, Request::Sync];
+        all.extend(calls.map(|call| (call(node), false)));
+    }
+    for number in 0..=past {
+        all.push((Request::Rollback(number), true));
+        for job in 1..=4 {
+            for (outcome, cut) in [(0, 0), (0, 1), (1, 0), (1, 1)] {
+                all.push((Request::Work { node: 1, job, number, outcome, cut }, true));
+            }
+            all.push((Request::Work { node: 2, job, number, outcome: 0, cut: 0 }, false));
+        }
+    }
+    for [node, job, outcome, cut] in [[0, 1, 0, 0], [9, 1, 0, 0], [1, 0, 0, 0], [1, 5, 0, 0], [1, 1, 2, 0], [1, 1, 0, 2]] {
+        all.push((Request::Work { node, job, number: length as u16, outcome, cut }, false));
+    }
+    all
+}
+
+/// Every read of what differs between these states: the log, the heads, and the values of the paths that are changed.
+fn queries(state: &State) -> impl Iterator<Item = Query> {
+    let changed = |path: u16| CHANGES.iter().any(|change| change.iter().any(|(changed, _)| *changed == path));
+    Query::all(state.log.len()).into_iter().filter(move |query| match query {
+        Query::Value { path, .. } => changed(*path),
+        Query::Connection { .. } => false,
+        _ => true,
+    })
+}

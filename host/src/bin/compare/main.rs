@@ -1,0 +1,173 @@
+//! Holds the proved controller and the independent one together, call by call, reply and every byte.
+//!
+//! Arguments, each `name=value`, in any order:
+//!
+//! - `sessions`, `unreached`, `damaged`: how many calls of each kind; `transactions`: how far the exhaustive walk goes
+//! - `seed`: another one makes another run
+//! - `minutes`: go on with new seeds until so many minutes have passed
+//! - `fault=NAME`: put that fault into the independent copy; a difference is then expected, and ends the run with 1
+//! - `fault=all`: try every fault, and end with 1 where one is not found
+//! - `overrun=1`: write one byte past a lent slice, which must end the program with a fault
+//!
+//! Ends with 0 where there is no difference and every answer and every rule, whole and cut, was seen.
+
+mod counts;
+mod desk;
+mod every;
+mod sessions;
+mod states;
+
+use desk::{Compared, Desk};
+use makowist_host::fault::Fault;
+use makowist_host::guarded::{Edge, Guarded};
+use makowist_host::random::Random;
+use std::process::ExitCode;
+use std::time::{Duration, Instant};
+
+#[derive(Clone)]
+struct Sizes {
+    sessions: u64,
+    unreached: u64,
+    damaged: u64,
+    transactions: usize,
+}
+
+struct Arguments {
+    sizes: Sizes,
+    seed: u64,
+    minutes: u64,
+    fault: Option<String>,
+    overrun: bool,
+}
+
+fn arguments() -> Result<Arguments, String> {
+    let sizes = Sizes { sessions: 1_000_000, unreached: 400_000, damaged: 150_000, transactions: 3 };
+    let mut arguments = Arguments { sizes, seed: 1, minutes: 0, fault: None, overrun: false };
+    for argument in std::env::args().skip(1) {
+        let (name, value) = argument.split_once('=').ok_or(format!("{argument}: expected name=value"))?;
+        let number = || value.parse::<u64>().map_err(|error| format!("{argument}: {error}"));
+        match name {
+            "sessions" => arguments.sizes.sessions = number()?,
+            "unreached" => arguments.sizes.unreached = number()?,
+            "damaged" => arguments.sizes.damaged = number()?,
+            "transactions" => arguments.sizes.transactions = number()?.min(5) as usize,
+            "seed" => arguments.seed = number()?,
+            "minutes" => arguments.minutes = number()?,
+            "fault" => arguments.fault = Some(value.to_string()),
+            "overrun" => arguments.overrun = number()? == 1,
+            _ => return Err(format!("{argument}: no such argument")),
+        }
+    }
+    Ok(arguments)
+}
+
+/// One comparison of every kind: once with the lent slices' ends at a page that is not mapped, once with their beginnings.
+fn compare(desk: &mut Desk, sizes: &Sizes, seed: u64, tells: bool) -> Compared<()> {
+    let told = |what: &str, desk: &Desk| {
+        if tells {
+            println!("compare: {what}; {} calls and {} reads so far", desk.counts.calls, desk.counts.reads);
+        }
+    };
+    let mut random = Random::new(seed);
+    if sizes.transactions > 0 {
+        let states = every::run(desk, sizes.transactions)?;
+        told(&format!("{states} states with up to {} transactions, every call from each", sizes.transactions), desk);
+    }
+    for edge in [Edge::End, Edge::Begin] {
+        desk.edge = edge;
+        sessions::rooms(desk)?;
+        told("live lists of every length in rooms of every length", desk);
+        sessions::run(desk, sizes.sessions / 2, &mut random)?;
+        told("random sessions", desk);
+    }
+    states::unreached(desk, sizes.unreached, &mut random)?;
+    told("states that no session reaches", desk);
+    states::damaged(desk, sizes.damaged, &mut random)?;
+    told("damaged images", desk);
+    Ok(())
+}
+
+/// Compares, again and again while there is time, and answers whether all was seen and nothing differed.
+fn compare_for(arguments: &Arguments, fault: Option<Fault>) -> bool {
+    let mut desk = Desk::new(fault);
+    let began = Instant::now();
+    let mut sizes = arguments.sizes.clone();
+    let mut seed = arguments.seed;
+    loop {
+        if let Err(difference) = compare(&mut desk, &sizes, seed, seed == arguments.seed) {
+            println!("compare: DIFFERENCE with seed {seed} at call {}\n{difference}", desk.counts.calls);
+            return false;
+        }
+        if began.elapsed() >= Duration::from_secs(60 * arguments.minutes) {
+            break;
+        }
+        seed += 1;
+        sizes.transactions = 0;
+        println!(
+            "compare: {} s of {} s, {} calls, 0 differences",
+            began.elapsed().as_secs(),
+            60 * arguments.minutes,
+            desk.counts.calls
+        );
+    }
+    let unseen = desk.counts.told();
+    println!(
+        "compare: {} calls and {} reads compared in {} s, 0 differences, {unseen} kinds never seen",
+        desk.counts.calls,
+        desk.counts.reads,
+        began.elapsed().as_secs()
+    );
+    unseen == 0
+}
+
+/// Tries every fault in the independent copy, and answers whether each was found.
+fn find_faults(arguments: &Arguments) -> bool {
+    let faults = Fault::all();
+    let mut missed = 0;
+    for fault in &faults {
+        let mut desk = Desk::new(Some(*fault));
+        let found = compare(&mut desk, &arguments.sizes, arguments.seed, false).is_err();
+        println!("{:>10}  {fault:?}{}", desk.counts.calls, if found { "" } else { " was NOT found" });
+        missed += usize::from(!found);
+    }
+    println!("compare: {} faults put in, one at a time; {} found, {missed} missed", faults.len(), faults.len() - missed);
+    missed == 0
+}
+
+/// Writes the byte past a lent slice.
+fn overrun() {
+    let mut memory = Guarded::new();
+    let last = memory.bytes(16, Edge::End).as_mut_ptr_range().end;
+    println!("compare: a byte past a lent slice is written now");
+    // SAFETY: none; it must fault.
+    unsafe { last.write_volatile(1) };
+    println!("compare: it went through");
+}
+
+fn main() -> ExitCode {
+    let arguments = match arguments() {
+        Ok(arguments) => arguments,
+        Err(error) => {
+            eprintln!("compare: {error}");
+            return ExitCode::from(2);
+        }
+    };
+    let fault = arguments.fault.as_deref().filter(|name| *name != "all");
+    let passed = if arguments.overrun {
+        overrun();
+        false
+    } else if arguments.fault.as_deref() == Some("all") {
+        find_faults(&arguments)
+    } else if let Some(name) = fault {
+        match Fault::named(name) {
+            Some(fault) => compare_for(&arguments, Some(fault)),
+            None => {
+                eprintln!("compare: no fault is named {name}; there are {:?}", Fault::all());
+                return ExitCode::from(2);
+            }
+        }
+    } else {
+        compare_for(&arguments, None)
+    };
+    if passed { ExitCode::SUCCESS } else { ExitCode::FAILURE }
+}

@@ -1,0 +1,296 @@
+//! Calls from well-formed states that no session reaches, and from damaged images.
+
+use crate::desk::{Compared, Desk, MOST_ROOM};
+use makowist_host::controller::{
+    Applied, Change, Committed, Configuration, ConfigurationState, Connection, Mastership, Node, Number, Ordinal, Phase,
+    Progress, State, Status, Target, Term, Transaction, Values,
+};
+use makowist_host::guarded::Edge;
+use makowist_host::image::{self, at, entry, put_u16, put_u32, ENTRY, LENGTH};
+use makowist_host::northbound::{pairs_of, Request};
+use makowist_host::random::Random;
+use makowist_host::reads::Query;
+use makowist_host::requests::{change, wild};
+
+/// Compares so many calls from states that are well-formed and otherwise arbitrary.
+pub fn unreached(desk: &mut Desk, calls: u64, random: &mut Random) -> Compared<()> {
+    let end = desk.counts.calls + calls;
+    while desk.counts.calls < end {
+        let focus = Focus::new(random);
+        let state = focus.state(random);
+        let bytes = focus.image(&state, random);
+        assert_eq!(image::decode(&bytes).as_ref(), Some(&state), "a made-up state is well-formed");
+        turn(desk);
+        desk.lend(&bytes);
+        for _ in 0..20 {
+            let request = match random.once_in(4) {
+                true => wild(state.log.len(), random),
+                false => focus.request(&state, random),
+            };
+            desk.call_from_bytes(Some(&state), &bytes, &request)?;
+        }
+        desk.read(Some(&state), &bytes, random.below(MOST_ROOM + 1))?;
+        for _ in 0..8 {
+            desk.query(Some(&state), &bytes, Query::any(state.log.len(), random))?;
+        }
+    }
+    Ok(())
+}
+
+/// Compares so many calls from images with a byte, a field, the length or everything damaged.
+pub fn damaged(desk: &mut Desk, calls: u64, random: &mut Random) -> Compared<()> {
+    let end = desk.counts.calls + calls;
+    while desk.counts.calls < end {
+        let focus = Focus::new(random);
+        let state = focus.state(random);
+        let mut bytes = focus.image(&state, random);
+        damage(&mut bytes, state.log.len(), random);
+        let decoded = image::decode(&bytes);
+        turn(desk);
+        desk.lend(&bytes);
+        for _ in 0..6 {
+            let request = match random.once_in(2) {
+                true => wild(state.log.len(), random),
+                false => focus.request(&state, random),
+            };
+            desk.call_from_bytes(decoded.as_ref(), &bytes, &request)?;
+        }
+        if random.once_in(20) {
+            desk.call_from_bytes(decoded.as_ref(), &bytes, &Request::Fresh)?;
+        }
+        desk.read(decoded.as_ref(), &bytes, random.below(MOST_ROOM + 1))?;
+        for _ in 0..4 {
+            desk.query(decoded.as_ref(), &bytes, Query::any(state.log.len(), random))?;
+        }
+    }
+    Ok(())
+}
+
+/// Lends the next image at the other edge.
+fn turn(desk: &mut Desk) {
+    desk.edge = match desk.edge {
+        Edge::End => Edge::Begin,
+        Edge::Begin => Edge::End,
+    };
+}
+
+fn damage(bytes: &mut Vec<u8>, length: usize, random: &mut Random) {
+    match random.below(20) {
+        0 => bytes.iter_mut().for_each(|byte| *byte = random.bits() as u8),
+        1 => {
+            let length = random.one_of(&[0, 1, 36, 4608, 4610, LENGTH - 1, LENGTH + 1, LENGTH + 36, 9766, 65536]);
+            bytes.resize(length, random.bits() as u8);
+        }
+        2..=7 => {
+            let place = place_in_use(length, random);
+            bytes[place] = random.bits() as u8;
+        }
+        8 | 9 => {
+            let place = place_in_use(length, random);
+            bytes[place] ^= 1 << random.below(8);
+        }
+        10..=14 if length > 0 => damage_entry(&mut bytes[ENTRY * random.below(length)..][..ENTRY], random),
+        _ => damage_record(bytes, random),
+    }
+}
+
+/// A place that some field uses, or any.
+fn place_in_use(length: usize, random: &mut Random) -> usize {
+    match random.below(4) {
+        0 | 1 if length > 0 => random.below(ENTRY * length),
+        0 => random.below(LENGTH),
+        _ => random.between(at::LOG_LENGTH, LENGTH - 1),
+    }
+}
+
+/// Puts a number just outside its range, or far, into a field of an entry.
+fn damage_entry(bytes: &mut [u8], random: &mut Random) {
+    let status = [entry::C_COMMIT, entry::C_APPLY, entry::R_COMMIT, entry::R_APPLY];
+    match random.below(7) {
+        0 => bytes[random.one_of(&status)] = random.one_of(&[6, 7, 8, 128, 255]),
+        1 => bytes[entry::PHASE] = random.one_of(&[0, 1, 2, 3, 255]),
+        2 => bytes[entry::PAIRS] = random.one_of(&[0, 1, 4, 5, 255]),
+        3 => put_u16(bytes, entry::R_INDEX, random.one_of(&[0, 1, 2, 127, 128, 255, 256, 65535])),
+        4 => put_u32(bytes, entry::C_ORDINAL, random.one_of(&[255, 256, 257, 65536, 1 << 24, u32::MAX])),
+        5 => put_u32(bytes, entry::R_ORDINAL, random.one_of(&[255, 256, 257, 65536, 1 << 24, u32::MAX])),
+        _ => bytes[entry::PATHS + random.below(4)] = random.one_of(&[0, 1, 30, 31, 32, 33, 255]),
+    }
+}
+
+/// As `damage_entry`, in a record after the log.
+fn damage_record(bytes: &mut [u8], random: &mut Random) {
+    let numbers = [0, 2, 4, 6, 8, 14, 16, 18].map(|field| at::LOG_LENGTH + field);
+    let flags = [at::TARGET + 4, at::CONNECTIONS + 4, at::CONNECTIONS + 39];
+    match random.below(6) {
+        0 | 1 => put_u16(bytes, random.one_of(&numbers), random.one_of(&[0, 1, 2, 127, 128, 129, 256, 65535])),
+        2 => {
+            let place = random.one_of(&[at::COMMITTED + 6, at::APPLIED + 6]);
+            put_u32(bytes, place, random.one_of(&[0, 255, 256, 257, 65536, u32::MAX]));
+        }
+        3 => bytes[at::CONFIGURATION] = random.one_of(&[0, 1, 3, 4, 255]),
+        4 => bytes[at::MASTERSHIP] = random.one_of(&[0, 8, 9, 255]),
+        _ => bytes[random.one_of(&flags)] = random.one_of(&[0, 1, 2, 255]),
+    }
+}
+
+/// What a made-up state is made around: a transaction, its r.index and ordinals, so that rules have a chance to hold.
+struct Focus {
+    length: u16,
+    number: u16,
+    r_index: u16,
+    applied_ordinal: u32,
+    master: u16,
+}
+
+impl Focus {
+    fn new(random: &mut Random) -> Focus {
+        let length = random.one_of(&[0, 1, 2, 2, 3, 3, 4, 5, 9, 30, 127, 128]);
+        let number = random.below(length.into()) as u16 + 1;
+        Focus {
+            length,
+            number,
+            r_index: random.below(number.into()) as u16,
+            applied_ordinal: random.one_of(&[0, 0, 1, 2, 3, 100, 254, 255, 256]),
+            master: random.between(1, 8) as u16,
+        }
+    }
+
+    fn request(&self, state: &State, random: &mut Random) -> Request {
+        let near = |random: &mut Random| match random.below(8) {
+            0 => random.below(usize::from(self.length) + 2) as u16,
+            _ => self.number,
+        };
+        match random.below(12) {
+            0 => Request::Rollback(near(random)),
+            1 => Request::Append(change(random)),
+            2 => random.one_of(&[Request::Start, Request::Stop].each_ref()).clone(),
+            3 => Request::Master(self.master),
+            4 => Request::Sync(self.master),
+            5 => Request::Connect(self.master),
+            _ => {
+                let job = match random.below(3) {
+                    0 => random.between(1, 4) as u16,
+                    _ if state.transaction(Number(self.number)).is_some_and(|it| it.phase == Phase::Rollback) => {
+                        random.one_of(&[3, 4, 4])
+                    }
+                    _ => random.one_of(&[1, 2, 2]),
+                };
+                let number = near(random);
+                Request::Work {
+                    node: self.master,
+                    job,
+                    number,
+                    outcome: random.below(2) as u16,
+                    cut: random.below(2) as u16,
+                }
+            }
+        }
+    }
+
+    /// The state's image with arbitrary bytes wherever nothing is looked at.
+    fn image(&self, state: &State, random: &mut Random) -> Vec<u8> {
+        let mut bytes = vec![0; LENGTH];
+        for eight in bytes.chunks_mut(8) {
+            let bits = random.bits().to_le_bytes();
+            eight.copy_from_slice(&bits[..eight.len()]);
+        }
+        put_u16(&mut bytes, at::LOG_LENGTH, self.length);
+        image::encode(state, &mut bytes);
+        bytes
+    }
+
+    fn state(&self, random: &mut Random) -> State {
+        let log = (1..=self.length).map(|number| self.transaction(number, random)).collect();
+        let term = random.one_of(&[0, 1, 7, u32::MAX - 1, u32::MAX]);
+        let conn = random.one_of(&[0, 1, 5, u32::MAX]);
+        let mut connections = [Connection::default(); 8];
+        for connection in &mut connections {
+            let id = random.one_of(&[conn, conn, conn.wrapping_add(1), 0, u32::MAX]);
+            *connection = Connection { id, connected: random.below(3) > 0 };
+        }
+        let state = [ConfigurationState::Pending, ConfigurationState::InProgress, ConfigurationState::Complete];
+        State {
+            log,
+            committed: self.committed(random),
+            applied: self.applied(random),
+            configuration: Configuration {
+                state: random.one_of(&[state[0], state[1], state[2], state[2]]),
+                term: Term(random.one_of(&[term, term, term.saturating_sub(1), term.saturating_add(1), 0])),
+            },
+            mastership: Mastership {
+                master: Node::new(random.one_of(&[self.master, self.master, self.master, self.master, 0])),
+                term: Term(term),
+                conn,
+            },
+            connections,
+            target: Target {
+                id: random.one_of(&[0, 1, u32::MAX - 1, u32::MAX]),
+                running: random.below(4) > 0,
+                values: values(random),
+            },
+        }
+    }
+
+    fn transaction(&self, number: u16, random: &mut Random) -> Transaction {
+        let change = pairs_of(&change(random)).and_then(|pairs| Change::new(pairs.into_iter()));
+        let change = change.expect("a valid change");
+        let mut r_values = [0; 4];
+        r_values.iter_mut().take(change.pairs().len()).for_each(|value| *value = random.bits() as u16);
+        let focused = number == self.number;
+        let status = |random: &mut Random| random.one_of(&Status::ALL);
+        let commit = |random: &mut Random| match random.below(3) {
+            0 => random.one_of(&Status::ALL),
+            1 => random.one_of(&[Status::Pending, Status::InProgress, Status::Failed]),
+            _ => Status::Complete,
+        };
+        Transaction {
+            phase: random.one_of(&[Phase::Change, Phase::Rollback]),
+            change,
+            c: Progress { commit: commit(random), apply: status(random), ordinal: self.ordinal(random) },
+            r: Progress { commit: commit(random), apply: status(random), ordinal: self.ordinal(random) },
+            r_index: Number(if focused { self.r_index } else { random.below(number.into()) as u16 }),
+            r_values,
+        }
+    }
+
+    fn ordinal(&self, random: &mut Random) -> Ordinal {
+        let present = self.applied_ordinal;
+        let near = random.one_of(&[present, present + 1, present + 1, present + 1, present + 2, 0]);
+        Ordinal(if random.once_in(5) { random.below(257) as u32 } else { near.min(256) })
+    }
+
+    fn any_number(&self, random: &mut Random) -> u16 {
+        random.below(usize::from(self.length) + 1) as u16
+    }
+
+    /// A number that a head's field may hold: one of those that rules compare with, or any of the log's.
+    fn head(&self, wanted: &[u16], random: &mut Random) -> Number {
+        let number = if random.once_in(5) { self.any_number(random) } else { random.one_of(wanted) };
+        Number(number.min(self.length))
+    }
+
+    fn committed(&self, random: &mut Random) -> Committed {
+        let change = self.head(&[self.number - 1, self.number - 1, self.number, self.length], random);
+        let revision = self.head(&[self.number, self.r_index, change.0], random).min(change);
+        let index = self.head(&[change.0, self.number, revision.0, 0], random);
+        let target = self.head(&[self.number, self.r_index, index.0, index.0, revision.0, 0], random);
+        let ordinal = Ordinal(random.one_of(&[0, 1, 2, 255, 256]));
+        Committed { index, change, target, revision, ordinal, values: values(random) }
+    }
+
+    fn applied(&self, random: &mut Random) -> Applied {
+        Applied {
+            index: self.head(&[self.number, self.r_index], random),
+            target: self.head(&[self.number, self.r_index, 0], random),
+            revision: self.head(&[self.r_index, self.r_index, self.r_index.saturating_sub(1), self.number], random),
+            ordinal: Ordinal(self.applied_ordinal),
+            values: values(random),
+        }
+    }
+}
+
+fn values(random: &mut Random) -> Values {
+    let mut values = [0; 32];
+    values.iter_mut().for_each(|value| *value = random.bits() as u16);
+    values
+}

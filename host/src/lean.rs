@@ -1,0 +1,415 @@
+//! The C interface's calls over the independent controller's rules, without a state: the image is checked where it lies,
+//! and only the records that a call reads are loaded, and those that it changes stored. This is what the benchmark sets
+//! beside the proved controller. `northbound` is the plain way to the same bytes.
+
+use crate::controller::{
+    counted, Change, Connection, ConfigurationState, Node, Number, Ordinal, Phase, Refusal, Status, Term, LOG_LIMIT,
+};
+use crate::image::{self, at, entry, put_u16, put_u32, u16_at, u32_at, ENTRY, LENGTH};
+use crate::jobs::{ranged, Job, Work};
+use crate::northbound::{Answer, Request, Served};
+use crate::reads::{Query, CONNECTION_FIELDS, RECORD_FIELDS, TRANSACTION_FIELDS};
+
+type Image = [u8; LENGTH];
+
+/// The log's length, where the image is well-formed.
+fn checked(image: &Image) -> Option<usize> {
+    let length = u16_at(image, at::LOG_LENGTH);
+    let within = |at: usize| u16_at(image, at) <= length;
+    let formed = usize::from(length) <= LOG_LIMIT
+        && within(at::COMMITTED_CHANGE)
+        && [0, 2, 4].iter().all(|field| within(at::COMMITTED + field) && within(at::APPLIED + field))
+        && u16_at(image, at::COMMITTED + 4) <= u16_at(image, at::COMMITTED_CHANGE)
+        && u32_at(image, at::COMMITTED + 6) <= Ordinal::LIMIT.0
+        && u32_at(image, at::APPLIED + 6) <= Ordinal::LIMIT.0
+        && matches!(image[at::CONFIGURATION], 1..=3)
+        && image[at::MASTERSHIP] <= 8
+        && image[at::TARGET + 4] <= 1
+        && image[at::CONNECTIONS..].chunks_exact(at::CONNECTION).all(|connection| connection[4] <= 1)
+        && entries(image, length.into()).zip(1..).all(|(bytes, number)| entry_is_formed(bytes, number));
+    formed.then_some(length.into())
+}
+
+fn entries(image: &Image, length: usize) -> impl Iterator<Item = &[u8; ENTRY]> {
+    image[..ENTRY * length].chunks_exact(ENTRY).map(|bytes| bytes.try_into().expect("an entry's bytes"))
+}
+
+fn entry_is_formed(bytes: &[u8; ENTRY], number: u16) -> bool {
+    let highest = Status::Failed.code();
+    let count = usize::from(bytes[entry::PAIRS]);
+    bytes[entry::C_COMMIT] <= highest
+        && bytes[entry::C_APPLY] <= highest
+        && bytes[entry::R_COMMIT] <= highest
+        && bytes[entry::R_APPLY] <= highest
+        && matches!(bytes[entry::PHASE], 1 | 2)
+        && u16_at(bytes, entry::R_INDEX) < number
+        && u32_at(bytes, entry::C_ORDINAL) <= Ordinal::LIMIT.0
+        && u32_at(bytes, entry::R_ORDINAL) <= Ordinal::LIMIT.0
+        && matches!(count, 1..=4)
+        && paths_rise(&bytes[entry::PATHS..entry::PATHS + count])
+}
+
+fn paths_rise(paths: &[u8]) -> bool {
+    paths.windows(2).all(|two| two[0] < two[1]) && paths.last().is_some_and(|path| *path < 32)
+}
+
+/// Runs a call on a well-formed image and packs its reply.
+fn on(image: &mut [u8], call: impl FnOnce(&mut Image, usize) -> Result<Answer, Refusal>) -> u64 {
+    let reply = match <&mut Image>::try_from(image) {
+        Ok(image) => checked(image).ok_or(Refusal::NotWellFormed).and_then(|length| call(image, length)),
+        Err(_) => Err(Refusal::NotWellFormed),
+    };
+    Served { reply, rule: None }.packed()
+}
+
+/// Carries a request out on an image and answers the packed reply.
+pub fn serve(image: &mut [u8], request: &Request) -> u64 {
+    match *request {
+        Request::Fresh => fresh(image),
+        Request::Append(ref pairs) => append(image, pairs),
+        Request::Rollback(number) => rollback(image, number),
+        Request::Start => start(image),
+        Request::Stop => stop(image),
+        Request::Connect(node) => connect(image, node),
+        Request::Disconnect(node) => disconnect(image, node),
+        Request::Master(node) => master(image, node),
+        Request::Sync(node) => sync(image, node),
+        Request::Work { node, job, number, outcome, cut } => work(image, node, job, number, outcome, cut),
+    }
+}
+
+pub fn fresh(image: &mut [u8]) -> u64 {
+    if image.len() != LENGTH {
+        return u64::from(Refusal::NotWellFormed.number());
+    }
+    image.fill(0);
+    image[at::CONFIGURATION] = 1;
+    0
+}
+
+pub fn append(image: &mut [u8], pairs: &[u8]) -> u64 {
+    on(image, |image, length| {
+        if pairs.len() % 4 != 0 {
+            return Err(Refusal::NotAChange);
+        }
+        let change = Change::new(pairs.chunks_exact(4).map(|four| (u16_at(four, 0), u16_at(four, 2))))
+            .ok_or(Refusal::NotAChange)?;
+        if length == LOG_LIMIT {
+            return Err(Refusal::LogFull);
+        }
+        let bytes = &mut image[ENTRY * length..ENTRY * (length + 1)];
+        bytes.fill(0);
+        bytes[entry::C_COMMIT] = Status::Pending.code();
+        bytes[entry::C_APPLY] = Status::Pending.code();
+        bytes[entry::PHASE] = Phase::Change as u8;
+        bytes[entry::PAIRS] = change.pairs().len() as u8;
+        for (place, pair) in change.pairs().iter().enumerate() {
+            bytes[entry::PATHS + place] = pair.path;
+            put_u16(bytes, entry::VALUES + 2 * place, pair.value);
+        }
+        let number = length as u16 + 1;
+        put_u16(image, at::LOG_LENGTH, number);
+        Ok(Answer::Appended(Number(number)))
+    })
+}
+
+/// The entry's bytes, where the log has that number.
+fn entry_of(image: &mut Image, length: usize, number: u16) -> Result<&mut [u8], Refusal> {
+    let place = Number(number).place().filter(|place| *place < length).ok_or(Refusal::NoSuchNumber)?;
+    Ok(&mut image[ENTRY * place..ENTRY * (place + 1)])
+}
+
+pub fn rollback(image: &mut [u8], number: u16) -> u64 {
+    on(image, |image, length| {
+        let bytes = entry_of(image, length, number)?;
+        let committed = bytes[entry::C_COMMIT] == Status::Complete.code();
+        if bytes[entry::PHASE] != Phase::Change as u8 || !committed {
+            return Err(Refusal::NoRollback);
+        }
+        bytes[entry::PHASE] = Phase::Rollback as u8;
+        bytes[entry::R_COMMIT] = Status::Pending.code();
+        bytes[entry::R_APPLY] = Status::Pending.code();
+        Ok(Answer::Nothing)
+    })
+}
+
+pub fn start(image: &mut [u8]) -> u64 {
+    on(image, |image, _| {
+        if image[at::TARGET + 4] == 1 {
+            return Err(Refusal::AlreadySo);
+        }
+        let id = counted(u32_at(image, at::TARGET))?;
+        put_u32(image, at::TARGET, id);
+        image[at::TARGET + 4] = 1;
+        Ok(Answer::Nothing)
+    })
+}
+
+pub fn stop(image: &mut [u8]) -> u64 {
+    on(image, |image, _| {
+        if image[at::TARGET + 4] == 0 {
+            return Err(Refusal::AlreadySo);
+        }
+        image[at::TARGET + 4] = 0;
+        image[at::TARGET_VALUES..at::TARGET_VALUES + 64].fill(0);
+        image[at::CONNECTIONS..].chunks_exact_mut(at::CONNECTION).for_each(|connection| connection[4] = 0);
+        Ok(Answer::Nothing)
+    })
+}
+
+fn node_of(node: u16) -> Result<Node, Refusal> {
+    Node::new(node).ok_or(Refusal::OutOfRange)
+}
+
+fn connection_at(node: Node) -> usize {
+    at::CONNECTIONS + at::CONNECTION * (usize::from(node.number()) - 1)
+}
+
+fn connection_of(image: &Image, node: Node) -> Connection {
+    let at = connection_at(node);
+    Connection { id: u32_at(image, at), connected: image[at + 4] == 1 }
+}
+
+pub fn connect(image: &mut [u8], node: u16) -> u64 {
+    on(image, |image, _| {
+        let node = node_of(node)?;
+        let connection = connection_of(image, node);
+        if connection.connected {
+            return Err(Refusal::AlreadySo);
+        }
+        if image[at::TARGET + 4] == 0 {
+            return Err(Refusal::TargetStopped);
+        }
+        put_u32(image, connection_at(node), counted(connection.id)?);
+        image[connection_at(node) + 4] = 1;
+        Ok(Answer::Nothing)
+    })
+}
+
+pub fn disconnect(image: &mut [u8], node: u16) -> u64 {
+    on(image, |image, _| {
+        let node = node_of(node)?;
+        if !connection_of(image, node).connected {
+            return Err(Refusal::AlreadySo);
+        }
+        image[connection_at(node) + 4] = 0;
+        Ok(Answer::Nothing)
+    })
+}
+
+pub fn master(image: &mut [u8], node: u16) -> u64 {
+    on(image, |image, _| {
+        let node = node_of(node)?;
+        let connection = connection_of(image, node);
+        let master = image[at::MASTERSHIP];
+        if master == 0 && connection.connected {
+            let term = counted(u32_at(image, at::MASTERSHIP + 1))?;
+            image[at::MASTERSHIP] = node.number();
+            put_u32(image, at::MASTERSHIP + 1, term);
+            put_u32(image, at::MASTERSHIP + 5, connection.id);
+        } else if master == node.number() && !connection.connected {
+            image[at::MASTERSHIP] = 0;
+        } else {
+            return Err(Refusal::NoRule);
+        }
+        Ok(Answer::Nothing)
+    })
+}
+
+/// Whether the node is connected by the connection that mastership names, to a target that runs.
+fn reaches_target(image: &Image, node: Node) -> bool {
+    let connection = connection_of(image, node);
+    connection.connected && connection.id == u32_at(image, at::MASTERSHIP + 5) && image[at::TARGET + 4] == 1
+}
+
+pub fn sync(image: &mut [u8], node: u16) -> u64 {
+    on(image, |image, _| {
+        let node = node_of(node)?;
+        if image[at::MASTERSHIP] != node.number() {
+            return Err(Refusal::NotMaster);
+        }
+        let term = u32_at(image, at::MASTERSHIP + 1);
+        if u32_at(image, at::CONFIGURATION + 1) >= term {
+            return Err(Refusal::NoRule);
+        }
+        if image[at::CONFIGURATION] != 2 {
+            image[at::CONFIGURATION] = 2;
+            return Ok(Answer::Nothing);
+        }
+        if !reaches_target(image, node) {
+            return Err(Refusal::LineNotOpen);
+        }
+        image.copy_within(at::APPLIED_VALUES..at::APPLIED_VALUES + 64, at::TARGET_VALUES);
+        image[at::CONFIGURATION] = 3;
+        put_u32(image, at::CONFIGURATION + 1, term);
+        Ok(Answer::Nothing)
+    })
+}
+
+fn line_open(image: &Image, node: Node) -> bool {
+    let complete = image::decode_configuration(image).is_some_and(|configuration| {
+        configuration.state == ConfigurationState::Complete
+            && configuration.term == Term(u32_at(image, at::MASTERSHIP + 1))
+    });
+    complete && image[at::MASTERSHIP] == node.number() && reaches_target(image, node)
+}
+
+/// Whether every change and rollback that carries the ordinal has a Done apply status.
+fn settled(image: &Image, length: usize, ordinal: Ordinal) -> bool {
+    let done = |code: u8| matches!(code, 3..=6);
+    ordinal == Ordinal::NONE
+        || entries(image, length).all(|bytes| {
+            (u32_at(bytes, entry::C_ORDINAL) != ordinal.0 || done(bytes[entry::C_APPLY]))
+                && (u32_at(bytes, entry::R_ORDINAL) != ordinal.0 || done(bytes[entry::R_APPLY]))
+        })
+}
+
+pub fn work(image: &mut [u8], node: u16, job: u16, number: u16, outcome: u16, cut: u16) -> u64 {
+    on(image, |image, length| {
+        let (node, job, outcome, cut) = ranged(node, job, outcome, cut).ok_or(Refusal::OutOfRange)?;
+        let mut transaction =
+            image::decode_entry(entry_of(image, length, number)?).ok_or(Refusal::NotWellFormed)?;
+        if image[at::MASTERSHIP] != node.number() {
+            return Err(Refusal::NotMaster);
+        }
+        let mut committed = image::decode_committed(image);
+        let mut applied = image::decode_applied(image);
+        let mut target_values = image::decode_values(image, at::TARGET_VALUES);
+        let at_index = committed.index.place().and_then(|place| image::decode_entry(&image[ENTRY * place..][..ENTRY]));
+        let worked = Work {
+            job,
+            number: Number(number),
+            outcome,
+            cut,
+            transaction: &mut transaction,
+            committed: &mut committed,
+            applied: &mut applied,
+            target_values: &mut target_values,
+        };
+        let at_rest = worked.committed.at_rest(at_index.as_ref());
+        let event = worked.done(at_rest, line_open(image, node), |ordinal| settled(image, length, ordinal)).reply?;
+        image::encode_entry(&transaction, entry_of(image, length, number)?);
+        match job {
+            Job::CommitChange | Job::CommitRollback => image::encode_committed(&committed, image),
+            Job::ApplyChange | Job::ApplyRollback => {
+                image::encode_applied(&applied, image);
+                image::encode_values(&target_values, image, at::TARGET_VALUES);
+            }
+        }
+        Ok(event.map_or(Answer::Nothing, Answer::Told))
+    })
+}
+
+pub fn is_well_formed(image: &[u8]) -> bool {
+    <&Image>::try_from(image).is_ok_and(|image| checked(image).is_some())
+}
+
+pub fn live(image: &[u8], room: &mut [u16]) -> u64 {
+    let Some((image, _)) = <&Image>::try_from(image).ok().and_then(|image| Some((image, checked(image)?))) else {
+        return u64::from(Refusal::NotWellFormed.number());
+    };
+    let revision = |at: usize| Some(u16_at(image, at)).filter(|number| *number != 0);
+    let list = || {
+        std::iter::successors(revision(at::COMMITTED + 4), |number| {
+            revision(ENTRY * (usize::from(*number) - 1) + entry::R_INDEX)
+        })
+    };
+    let hops = list().count();
+    if hops > room.len() {
+        return u64::from(Refusal::NoRoom.number());
+    }
+    room.iter_mut().zip(list()).for_each(|(place, number)| *place = number);
+    (hops as u64) << 32
+}
+
+/// Where a field lies, from its record's beginning, and its width in bytes.
+type Field = (usize, usize);
+
+/// A transaction's fields, in the order of their numbers.
+const IN_ENTRY: [Field; TRANSACTION_FIELDS as usize] = [
+    (entry::PHASE, 1),
+    (entry::C_COMMIT, 1),
+    (entry::C_APPLY, 1),
+    (entry::C_ORDINAL, 4),
+    (entry::R_COMMIT, 1),
+    (entry::R_APPLY, 1),
+    (entry::R_ORDINAL, 4),
+    (entry::R_INDEX, 2),
+    (entry::PAIRS, 1),
+    (entry::PATHS, 1),
+    (entry::PATHS + 1, 1),
+    (entry::PATHS + 2, 1),
+    (entry::PATHS + 3, 1),
+    (entry::VALUES, 2),
+    (entry::VALUES + 2, 2),
+    (entry::VALUES + 4, 2),
+    (entry::VALUES + 6, 2),
+    (entry::R_VALUES, 2),
+    (entry::R_VALUES + 2, 2),
+    (entry::R_VALUES + 4, 2),
+    (entry::R_VALUES + 6, 2),
+];
+
+/// The fields that a state has once.
+const ONCE: [Field; RECORD_FIELDS as usize] = [
+    (at::LOG_LENGTH, 2),
+    (at::COMMITTED, 2),
+    (at::COMMITTED_CHANGE, 2),
+    (at::COMMITTED + 2, 2),
+    (at::COMMITTED + 4, 2),
+    (at::COMMITTED + 6, 4),
+    (at::APPLIED, 2),
+    (at::APPLIED + 2, 2),
+    (at::APPLIED + 4, 2),
+    (at::APPLIED + 6, 4),
+    (at::CONFIGURATION, 1),
+    (at::CONFIGURATION + 1, 4),
+    (at::MASTERSHIP, 1),
+    (at::MASTERSHIP + 1, 4),
+    (at::MASTERSHIP + 5, 4),
+    (at::TARGET, 4),
+    (at::TARGET + 4, 1),
+];
+
+const IN_CONNECTION: [Field; CONNECTION_FIELDS as usize] = [(0, 4), (4, 1)];
+
+/// Reads one number where it lies.
+pub fn read(image: &[u8], query: Query) -> u64 {
+    let read = <&Image>::try_from(image).map_err(|_| Refusal::NotWellFormed).and_then(|image| {
+        let length = checked(image).ok_or(Refusal::NotWellFormed)?;
+        located(query, length).map(|(at, width)| match width {
+            1 => image[at].into(),
+            2 => u16_at(image, at).into(),
+            _ => u32_at(image, at),
+        })
+    });
+    match read {
+        Ok(value) => u64::from(value) << 32,
+        Err(refusal) => refusal.number().into(),
+    }
+}
+
+/// Where a query's number lies in an image whose log has that length.
+fn located(query: Query, length: usize) -> Result<Field, Refusal> {
+    let one_of = |fields: &[Field], field: u16| {
+        usize::from(field).checked_sub(1).and_then(|place| fields.get(place)).copied().ok_or(Refusal::OutOfRange)
+    };
+    match query {
+        Query::Value { table, path } => {
+            let (values, _) =
+                one_of(&[(at::COMMITTED_VALUES, 2), (at::APPLIED_VALUES, 2), (at::TARGET_VALUES, 2)], table)?;
+            (path < 32).then(|| (values + 2 * usize::from(path), 2)).ok_or(Refusal::OutOfRange)
+        }
+        Query::Transaction { number, field } => {
+            let (at, width) = one_of(&IN_ENTRY, field)?;
+            let place = Number(number).place().filter(|place| *place < length).ok_or(Refusal::NoSuchNumber)?;
+            Ok((ENTRY * place + at, width))
+        }
+        Query::Record { field } => one_of(&ONCE, field),
+        Query::Connection { node, field } => {
+            let node = node_of(node)?;
+            let (at, width) = one_of(&IN_CONNECTION, field)?;
+            Ok((connection_at(node) + at, width))
+        }
+    }
+}

@@ -1,0 +1,114 @@
+//! The stepper's lines over the independent controller: one call a line in, one answer a line out, the heads at the end.
+
+use crate::controller::{Refusal, State};
+use crate::northbound::{act, bytes_of, pairs_of, Answer, Request, Served};
+
+/// The call that a line asks for, where the line is readable.
+pub fn read(line: &[u8]) -> Option<Request> {
+    let line = std::str::from_utf8(line).ok()?;
+    let (call, operands) = match line.split_once(' ') {
+        Some((call, operands)) => (call, Some(operands)),
+        None => (line, None),
+    };
+    match (call.strip_prefix("call=")?, operands) {
+        ("start", None) => Some(Request::Start),
+        ("stop", None) => Some(Request::Stop),
+        ("append", Some(operands)) => Some(Request::Append(bytes_of(&read_pairs(operands.strip_prefix("pairs=")?)?))),
+        ("rollback", Some(operands)) => numbers(operands, ["number"]).map(|[number]| Request::Rollback(number)),
+        ("connect", Some(operands)) => numbers(operands, ["node"]).map(|[node]| Request::Connect(node)),
+        ("disconnect", Some(operands)) => numbers(operands, ["node"]).map(|[node]| Request::Disconnect(node)),
+        ("master", Some(operands)) => numbers(operands, ["node"]).map(|[node]| Request::Master(node)),
+        ("sync", Some(operands)) => numbers(operands, ["node"]).map(|[node]| Request::Sync(node)),
+        ("work", Some(operands)) => numbers(operands, ["node", "job", "number", "outcome", "cut"])
+            .map(|[node, job, number, outcome, cut]| Request::Work { node, job, number, outcome, cut }),
+        _ => None,
+    }
+}
+
+/// The numbers of exactly these keys, in this order, one blank between them.
+fn numbers<const N: usize>(operands: &str, keys: [&str; N]) -> Option<[u16; N]> {
+    let mut found = [0; N];
+    let mut fields = operands.split(' ');
+    for (number, key) in found.iter_mut().zip(keys) {
+        *number = read_number(fields.next()?.strip_prefix(key)?.strip_prefix('=')?)?;
+    }
+    fields.next().is_none().then_some(found)
+}
+
+fn read_pairs(text: &str) -> Option<Vec<(u16, u16)>> {
+    if text.is_empty() {
+        return Some(Vec::new());
+    }
+    let pair = |text: &str| {
+        let (path, value) = text.split_once(':')?;
+        Some((read_number(path)?, read_number(value)?))
+    };
+    text.split(',').map(pair).collect()
+}
+
+/// A decimal of digits alone, leading zeros taken, to 65,535.
+fn read_number(text: &str) -> Option<u16> {
+    if text.is_empty() {
+        return None;
+    }
+    text.bytes().try_fold(0u16, |number, digit| {
+        let digit = digit.is_ascii_digit().then(|| u16::from(digit - b'0'))?;
+        number.checked_mul(10)?.checked_add(digit)
+    })
+}
+
+/// The line that asks for a call. None asks for a fresh image, or for pairs that are not whole.
+pub fn asking(request: &Request) -> Option<String> {
+    Some(match *request {
+        Request::Fresh => return None,
+        Request::Append(ref bytes) => {
+            let pairs: Vec<String> = pairs_of(bytes)?.iter().map(|(path, value)| format!("{path}:{value}")).collect();
+            format!("call=append pairs={}\n", pairs.join(","))
+        }
+        Request::Rollback(number) => format!("call=rollback number={number}\n"),
+        Request::Start => "call=start\n".to_string(),
+        Request::Stop => "call=stop\n".to_string(),
+        Request::Connect(node) => format!("call=connect node={node}\n"),
+        Request::Disconnect(node) => format!("call=disconnect node={node}\n"),
+        Request::Master(node) => format!("call=master node={node}\n"),
+        Request::Sync(node) => format!("call=sync node={node}\n"),
+        Request::Work { node, job, number, outcome, cut } => {
+            format!("call=work node={node} job={job} number={number} outcome={outcome} cut={cut}\n")
+        }
+    })
+}
+
+/// The line that a reply is printed as.
+pub fn written(served: &Served) -> String {
+    let (answer, phase, stage, number, status) = match served.reply {
+        Err(refusal) => (refusal.number(), 0, 0, 0, 0),
+        Ok(Answer::Nothing) => (0, 0, 0, 0, 0),
+        Ok(Answer::Appended(number)) => (0, 0, 0, number.0, 0),
+        Ok(Answer::Told(event)) => (0, event.phase as u8, event.stage as u8, event.number.0, event.status.code()),
+    };
+    format!("answer={answer} phase={phase} stage={stage} number={number} status={status}\n")
+}
+
+/// The closing line: both heads' revision and ordinal.
+pub fn closing(state: &State) -> String {
+    format!(
+        "committed={} committed_ordinal={} applied={} applied_ordinal={}\n",
+        state.committed.revision.0, state.committed.ordinal.0, state.applied.revision.0, state.applied.ordinal.0
+    )
+}
+
+/// Everything that the stepper writes for this input.
+pub fn stepped(input: &[u8]) -> String {
+    let mut state = State::fresh();
+    let mut output = String::new();
+    let whole = input.strip_suffix(b"\n").unwrap_or(input);
+    let lines = (!input.is_empty()).then(|| whole.split(|byte| *byte == b'\n'));
+    for line in lines.into_iter().flatten() {
+        let served = match read(line) {
+            Some(request) => act(&mut state, &request),
+            None => Served { reply: Err(Refusal::OutOfRange), rule: None },
+        };
+        output.push_str(&written(&served));
+    }
+    output + &closing(&state)
+}

@@ -1,0 +1,135 @@
+//! The C interface's calls over the independent controller: bytes in, packed reply and bytes out.
+
+use crate::controller::{Event, Number, Refusal, State};
+use crate::image;
+use crate::jobs::Rule;
+
+/// A call of the C interface that changes an image.
+#[derive(Clone, PartialEq, Eq, Hash, Debug)]
+pub enum Request {
+    Fresh,
+    /// The pairs as they are lent: four bytes a pair, path and value.
+    Append(Vec<u8>),
+    Rollback(u16),
+    Start,
+    Stop,
+    Connect(u16),
+    Disconnect(u16),
+    Master(u16),
+    Sync(u16),
+    Work { node: u16, job: u16, number: u16, outcome: u16, cut: u16 },
+}
+
+/// What a call answers: the event, or an append's number, or neither.
+#[derive(Clone, Copy, PartialEq, Eq, Debug)]
+pub enum Answer {
+    Nothing,
+    Appended(Number),
+    Told(Event),
+}
+
+/// A call's reply, with the rule that a job took.
+#[derive(Clone, Copy, PartialEq, Eq, Debug)]
+pub struct Served {
+    pub reply: Result<Answer, Refusal>,
+    pub rule: Option<Rule>,
+}
+
+impl Served {
+    fn plain(reply: Result<(), Refusal>) -> Served {
+        Served { reply: reply.map(|()| Answer::Nothing), rule: None }
+    }
+
+    /// The reply as one number: answer, phase, stage, status and number, from the lowest byte up.
+    pub fn packed(&self) -> u64 {
+        match self.reply {
+            Err(refusal) => u64::from(refusal.number()),
+            Ok(Answer::Nothing) => 0,
+            Ok(Answer::Appended(number)) => u64::from(number.0) << 32,
+            Ok(Answer::Told(event)) => {
+                (event.phase as u64) << 8
+                    | (event.stage as u64) << 16
+                    | u64::from(event.status.code()) << 24
+                    | u64::from(event.number.0) << 32
+            }
+        }
+    }
+}
+
+/// The pairs in lent bytes, where their length is whole.
+pub fn pairs_of(bytes: &[u8]) -> Option<Vec<(u16, u16)>> {
+    let pair = |four: &[u8]| (image::u16_at(four, 0), image::u16_at(four, 2));
+    (bytes.len() % 4 == 0).then(|| bytes.chunks_exact(4).map(pair).collect())
+}
+
+/// The bytes to lend for these pairs.
+pub fn bytes_of(pairs: &[(u16, u16)]) -> Vec<u8> {
+    pairs.iter().flat_map(|(path, value)| [path.to_le_bytes(), value.to_le_bytes()].concat()).collect()
+}
+
+/// Carries a request out on a state. A refused one leaves the state as it was.
+pub fn act(state: &mut State, request: &Request) -> Served {
+    match *request {
+        Request::Fresh => {
+            *state = State::fresh();
+            Served::plain(Ok(()))
+        }
+        Request::Append(ref bytes) => {
+            let appended = pairs_of(bytes).ok_or(Refusal::NotAChange).and_then(|pairs| state.append(&pairs));
+            Served { reply: appended.map(Answer::Appended), rule: None }
+        }
+        Request::Rollback(number) => Served::plain(state.rollback(number)),
+        Request::Start => Served::plain(state.start()),
+        Request::Stop => Served::plain(state.stop()),
+        Request::Connect(node) => Served::plain(state.connect(node)),
+        Request::Disconnect(node) => Served::plain(state.disconnect(node)),
+        Request::Master(node) => Served::plain(state.master(node)),
+        Request::Sync(node) => Served::plain(state.sync(node)),
+        Request::Work { node, job, number, outcome, cut } => {
+            let worked = state.work(node, job, number, outcome, cut);
+            Served { reply: worked.reply.map(|event| event.map_or(Answer::Nothing, Answer::Told)), rule: worked.rule }
+        }
+    }
+}
+
+/// Writes a state that an accepted request led to over the image before it.
+pub fn store(state: &State, request: &Request, image: &mut [u8]) {
+    if *request == Request::Fresh {
+        image.fill(0);
+    }
+    image::encode(state, image);
+}
+
+/// Carries a request out on an image: check, decode, act, encode. A refused one leaves the image as it was.
+pub fn serve(image: &mut [u8], request: &Request) -> Served {
+    let state = match request {
+        Request::Fresh => (image.len() == image::LENGTH).then(State::fresh),
+        _ => image::decode(image),
+    };
+    let Some(mut state) = state else {
+        return Served::plain(Err(Refusal::NotWellFormed));
+    };
+    let served = act(&mut state, request);
+    if served.reply.is_ok() {
+        store(&state, request, image);
+    }
+    served
+}
+
+/// Writes an image's live list into the room and answers its length, packed; room past the list stays.
+pub fn live(image: &[u8], room: &mut [u16]) -> u64 {
+    live_of(image::decode(image).as_ref(), room)
+}
+
+/// As `live`, of what an image decodes to.
+pub fn live_of(state: Option<&State>, room: &mut [u16]) -> u64 {
+    let Some(state) = state else {
+        return u64::from(Refusal::NotWellFormed.number());
+    };
+    let hops = state.live().count();
+    if hops > room.len() {
+        return u64::from(Refusal::NoRoom.number());
+    }
+    room.iter_mut().zip(state.live()).for_each(|(place, number)| *place = number.0);
+    (hops as u64) << 32
+}

@@ -1,0 +1,84 @@
+//! The proved controller's exported functions, as the C header declares them.
+
+use crate::northbound::Request;
+use crate::reads::Query;
+
+mod exported {
+    extern "C" {
+        pub fn makowist_fresh(image: *mut u8, length: usize) -> u64;
+        pub fn makowist_append(image: *mut u8, length: usize, pairs: *const u8, pairs_length: usize) -> u64;
+        pub fn makowist_rollback(image: *mut u8, length: usize, number: u16) -> u64;
+        pub fn makowist_start(image: *mut u8, length: usize) -> u64;
+        pub fn makowist_stop(image: *mut u8, length: usize) -> u64;
+        pub fn makowist_connect(image: *mut u8, length: usize, node: u16) -> u64;
+        pub fn makowist_disconnect(image: *mut u8, length: usize, node: u16) -> u64;
+        pub fn makowist_master(image: *mut u8, length: usize, node: u16) -> u64;
+        pub fn makowist_sync(image: *mut u8, length: usize, node: u16) -> u64;
+        pub fn makowist_work(
+            image: *mut u8,
+            length: usize,
+            node: u16,
+            job: u16,
+            number: u16,
+            outcome: u16,
+            cut: u16,
+        ) -> u64;
+        pub fn makowist_live(image: *const u8, length: usize, room: *mut u16, room_length: usize) -> u64;
+        pub fn makowist_well_formed(image: *const u8, length: usize) -> u64;
+        pub fn makowist_value(image: *const u8, length: usize, table: u16, path: u16) -> u64;
+        pub fn makowist_transaction(image: *const u8, length: usize, number: u16, field: u16) -> u64;
+        pub fn makowist_record(image: *const u8, length: usize, field: u16) -> u64;
+        pub fn makowist_connection(image: *const u8, length: usize, node: u16, field: u16) -> u64;
+    }
+}
+
+/// What `makowist_well_formed` answers for an image that is well-formed, and for one that is not.
+pub const WELL_FORMED: u64 = 0;
+pub const NOT_WELL_FORMED: u64 = 1;
+
+/// Carries a request out on a lent image, with an append's pairs lent from `pairs`.
+pub fn serve(image: &mut [u8], request: &Request, pairs: &[u8]) -> u64 {
+    let (bytes, length) = (image.as_mut_ptr(), image.len());
+    // SAFETY: every pointer goes with the length of the slice that it was taken from, and nobody else holds the image.
+    unsafe {
+        match *request {
+            Request::Fresh => exported::makowist_fresh(bytes, length),
+            Request::Append(_) => exported::makowist_append(bytes, length, pairs.as_ptr(), pairs.len()),
+            Request::Rollback(number) => exported::makowist_rollback(bytes, length, number),
+            Request::Start => exported::makowist_start(bytes, length),
+            Request::Stop => exported::makowist_stop(bytes, length),
+            Request::Connect(node) => exported::makowist_connect(bytes, length, node),
+            Request::Disconnect(node) => exported::makowist_disconnect(bytes, length, node),
+            Request::Master(node) => exported::makowist_master(bytes, length, node),
+            Request::Sync(node) => exported::makowist_sync(bytes, length, node),
+            Request::Work { node, job, number, outcome, cut } => {
+                exported::makowist_work(bytes, length, node, job, number, outcome, cut)
+            }
+        }
+    }
+}
+
+/// Writes the live list into the room and answers its length, packed.
+pub fn live(image: &[u8], room: &mut [u16]) -> u64 {
+    // SAFETY: as in `serve`.
+    unsafe { exported::makowist_live(image.as_ptr(), image.len(), room.as_mut_ptr(), room.len()) }
+}
+
+pub fn well_formed(image: &[u8]) -> u64 {
+    // SAFETY: as in `serve`.
+    unsafe { exported::makowist_well_formed(image.as_ptr(), image.len()) }
+}
+
+/// Reads one number of a lent image.
+pub fn read(image: &[u8], query: Query) -> u64 {
+    let (bytes, length) = (image.as_ptr(), image.len());
+    // SAFETY: as in `serve`.
+    unsafe {
+        match query {
+            Query::Value { table, path } => exported::makowist_value(bytes, length, table, path),
+            Query::Transaction { number, field } => exported::makowist_transaction(bytes, length, number, field),
+            Query::Record { field } => exported::makowist_record(bytes, length, field),
+            Query::Connection { node, field } => exported::makowist_connection(bytes, length, node, field),
+        }
+    }
+}

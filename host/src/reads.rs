@@ -1,0 +1,163 @@
+//! The C interface's reads over the independent controller: one number of the state at a time.
+
+use crate::controller::{Connection, Node, Number, Progress, Refusal, State, Transaction, PATHS};
+use crate::image::{configuration_code, entry, u16_at, ENTRY};
+use crate::random::Random;
+
+/// What is asked of an image.
+#[derive(Clone, Copy, PartialEq, Eq, Hash, Debug)]
+pub enum Query {
+    Value { table: u16, path: u16 },
+    Transaction { number: u16, field: u16 },
+    Record { field: u16 },
+    Connection { node: u16, field: u16 },
+}
+
+/// How many tables there are, and fields of each record; each counted from 1.
+pub const TABLES: u16 = 3;
+pub const TRANSACTION_FIELDS: u16 = 21;
+pub const RECORD_FIELDS: u16 = 17;
+pub const CONNECTION_FIELDS: u16 = 2;
+
+/// The transaction's fields that hold its pairs: paths, values and r.values, four places each.
+const PATH_FIELD: u16 = 10;
+const VALUE_FIELD: u16 = 14;
+const R_VALUE_FIELD: u16 = 18;
+
+impl Query {
+    /// A query at random, now and then out of range or past a log of that length.
+    pub fn any(length: usize, random: &mut Random) -> Query {
+        let field = |fields: u16, random: &mut Random| match random.once_in(12) {
+            true => random.one_of(&[0, fields + 1, 255, 256, 257, 65535]),
+            false => random.between(1, fields.into()) as u16,
+        };
+        match random.below(7) {
+            0 | 1 => {
+                let table = field(TABLES, random);
+                Query::Value { table, path: field(PATHS as u16, random).wrapping_sub(1) }
+            }
+            2 | 3 => Query::Record { field: field(RECORD_FIELDS, random) },
+            4 => {
+                let node = field(8, random);
+                Query::Connection { node, field: field(CONNECTION_FIELDS, random) }
+            }
+            _ => {
+                let field = field(TRANSACTION_FIELDS, random);
+                Query::Transaction { number: random.below(length + 2) as u16, field }
+            }
+        }
+    }
+
+    /// Every query that is in range on a log of that length, and one past each range.
+    pub fn all(length: usize) -> Vec<Query> {
+        let mut all = Vec::new();
+        for table in 0..=TABLES + 1 {
+            all.extend((0..=PATHS as u16).map(|path| Query::Value { table, path }));
+        }
+        for number in 0..=length as u16 + 1 {
+            all.extend((0..=TRANSACTION_FIELDS + 1).map(|field| Query::Transaction { number, field }));
+        }
+        all.extend((0..=RECORD_FIELDS + 1).map(|field| Query::Record { field }));
+        for node in 0..=9 {
+            all.extend((0..=CONNECTION_FIELDS + 1).map(|field| Query::Connection { node, field }));
+        }
+        all
+    }
+
+    /// What is read from a state and the image that it was read from. The bytes answer only for the places past a
+    /// transaction's pairs, which carry nothing and which no state here has.
+    pub fn read(self, state: &State, image: &[u8]) -> Result<u32, Refusal> {
+        match self {
+            Query::Value { table, path } => {
+                let values = match table {
+                    1 => &state.committed.values,
+                    2 => &state.applied.values,
+                    3 => &state.target.values,
+                    _ => return Err(Refusal::OutOfRange),
+                };
+                values.get(usize::from(path)).map(|value| u32::from(*value)).ok_or(Refusal::OutOfRange)
+            }
+            Query::Transaction { number, field } => {
+                ranged(field, TRANSACTION_FIELDS)?;
+                let transaction = state.transaction(Number(number)).ok_or(Refusal::NoSuchNumber)?;
+                Ok(of_transaction(transaction, &image[ENTRY * (usize::from(number) - 1)..][..ENTRY], field))
+            }
+            Query::Record { field } => {
+                ranged(field, RECORD_FIELDS)?;
+                Ok(of_record(state, field))
+            }
+            Query::Connection { node, field } => {
+                let node = Node::new(node).ok_or(Refusal::OutOfRange)?;
+                ranged(field, CONNECTION_FIELDS)?;
+                let Connection { id, connected } = state.connection(node);
+                Ok(if field == 1 { id } else { connected.into() })
+            }
+        }
+    }
+
+    /// As `read`, of an image that decodes to this, as one number: answer, then value in the upper half.
+    pub fn packed(self, state: Option<&State>, image: &[u8]) -> u64 {
+        match state.ok_or(Refusal::NotWellFormed).and_then(|state| self.read(state, image)) {
+            Ok(value) => u64::from(value) << 32,
+            Err(refusal) => refusal.number().into(),
+        }
+    }
+}
+
+fn ranged(field: u16, fields: u16) -> Result<(), Refusal> {
+    (1..=fields).contains(&field).then_some(()).ok_or(Refusal::OutOfRange)
+}
+
+fn of_transaction(transaction: &Transaction, bytes: &[u8], field: u16) -> u32 {
+    let pairs = transaction.change.pairs();
+    let used = |from: u16| Some(usize::from(field - from)).filter(|place| *place < pairs.len());
+    match field {
+        1 => transaction.phase as u32,
+        2..=4 => of_progress(&transaction.c, field - 2),
+        5..=7 => of_progress(&transaction.r, field - 5),
+        8 => transaction.r_index.0.into(),
+        9 => pairs.len() as u32,
+        PATH_FIELD..=13 => used(PATH_FIELD)
+            .map_or(bytes[entry::PATHS + usize::from(field - PATH_FIELD)], |place| pairs[place].path)
+            .into(),
+        VALUE_FIELD..=17 => used(VALUE_FIELD)
+            .map_or(u16_at(bytes, entry::VALUES + 2 * usize::from(field - VALUE_FIELD)), |place| pairs[place].value)
+            .into(),
+        _ => used(R_VALUE_FIELD)
+            .map_or(u16_at(bytes, entry::R_VALUES + 2 * usize::from(field - R_VALUE_FIELD)), |place| {
+                transaction.r_values[place]
+            })
+            .into(),
+    }
+}
+
+fn of_progress(progress: &Progress, field: u16) -> u32 {
+    match field {
+        0 => progress.commit.code().into(),
+        1 => progress.apply.code().into(),
+        _ => progress.ordinal.0,
+    }
+}
+
+fn of_record(state: &State, field: u16) -> u32 {
+    let (committed, applied) = (&state.committed, &state.applied);
+    match field {
+        1 => state.log.len() as u32,
+        2 => committed.index.0.into(),
+        3 => committed.change.0.into(),
+        4 => committed.target.0.into(),
+        5 => committed.revision.0.into(),
+        6 => committed.ordinal.0,
+        7 => applied.index.0.into(),
+        8 => applied.target.0.into(),
+        9 => applied.revision.0.into(),
+        10 => applied.ordinal.0,
+        11 => configuration_code(state.configuration.state).into(),
+        12 => state.configuration.term.0,
+        13 => state.mastership.master.map_or(0, |master| master.number().into()),
+        14 => state.mastership.term.0,
+        15 => state.mastership.conn,
+        16 => state.target.id,
+        _ => state.target.running.into(),
+    }
+}

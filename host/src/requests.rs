@@ -1,0 +1,178 @@
+//! Random calls: those that a host would make from a state, and any whatever.
+
+use crate::controller::{Number, Ordinal, State, Status, Term};
+use crate::northbound::{bytes_of, Request};
+use crate::random::Random;
+
+/// A valid change on few paths, so that changes meet.
+pub fn change(random: &mut Random) -> Vec<u8> {
+    let paths = if random.once_in(4) { 32 } else { 6 };
+    let mut pairs: Vec<(u16, u16)> = Vec::new();
+    let mut path = random.below(3);
+    for _ in 0..random.between(1, 4) {
+        if path >= paths {
+            break;
+        }
+        pairs.push((path as u16, value(random)));
+        path += random.between(1, 1 + paths / 4);
+    }
+    bytes_of(&pairs)
+}
+
+fn value(random: &mut Random) -> u16 {
+    match random.below(6) {
+        0 => 0,
+        1 => random.bits() as u16,
+        _ => random.between(1, 9) as u16,
+    }
+}
+
+/// A call that brings the work on: the line first, then the log, now and then something that disturbs.
+pub fn sensible(state: &State, log_limit: usize, random: &mut Random) -> Request {
+    if random.once_in(60) {
+        return disturbing(state, random);
+    }
+    if !random.once_in(8) {
+        if let Some(request) = line(state, random) {
+            return request;
+        }
+    }
+    let all_committed = usize::from(state.committed.change.0) == state.log.len();
+    match random.below(10) {
+        0 | 1 if state.log.len() < log_limit => Request::Append(change(random)),
+        3..=5 if all_committed && state.log.len() < log_limit => Request::Append(change(random)),
+        2 => Request::Rollback(to_roll_back(state, random)),
+        _ => job(state, random),
+    }
+}
+
+/// The next call that opens the line, where it is not open.
+fn line(state: &State, random: &mut Random) -> Option<Request> {
+    let Some(master) = state.mastership.master else {
+        let node = random.between(1, 8) as u16;
+        return Some(match (state.target.running, state.connections[usize::from(node) - 1].connected) {
+            (false, _) => Request::Start,
+            (true, false) => Request::Connect(node),
+            (true, true) => Request::Master(node),
+        });
+    };
+    let connection = state.connections[usize::from(master.number()) - 1];
+    let node = u16::from(master.number());
+    if !connection.connected || connection.id != state.mastership.conn {
+        return Some(if connection.connected { Request::Disconnect(node) } else { Request::Master(node) });
+    }
+    (state.configuration.term < state.mastership.term || state.mastership.term == Term(0)).then_some(Request::Sync(node))
+}
+
+fn disturbing(state: &State, random: &mut Random) -> Request {
+    let node = match state.mastership.master {
+        Some(master) if random.once_in(2) => master.number().into(),
+        _ => random.between(1, 8) as u16,
+    };
+    match random.below(6) {
+        0 => Request::Stop,
+        1 => Request::Start,
+        2 => Request::Disconnect(node),
+        3 => Request::Connect(node),
+        4 => Request::Master(node),
+        _ => Request::Sync(node),
+    }
+}
+
+fn to_roll_back(state: &State, random: &mut Random) -> u16 {
+    match random.below(3) {
+        0 => random.below(state.log.len() + 1) as u16,
+        _ => state.committed.revision.0,
+    }
+}
+
+fn job(state: &State, random: &mut Random) -> Request {
+    let node = state.mastership.master.map_or(1, |master| master.number().into());
+    let (job, number) = match random.below(8) {
+        0..=2 => on_commit_side(state, random),
+        3..=6 => on_apply_side(state, random),
+        _ => (random.between(1, 4) as u16, random.below(state.log.len() + 1) as u16),
+    };
+    let outcome = random.once_in(7).into();
+    let cut = random.once_in(3).into();
+    Request::Work { node, job, number, outcome, cut }
+}
+
+fn on_commit_side(state: &State, random: &mut Random) -> (u16, u16) {
+    let committed = &state.committed;
+    let begun = |number: Number| state.transaction(number).is_some_and(|it| it.r.commit == Status::InProgress);
+    if begun(committed.index) {
+        return (3, committed.index.0);
+    }
+    let rolled_back =
+        state.transaction(committed.revision).is_some_and(|it| matches!(it.r.commit, Status::Pending | Status::InProgress));
+    let finishes = state.transaction(committed.change).is_some_and(|it| it.c.commit == Status::InProgress);
+    match random.below(4) {
+        0 | 1 if finishes => (1, committed.change.0),
+        1 | 2 if rolled_back => (3, committed.revision.0),
+        _ if usize::from(committed.change.0) == state.log.len() => on_apply_side(state, random),
+        _ => (1, committed.change.0 + 1),
+    }
+}
+
+/// A job on what carries the next ordinal, or the present one.
+fn on_apply_side(state: &State, random: &mut Random) -> (u16, u16) {
+    let present = state.applied.ordinal;
+    let wanted = if random.once_in(4) { present } else { Ordinal(present.0 + 1) };
+    let carried = |ordinal: Ordinal| ordinal == wanted && ordinal != Ordinal::NONE;
+    for (number, transaction) in (1..).zip(&state.log) {
+        if carried(transaction.c.ordinal) {
+            return (2, number);
+        }
+        if carried(transaction.r.ordinal) {
+            return (4, number);
+        }
+    }
+    (random.one_of(&[2, 4]), random.below(state.log.len() + 1) as u16)
+}
+
+/// Any call at all, its operands mostly near the ends of their ranges.
+pub fn wild(state_length: usize, random: &mut Random) -> Request {
+    let node = |random: &mut Random| match random.below(6) {
+        0 => random.one_of(&[0, 9, 255, 256, 257, 65535]),
+        _ => random.between(1, 8) as u16,
+    };
+    let number = |random: &mut Random| match random.below(6) {
+        0 => random.one_of(&[0, 127, 128, 129, 256, 257, 32768, 65535]),
+        _ => random.below(state_length + 2) as u16,
+    };
+    match random.below(16) {
+        0 => Request::Append(any_pairs(random)),
+        1 => Request::Append(change(random)),
+        2 | 3 => Request::Rollback(number(random)),
+        4 => Request::Start,
+        5 => Request::Stop,
+        6 => Request::Connect(node(random)),
+        7 => Request::Disconnect(node(random)),
+        8 => Request::Master(node(random)),
+        9 => Request::Sync(node(random)),
+        10 if random.once_in(40) => Request::Fresh,
+        _ => {
+            let job = if random.once_in(9) { random.one_of(&[0, 5, 256, 257, 65535]) } else { random.between(1, 4) as u16 };
+            let outcome = if random.once_in(20) { random.one_of(&[2, 256, 65535]) } else { random.below(2) as u16 };
+            let cut = if random.once_in(20) { random.one_of(&[2, 256, 65535]) } else { random.below(2) as u16 };
+            Request::Work { node: node(random), job, number: number(random), outcome, cut }
+        }
+    }
+}
+
+/// Bytes for an append that are seldom a valid change.
+fn any_pairs(random: &mut Random) -> Vec<u8> {
+    match random.below(4) {
+        0 => (0..random.below(24)).map(|_| random.below(34) as u8).collect(),
+        1 => bytes_of(&[]),
+        2 => {
+            let path = random.one_of(&[0, 3, 31, 32, 33, 255, 256, 259, 65535]);
+            bytes_of(&[(path, value(random))])
+        }
+        _ => {
+            let pairs: Vec<_> = (0..random.between(1, 6)).map(|_| (random.below(33) as u16, value(random))).collect();
+            bytes_of(&pairs)
+        }
+    }
+}

@@ -1,0 +1,196 @@
+//! The codec: a state's way through the image and back, and which bytes a call leaves alone.
+
+use makowist_host::controller::{State, LOG_LIMIT};
+use makowist_host::image::{self, at, entry, ENTRY, LENGTH};
+use makowist_host::northbound::{self, bytes_of, Request};
+use makowist_host::random::Random;
+use makowist_host::lean;
+use makowist_host::lines;
+use makowist_host::reads::Query;
+use makowist_host::requests::{sensible, wild};
+
+fn fresh() -> Vec<u8> {
+    let mut bytes = vec![0xa5; LENGTH];
+    assert_eq!(northbound::serve(&mut bytes, &Request::Fresh).packed(), 0);
+    bytes
+}
+
+fn serve(bytes: &mut [u8], request: Request) -> u64 {
+    northbound::serve(bytes, &request).packed()
+}
+
+fn work(job: u16, number: u16) -> Request {
+    Request::Work { node: 1, job, number, outcome: 0, cut: 0 }
+}
+
+/// An image with two changes, the first committed and the second begun, and the line open.
+fn some() -> Vec<u8> {
+    let mut bytes = fresh();
+    for request in [
+        Request::Append(bytes_of(&[(3, 7), (9, 8)])),
+        Request::Append(bytes_of(&[(1, 1)])),
+        Request::Start,
+        Request::Connect(1),
+        Request::Master(1),
+        Request::Sync(1),
+        Request::Sync(1),
+        work(1, 1),
+        work(1, 1),
+        work(1, 2),
+    ] {
+        assert_eq!(serve(&mut bytes, request) & 0xff, 0);
+    }
+    bytes
+}
+
+#[test]
+fn the_layout_ends_where_it_says() {
+    assert_eq!(ENTRY * LOG_LIMIT, at::LOG_LENGTH);
+    assert_eq!(at::CONNECTIONS + 8 * at::CONNECTION, LENGTH);
+}
+
+#[test]
+fn fresh_is_zero_but_for_the_pending_configuration() {
+    let mut expected = vec![0; LENGTH];
+    expected[at::CONFIGURATION] = 1;
+    assert_eq!(fresh(), expected);
+    assert_eq!(image::decode(&expected), Some(State::fresh()));
+}
+
+#[test]
+fn what_is_decoded_is_encoded_to_the_same_bytes() {
+    let mut bytes = some();
+    let state = image::decode(&bytes).unwrap();
+    for byte in &mut bytes[2 * ENTRY..at::LOG_LENGTH] {
+        *byte = 0xee;
+    }
+    bytes[entry::PATHS + 2] = 77;
+    bytes[entry::R_VALUES + 4] = 78;
+    let before = bytes.clone();
+    assert_eq!(image::decode(&bytes), Some(state.clone()));
+    image::encode(&state, &mut bytes);
+    assert_eq!(bytes, before);
+}
+
+#[test]
+fn another_length_is_not_well_formed() {
+    let mut bytes = some();
+    assert!(image::decode(&bytes[..LENGTH - 1]).is_none());
+    bytes.push(0);
+    assert!(image::decode(&bytes).is_none());
+    assert_eq!(serve(&mut bytes, Request::Fresh), 1);
+}
+
+#[test]
+fn append_zeroes_the_places_it_does_not_use() {
+    let mut bytes = some();
+    bytes[2 * ENTRY..4 * ENTRY].fill(0xee);
+    assert_eq!(serve(&mut bytes, Request::Append(bytes_of(&[(5, 6)]))), 3 << 32);
+    let mut entry = [0; ENTRY];
+    entry[..6].copy_from_slice(&[1, 1, 0, 0, 1, 1]);
+    entry[entry::PATHS] = 5;
+    entry[entry::VALUES] = 6;
+    assert_eq!(bytes[2 * ENTRY..3 * ENTRY], entry);
+    assert!(bytes[3 * ENTRY..4 * ENTRY].iter().all(|byte| *byte == 0xee));
+}
+
+#[test]
+fn a_begun_change_gets_all_its_r_values_anew() {
+    let mut bytes = fresh();
+    for request in [
+        Request::Append(bytes_of(&[(3, 7)])),
+        Request::Start,
+        Request::Connect(1),
+        Request::Master(1),
+    ] {
+        assert_eq!(serve(&mut bytes, request) & 0xff, 0);
+    }
+    bytes[entry::R_VALUES..ENTRY].fill(0xee);
+    bytes[entry::VALUES + 2..entry::R_VALUES].fill(0xdd);
+    image::put_u16(&mut bytes, at::COMMITTED_VALUES + 6, 55);
+    assert_eq!(serve(&mut bytes, work(1, 1)) & 0xff, 0);
+    assert_eq!(bytes[entry::R_VALUES..ENTRY], [55, 0, 0, 0, 0, 0, 0, 0]);
+    assert!(bytes[entry::VALUES + 2..entry::R_VALUES].iter().all(|byte| *byte == 0xdd));
+}
+
+#[test]
+fn a_byte_out_of_range_is_refused() {
+    let cases = [
+        (entry::C_COMMIT, 7), (entry::R_APPLY, 7), (entry::PHASE, 0), (entry::PHASE, 3), (entry::PAIRS, 0),
+        (entry::PAIRS, 5), (entry::R_INDEX, 1), (entry::C_ORDINAL + 1, 2), (entry::R_ORDINAL + 3, 1),
+        (entry::PATHS, 9), (entry::PATHS + 1, 32), (at::LOG_LENGTH, 0), (at::LOG_LENGTH, 129), (at::COMMITTED, 3),
+        (at::COMMITTED + 4, 2), (at::COMMITTED + 7, 2), (at::APPLIED + 2, 3), (at::CONFIGURATION, 0),
+        (at::CONFIGURATION, 4), (at::MASTERSHIP, 9), (at::TARGET + 4, 2), (at::CONNECTIONS + 4, 2),
+    ];
+    for (place, byte) in cases {
+        let mut bytes = some();
+        bytes[place] = byte;
+        assert!(image::decode(&bytes).is_none(), "{place} {byte}");
+        let before = bytes.clone();
+        assert_eq!(serve(&mut bytes, Request::Start), 1);
+        assert_eq!(lean::start(&mut bytes), 1);
+        assert_eq!(bytes, before);
+    }
+}
+
+#[test]
+fn any_well_formed_bytes_come_back_as_they_were() {
+    let mut random = Random::new(5);
+    let mut seen = 0;
+    for _ in 0..2000 {
+        let mut bytes = some();
+        for _ in 0..random.between(1, 3) {
+            let place = place_in_use(&mut random);
+            bytes[place] = random.below(8) as u8;
+        }
+        if let Some(state) = image::decode(&bytes) {
+            let before = bytes.clone();
+            image::encode(&state, &mut bytes);
+            assert_eq!(bytes, before);
+            seen += 1;
+        }
+    }
+    assert!(seen > 100);
+}
+
+#[test]
+fn a_read_where_it_lies_shows_what_the_state_has() {
+    let mut bytes = some();
+    bytes[entry::PATHS + 2] = 77;
+    bytes[entry::VALUES + 6] = 78;
+    bytes[entry::R_VALUES + 4] = 79;
+    let state = image::decode(&bytes);
+    for query in Query::all(2) {
+        assert_eq!(lean::read(&bytes, query), query.packed(state.as_ref(), &bytes), "{query:?}");
+    }
+    assert_eq!(Query::Transaction { number: 1, field: 15 }.packed(state.as_ref(), &bytes), 8 << 32);
+    assert_eq!(Query::Record { field: 5 }.packed(state.as_ref(), &bytes), 1 << 32);
+    assert_eq!(Query::Value { table: 1, path: 9 }.packed(state.as_ref(), &bytes), 8 << 32);
+    assert_eq!(Query::Connection { node: 1, field: 2 }.packed(state.as_ref(), &bytes), 1 << 32);
+    assert_eq!(Query::Transaction { number: 3, field: 22 }.packed(state.as_ref(), &bytes), 2);
+    assert_eq!(Query::Transaction { number: 3, field: 21 }.packed(state.as_ref(), &bytes), 5);
+    assert_eq!(Query::Record { field: 0 }.packed(None, &bytes), 1);
+}
+
+#[test]
+fn a_call_written_as_a_line_is_read_as_that_call() {
+    let mut random = Random::new(6);
+    let mut state = State::fresh();
+    let mut written = 0;
+    for turn in 0..3000 {
+        let request = if turn % 2 == 0 { wild(state.log.len(), &mut random) } else { sensible(&state, 128, &mut random) };
+        if let Some(line) = lines::asking(&request) {
+            assert_eq!(line.strip_suffix('\n').and_then(|line| lines::read(line.as_bytes())), Some(request.clone()));
+            northbound::act(&mut state, &request);
+            written += 1;
+        }
+    }
+    assert!(written > 2000);
+}
+
+fn place_in_use(random: &mut Random) -> usize {
+    match random.below(3) {
+        0 => random.below(2 * ENTRY),
+        _ => random.between(at::LOG_LENGTH, LENGTH - 1),
+    }
+}

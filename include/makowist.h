@@ -1,0 +1,212 @@
+/* makowist.h: the change controller's C interface (C99, usable from C++; link with libnorthbound.a, x86-64).
+ *
+ * The whole state of a controller is one image: MAKOWIST_IMAGE_LENGTH bytes that the caller owns. What they mean is in
+ * docs/IMAGE.md; they may be copied, kept in a file, hashed and sent, and are the same on every machine.
+ *
+ *     uint8_t image[MAKOWIST_IMAGE_LENGTH];
+ *     makowist_fresh(image, sizeof image);
+ *     uint64_t reply = makowist_start(image, sizeof image);
+ *     if (makowist_reply_answer(reply) != MAKOWIST_ACCEPTED) ...
+ *
+ * Memory. All of it is the caller's and is lent for the length of a call: nothing is allocated, no pointer is kept, and
+ * there is no state but the image. Every pointer goes with its length, points to so many elements, and is not NULL even
+ * where the length is 0. The slices lent to one call do not overlap. The image and the pairs need no alignment.
+ *
+ * Calls at the same time. Calls on one image are not to run at the same time: who lends it to a call that changes it
+ * lends it to nobody else meanwhile. Reads (const images) may run beside reads. Calls on different images are free.
+ *
+ * Refusals. No call has a precondition beyond the lent memory: whatever the numbers and the bytes, it is accepted or
+ * refused. A refused call answers the number of the refusal, gives no event, and leaves every byte as it was. Where
+ * several refusals hold, the answer is the first in the order named at the function. */
+#ifndef MAKOWIST_H
+#define MAKOWIST_H
+
+#include <stddef.h>
+#include <stdint.h>
+
+#ifdef __cplusplus
+extern "C" {
+#endif
+
+/* An image's length in bytes. Bytes of any other length are no image (MAKOWIST_NOT_WELL_FORMED). */
+#define MAKOWIST_IMAGE_LENGTH 4883
+
+/* Limits of the state. */
+enum {
+    MAKOWIST_LOG_LIMIT = 128,     /* transactions, numbered from 1 */
+    MAKOWIST_NODES = 8,           /* nodes, numbered from 1; 0 means none */
+    MAKOWIST_PATHS = 32,          /* paths, from 0 */
+    MAKOWIST_PAIR_LIMIT = 4,      /* pairs of a change */
+    MAKOWIST_PAIR_LENGTH = 4,     /* bytes of a lent pair */
+    MAKOWIST_ORDINAL_LIMIT = 256  /* the greatest ordinal; 0 means none */
+};
+
+/* What a call answers: accepted, or why it was refused. */
+enum {
+    MAKOWIST_ACCEPTED = 0,
+    MAKOWIST_NOT_WELL_FORMED = 1,   /* the lent bytes are no well-formed image */
+    MAKOWIST_OUT_OF_RANGE = 2,      /* node, job, outcome, cut, table, path or field out of range */
+    MAKOWIST_NOT_A_CHANGE = 3,      /* the pairs are no valid change */
+    MAKOWIST_LOG_FULL = 4,          /* append to a log of 128 */
+    MAKOWIST_NO_SUCH_NUMBER = 5,    /* number 0 or past the log's end */
+    MAKOWIST_NO_ROLLBACK = 6,       /* phase is not Change, or c.commit is not Complete */
+    MAKOWIST_ALREADY_SO = 7,        /* target or connection already so */
+    MAKOWIST_TARGET_STOPPED = 8,    /* connect while the target is stopped */
+    MAKOWIST_COUNTER_AT_LIMIT = 9,  /* an ordinal, id or term would pass its limit */
+    MAKOWIST_NOT_MASTER = 10,       /* the node is not master */
+    MAKOWIST_NO_RULE = 11,          /* no rule holds */
+    MAKOWIST_LINE_NOT_OPEN = 12,    /* the rule needs an open line */
+    MAKOWIST_PUSH_REJECTED = 13,    /* the target rejects a rollback push */
+    MAKOWIST_NO_ROOM = 14           /* the live list is longer than the room lent */
+};
+
+/* Statuses. Done is Complete, Aborted, Canceled or Failed. A configuration's state is Pending, InProgress or Complete. */
+enum {
+    MAKOWIST_STATUS_NONE = 0,
+    MAKOWIST_STATUS_PENDING = 1,
+    MAKOWIST_STATUS_IN_PROGRESS = 2,
+    MAKOWIST_STATUS_COMPLETE = 3,
+    MAKOWIST_STATUS_ABORTED = 4,
+    MAKOWIST_STATUS_CANCELED = 5,
+    MAKOWIST_STATUS_FAILED = 6
+};
+
+/* A transaction's phase and an event's phase; an event's stage. */
+enum { MAKOWIST_PHASE_CHANGE = 1, MAKOWIST_PHASE_ROLLBACK = 2 };
+enum { MAKOWIST_STAGE_COMMIT = 1, MAKOWIST_STAGE_APPLY = 2 };
+
+/* The four jobs, and what the validation or the target said to one. */
+enum {
+    MAKOWIST_JOB_COMMIT_CHANGE = 1,
+    MAKOWIST_JOB_APPLY_CHANGE = 2,
+    MAKOWIST_JOB_COMMIT_ROLLBACK = 3,
+    MAKOWIST_JOB_APPLY_ROLLBACK = 4
+};
+enum { MAKOWIST_OUTCOME_ACCEPTED = 0, MAKOWIST_OUTCOME_REJECTED = 1 };
+
+/* ---- The reply of a call: answer + 2^8 phase + 2^16 stage + 2^24 status + 2^32 number.
+ *
+ * Phase, stage, status and number are those of the call's event, and 0 where it gives none; only an accepted job gives
+ * one. An accepted append gives its entry's number as number. */
+
+static inline unsigned makowist_reply_answer(uint64_t reply) { return (unsigned)(reply & 0xff); }
+static inline unsigned makowist_reply_phase(uint64_t reply) { return (unsigned)(reply >> 8 & 0xff); }
+static inline unsigned makowist_reply_stage(uint64_t reply) { return (unsigned)(reply >> 16 & 0xff); }
+static inline unsigned makowist_reply_status(uint64_t reply) { return (unsigned)(reply >> 24 & 0xff); }
+static inline uint16_t makowist_reply_number(uint64_t reply) { return (uint16_t)(reply >> 32 & 0xffff); }
+
+/* The reply of a read: answer + 2^32 value; the value is 0 where the read is refused. */
+static inline uint32_t makowist_reply_value(uint64_t reply) { return (uint32_t)(reply >> 32); }
+
+/* ---- Calls that change an image. All but makowist_fresh refuse MAKOWIST_NOT_WELL_FORMED first. */
+
+/* Makes the bytes, whatever they hold, a fresh image: empty log, no master, configuration Pending, all else 0.
+ * Refuses MAKOWIST_NOT_WELL_FORMED, for the length alone. */
+uint64_t makowist_fresh(uint8_t *image, size_t length);
+
+/* Takes a change of 1 to 4 pairs, paths strictly rising, into the log; its number is in the reply. A pair is four
+ * bytes: path, then value, 16-bit little-endian (makowist_put_pair writes one); pairs_length is in bytes. Value 0 deletes.
+ * Refuses MAKOWIST_NOT_A_CHANGE (also a pairs_length that is no multiple of 4), MAKOWIST_LOG_FULL. */
+uint64_t makowist_append(uint8_t *image, size_t length, const uint8_t *pairs, size_t pairs_length);
+
+/* Writes one pair, MAKOWIST_PAIR_LENGTH bytes, as makowist_append takes it. */
+static inline void makowist_put_pair(uint8_t *pair, uint16_t path, uint16_t value) {
+    pair[0] = (uint8_t)(path & 0xff);
+    pair[1] = (uint8_t)(path >> 8);
+    pair[2] = (uint8_t)(value & 0xff);
+    pair[3] = (uint8_t)(value >> 8);
+}
+
+/* Asks for the rollback of a committed change. Refuses MAKOWIST_NO_SUCH_NUMBER, MAKOWIST_NO_ROLLBACK. */
+uint64_t makowist_rollback(uint8_t *image, size_t length, uint16_t number);
+
+/* The target runs from now on, under its next id. Refuses MAKOWIST_ALREADY_SO, MAKOWIST_COUNTER_AT_LIMIT. */
+uint64_t makowist_start(uint8_t *image, size_t length);
+
+/* The target is stopped: its values become 0 and every node is disconnected. Refuses MAKOWIST_ALREADY_SO. */
+uint64_t makowist_stop(uint8_t *image, size_t length);
+
+/* The node is connected, under its next id. Refuses MAKOWIST_OUT_OF_RANGE, MAKOWIST_ALREADY_SO, MAKOWIST_TARGET_STOPPED,
+ * MAKOWIST_COUNTER_AT_LIMIT. */
+uint64_t makowist_connect(uint8_t *image, size_t length, uint16_t node);
+
+/* The node is not connected any more. Refuses MAKOWIST_OUT_OF_RANGE, MAKOWIST_ALREADY_SO. */
+uint64_t makowist_disconnect(uint8_t *image, size_t length, uint16_t node);
+
+/* Where there is no master and the node is connected, it becomes master in the next term; where it is master and not
+ * connected, there is no master any more. Refuses MAKOWIST_OUT_OF_RANGE, MAKOWIST_NO_RULE, MAKOWIST_COUNTER_AT_LIMIT. */
+uint64_t makowist_master(uint8_t *image, size_t length, uint16_t node);
+
+/* Brings the applied values to the target in a new term, in two calls: the first begins, the second is answered after
+ * the target has taken them. Refuses MAKOWIST_OUT_OF_RANGE, MAKOWIST_NOT_MASTER, MAKOWIST_NO_RULE, MAKOWIST_LINE_NOT_OPEN. */
+uint64_t makowist_sync(uint8_t *image, size_t length, uint16_t node);
+
+/* One step of a job on a transaction, by a node; its event is in the reply where the step gives one. A cut of 1 leaves
+ * out the second store of a step that has two, as when the node is lost between them; the next step makes it good.
+ * Refuses MAKOWIST_OUT_OF_RANGE, MAKOWIST_NO_SUCH_NUMBER, MAKOWIST_NOT_MASTER, MAKOWIST_NO_RULE, MAKOWIST_COUNTER_AT_LIMIT,
+ * MAKOWIST_LINE_NOT_OPEN, MAKOWIST_PUSH_REJECTED. */
+uint64_t makowist_work(uint8_t *image, size_t length, uint16_t node, uint16_t job, uint16_t number, uint16_t outcome,
+                       uint16_t cut);
+
+/* ---- Reads. They change no byte of the image. All refuse MAKOWIST_NOT_WELL_FORMED first. */
+
+/* MAKOWIST_ACCEPTED where the bytes are a well-formed image, else MAKOWIST_NOT_WELL_FORMED. */
+uint64_t makowist_well_formed(const uint8_t *image, size_t length);
+
+/* Writes the numbers of the changes that make up the committed revision, newest first, and answers how many as value;
+ * room past them stays. room_length is in elements; MAKOWIST_LOG_LIMIT is always enough. Refuses MAKOWIST_NO_ROOM. */
+uint64_t makowist_live(const uint8_t *image, size_t length, uint16_t *room, size_t room_length);
+
+/* A path's value in one of the three tables. Refuses MAKOWIST_OUT_OF_RANGE. */
+enum { MAKOWIST_TABLE_COMMITTED = 1, MAKOWIST_TABLE_APPLIED = 2, MAKOWIST_TABLE_TARGET = 3 };
+uint64_t makowist_value(const uint8_t *image, size_t length, uint16_t table, uint16_t path);
+
+/* A field of a transaction. Pair k, from 0, has path, value and r.value at the field named with + k; places past the
+ * transaction's pairs carry nothing. Refuses MAKOWIST_OUT_OF_RANGE (the field), MAKOWIST_NO_SUCH_NUMBER. */
+enum {
+    MAKOWIST_TRANSACTION_PHASE = 1,
+    MAKOWIST_TRANSACTION_C_COMMIT = 2,
+    MAKOWIST_TRANSACTION_C_APPLY = 3,
+    MAKOWIST_TRANSACTION_C_ORDINAL = 4,
+    MAKOWIST_TRANSACTION_R_COMMIT = 5,
+    MAKOWIST_TRANSACTION_R_APPLY = 6,
+    MAKOWIST_TRANSACTION_R_ORDINAL = 7,
+    MAKOWIST_TRANSACTION_R_INDEX = 8,
+    MAKOWIST_TRANSACTION_PAIRS = 9,     /* how many pairs */
+    MAKOWIST_TRANSACTION_PATH = 10,     /* to 13 */
+    MAKOWIST_TRANSACTION_VALUE = 14,    /* to 17 */
+    MAKOWIST_TRANSACTION_R_VALUE = 18   /* to 21 */
+};
+uint64_t makowist_transaction(const uint8_t *image, size_t length, uint16_t number, uint16_t field);
+
+/* A field of what the state has once. Refuses MAKOWIST_OUT_OF_RANGE. */
+enum {
+    MAKOWIST_LOG_LENGTH = 1,
+    MAKOWIST_COMMITTED_INDEX = 2,
+    MAKOWIST_COMMITTED_CHANGE = 3,
+    MAKOWIST_COMMITTED_TARGET = 4,
+    MAKOWIST_COMMITTED_REVISION = 5,
+    MAKOWIST_COMMITTED_ORDINAL = 6,
+    MAKOWIST_APPLIED_INDEX = 7,
+    MAKOWIST_APPLIED_TARGET = 8,
+    MAKOWIST_APPLIED_REVISION = 9,
+    MAKOWIST_APPLIED_ORDINAL = 10,
+    MAKOWIST_CONFIGURATION_STATE = 11,
+    MAKOWIST_CONFIGURATION_TERM = 12,
+    MAKOWIST_MASTERSHIP_MASTER = 13,
+    MAKOWIST_MASTERSHIP_TERM = 14,
+    MAKOWIST_MASTERSHIP_CONN = 15,
+    MAKOWIST_TARGET_ID = 16,
+    MAKOWIST_TARGET_RUNNING = 17
+};
+uint64_t makowist_record(const uint8_t *image, size_t length, uint16_t field);
+
+/* A field of a node's connection. Refuses MAKOWIST_OUT_OF_RANGE. */
+enum { MAKOWIST_CONNECTION_ID = 1, MAKOWIST_CONNECTION_CONNECTED = 2 };
+uint64_t makowist_connection(const uint8_t *image, size_t length, uint16_t node, uint16_t field);
+
+#ifdef __cplusplus
+}
+#endif
+
+#endif
