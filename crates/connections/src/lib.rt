@@ -4,9 +4,8 @@ use kinds::Connection;
 use rules::Connected;
 ghost use mathlib.Core.Path.{_≡_};
 ghost use Prim.Native.Nat.{_<_};
-ghost use mathlib.Core.List.{map};
-ghost use Rattle.rules.specs.Outside.{off};
-ghost use Rattle.connections.specs.Table.{placeOf, connectBy, disconnectBy, Connects, Disconnects, Stops, connectOf, disconnectOf};
+ghost use Rattle.connections.specs.Table.{placeOf, connectBy, disconnectBy, Connects, Disconnects, Stops};
+ghost use Rattle.connections.specs.Promises.{ConnectsOf, DisconnectsOf, StopsOf};
 
 // Where a node stands in the table, or the refusal.
 struct Place {
@@ -99,7 +98,7 @@ pub fn stop(conns: &mut [Connection]) -> u8
 
 // The same on a table by value, which is kept in a local and lent: callers need no walk.
 pub fn connect_of(conns: [Connection; 8], n: u16, running: bool) -> Tabled
-    ensures { λ r. ⌜ r ≡ connectOf conns n running ⌝ }
+    ensures { λ r. ⌜ ConnectsOf conns n running r ⌝ }
 {
     let mut connections = conns;
     let answer = connect(&mut connections, n, running);
@@ -110,7 +109,7 @@ pub fn connect_of(conns: [Connection; 8], n: u16, running: bool) -> Tabled
 }
 
 pub fn disconnect_of(conns: [Connection; 8], n: u16) -> Tabled
-    ensures { λ r. ⌜ r ≡ disconnectOf conns n ⌝ }
+    ensures { λ r. ⌜ DisconnectsOf conns n r ⌝ }
 {
     let mut connections = conns;
     let answer = disconnect(&mut connections, n);
@@ -121,7 +120,7 @@ pub fn disconnect_of(conns: [Connection; 8], n: u16) -> Tabled
 }
 
 pub fn stop_of(conns: [Connection; 8]) -> [Connection; 8]
-    ensures { λ r. ⌜ r ≡ map off conns ⌝ }
+    ensures { λ r. ⌜ StopsOf conns r ⌝ }
 {
     let mut connections = conns;
     stop(&mut connections);

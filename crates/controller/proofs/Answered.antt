@@ -1,16 +1,15 @@
 -- Each answer of each call, over variables: the reply and the image are those that the machine decides. Assumes nothing.
-use Prim.Native.Nat.{ℕ, zero, suc, _+_, _-_, _≤_, _<_, _%_}
+use Prim.Native.Nat.{ℕ, _+_, _-_, _≤_, _<_, _%_}
 use mathlib.Core.Path.{_≡_, refl, ap, ap₂, sym, _∙_}
-use mathlib.Core.Logic.{inl, inr}
-use mathlib.Core.Bool.{Bool, true, false, not, _&&_, _||_}
+use mathlib.Core.Logic.{inl}
+use mathlib.Core.Bool.{Bool, true, false, _&&_}
 use mathlib.Core.List.{List, [], _∷_, map}
 use native.Mathlib.Omega.{arith}
 use borrow.Author.Tests.{eq-eqb, ne-eqb, leb-true, lt-ltb, le-ltb}
-use lib.Dec.{eqb, leb, ltb}
+use lib.Dec.{eqb, leb}
 use lib.ListN.{length}
 use Rattle.kinds.specs.declared.Transaction.{Transaction}
 use Rattle.kinds.specs.declared.Reply.{Reply}
-use Rattle.kinds.specs.declared.Event.{Event}
 use Rattle.kinds.specs.declared.Number.{Number}
 use Rattle.kinds.specs.declared.Connection.{Connection}
 use Rattle.kinds.specs.declared.Mastership.{Mastership}
@@ -18,17 +17,17 @@ use Rattle.kinds.specs.declared.Target.{Target}
 use Rattle.kinds.specs.declared.Configuration.{Configuration}
 use Rattle.kinds.specs.declared.Status.the-variants.{None}
 use Rattle.kinds.specs.Numbers.{num}
-use Rattle.kinds.specs.Events.{noEvent, numbered, refusal}
+use Rattle.kinds.specs.Events.{numbered, refusal}
 use Rattle.fields.proofs.Laws.{Bytes, Outside}
 use Rattle.rules.specs.declared.Plan.{Plan}
 use Rattle.rules.specs.declared.Targeted.{Targeted}
 use Rattle.rules.specs.declared.Mastered.{Mastered}
 use Rattle.rules.specs.declared.Synchronised.{Synchronised}
 use Rattle.rules.specs.Outside as outside
-use Rattle.machine.specs.State.{State, absent, entryOf, inLog, isNode, nodeOf, putNode, isMaster, reachesTarget}
+use Rattle.machine.specs.State.{absent, entryOf, inLog, isNode, nodeOf, isMaster}
 use Rattle.machine.specs.Stores.{Store, ofApplied, grow, entry, targetValues, configuration, mastership, connections, target}
 use Rattle.machine.specs.Rows.{rowsOf}
-use Rattle.machine.specs.Calls.{Pair, Call, Outcome, append, rollback, start, stop, connect, disconnect, master, sync, work, refused, accepted, unless, answers, validChange, appended, planOf, commits, planned, workOk, copyRow, decide}
+use Rattle.machine.specs.Calls.{Call, Outcome, rollback, start, stop, connect, disconnect, master, sync, work, refused, accepted, answers, validChange, appended, planOf, commits, planned, workOk, copyRow, decide}
 use Rattle.connections.specs.declared.Tabled.{Tabled}
 use Rattle.connections.specs.Table as table
 use Rattle.connections.specs.Decides as decides

@@ -1,11 +1,11 @@
 -- What the code loads is what the view shows, so what its rules decide is what the machine decides. Assumes nothing.
-use Prim.Native.Nat.{ℕ, zero, suc, _+_, _-_, _*_, _≤_, _<_}
+use Prim.Native.Nat.{ℕ, _-_, _≤_, _<_}
 use mathlib.Core.Path.{_≡_, refl, ap, ap₂, sym, _∙_}
-use mathlib.Core.Bool.{Bool, true, false, not, _&&_, _||_}
+use mathlib.Core.Bool.{Bool, true, false, _||_}
 use mathlib.Core.List.{List, [], _∷_}
 use native.Mathlib.Nat.{add-assoc}
 use native.Mathlib.Omega.{arith}
-use borrow.Author.Tests.{eq-eqb, ne-eqb, eqb-true, eqb-false, leb-true, le-leb, lt-leb}
+use borrow.Author.Tests.{eq-eqb, ne-eqb, eqb-true, eqb-false, le-leb, lt-leb}
 use lib.Dec.{eqb, leb, ltb}
 use lib.ListN.{length, getD}
 use Rattle.kinds.specs.declared.Transaction.{Transaction}
@@ -15,7 +15,6 @@ use Rattle.kinds.specs.declared.Connection.{Connection}
 use Rattle.kinds.specs.declared.Mastership.{Mastership}
 use Rattle.kinds.specs.declared.Target.{Target}
 use Rattle.kinds.specs.declared.Configuration.{Configuration}
-use Rattle.kinds.specs.declared.Status.{Status}
 use Rattle.kinds.specs.declared.Status.the-variants.{None, Pending, InProgress, Complete, Aborted, Canceled, Failed}
 use Rattle.kinds.specs.Numbers.{num}
 use Rattle.kinds.specs.Statuses.{done, statusIf, statusOf}
@@ -28,17 +27,16 @@ use Rattle.rules.specs.ApplyChange.{applyChange}
 use Rattle.rules.specs.ApplyRollback.{applyRollback}
 use Rattle.rules.specs.Outside.{lineOpen}
 use Rattle.machine.specs.State.{State, entryOf, nodeOf, lineOpenFor}
-use Rattle.machine.specs.WellFormed.{allEntries, wellFormed}
 use Rattle.machine.specs.Settled.{entrySettled, settled}
 use Rattle.machine.specs.Calls.{restOf, presentOne, present, job1, job2, job3, job4, planOf}
 use Rattle.machine.specs.Kept as kept
-use Rattle.image.specs.Layout.{tableWidths, placeOf, imageLength}
+use Rattle.image.specs.Layout.{tableWidths, imageLength}
 use Rattle.image.specs.Records.{entryAt, logLength, changeOf, headAt, configurationOf, mastershipOf, targetOf, connectionsOf}
 use Rattle.image.specs.View.{tableOf, view}
 use Rattle.image.specs.Formed.{allUpTo, formed}
 use Rattle.image.proofs.UpTo.{entry-upTo, all-same, all-entries}
 use Rattle.image.proofs.Scanned.{view-length, formed-length, formed-few, formed-state}
-use Rattle.controller.specs.Claims.{Entry, sideSettledAt, entrySettledAt}
+use Rattle.controller.specs.Claims.{Entry, entrySettledAt}
 
 -- ---- a well-formed image
 module _ (l : List ℕ) (w : formed l ≡ true) where

@@ -18,8 +18,8 @@ use Rattle.fields.proofs.Runs.{fields-kept}
 use Rattle.machine.specs.State.{fresh, freshPart, freshNet}
 use Rattle.machine.specs.Stores.{Table, ofCommitted, ofApplied, ofTarget}
 use Rattle.machine.specs.WellFormed.{allFrom, headOk, wellFormed}
-use Rattle.image.specs.Layout.{headWidths, tableWidths, configurationWidths, mastershipWidths, targetWidths, connectionsWidths, lengthAt, changeAt, committedAt, appliedAt, valuesAt, configurationAt, mastershipAt, targetAt, connectionsAt, imageLength}
-use Rattle.image.specs.Records.{entryAt, logLength, changeOf, toHead, headAt, toConfiguration, configurationOf, toMastership, mastershipOf, toTarget, targetOf, toConnections, connectionsOf}
+use Rattle.image.specs.Layout.{headWidths, tableWidths, mastershipWidths, targetWidths, connectionsWidths, lengthAt, changeAt, committedAt, appliedAt, valuesAt, configurationAt, mastershipAt, targetAt, connectionsAt, imageLength}
+use Rattle.image.specs.Records.{entryAt, logLength, changeOf, toHead, headAt, configurationOf, toMastership, mastershipOf, toTarget, targetOf, toConnections, connectionsOf}
 use Rattle.image.specs.View.{upTo, tableOf, partOf, netOf, view}
 use Rattle.image.specs.Formed.{allUpTo, flagsOk, formed}
 use Rattle.image.proofs.Kept.{Apart}
@@ -175,7 +175,3 @@ well-formed = refl
 pub formed-fresh : formed freshImage ≡ true
 unfolding formed allUpTo
 formed-fresh = rw (eq-eqb (length freshImage) imageLength length-fresh, no-log, flags, shows-fresh, well-formed)
-
--- ---- no second outcome
-pub only-fresh : (l : List ℕ) (r q : Reply) (m n : List ℕ) → Freshens l r m → Freshens l q n → (r ≡ q) × (m ≡ n)
-only-fresh l r q m n a b = (a .0 ∙ sym (b .0), a .1 ∙ sym (b .1))

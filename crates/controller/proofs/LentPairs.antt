@@ -1,21 +1,20 @@
 -- The lent pairs: what the code reads of the bytes is what the definition makes of them. Assumes nothing.
 use Prim.Native.Nat.{ℕ, zero, suc, _+_, _-_, _*_, _/_, _%_, _≤_, _<_}
 use mathlib.Core.Path.{_≡_, refl, ap, ap₂, sym, _∙_}
-use mathlib.Core.Bool.{Bool, true, false, _&&_, _||_, and-true, and-false, true≢false}
+use mathlib.Core.Bool.{Bool, true, false, _&&_, _||_, and-true, and-false}
 use mathlib.Core.List.{List, [], _∷_, map}
 use native.Mathlib.Omega.{arith}
-use borrow.Author.Tests.{eqb-true, eqb-false, leb-true, ltb-true, ltb-false, eq-eqb, ne-eqb, lt-leb, le-leb, lt-ltb, le-ltb}
+use borrow.Author.Tests.{eqb-true, leb-true, ltb-true, ltb-false, eq-eqb, lt-leb, lt-ltb, le-ltb}
 use lib.Dec.{eqb, leb, ltb}
 use lib.ListN.{length, getD, List·getD-eq-default}
 use Rattle.kinds.specs.declared.Transaction.{Transaction}
-use Rattle.kinds.specs.declared.Side.{Side}
 use Rattle.kinds.specs.declared.Number.{Number}
 use Rattle.kinds.specs.declared.Ordinal.{Ordinal}
 use Rattle.kinds.specs.declared.Status.the-variants.{None, Pending}
 use Rattle.kinds.specs.Numbers.{num, ord}
 use Rattle.fields.proofs.Laws.{Bytes}
 use Rattle.machine.specs.WellFormed.{pairsOk}
-use Rattle.machine.specs.Calls.{Pair, pathOf, valueOf, valuesOk, validChange, appended}
+use Rattle.machine.specs.Calls.{pathOf, valueOf, valuesOk, validChange, appended}
 use Rattle.image.proofs.UpTo.{and-left, and-right}
 use Rattle.controller.specs.Bytes.{two, pairsOf, pairsIf, pathsIn, validBytes}
 

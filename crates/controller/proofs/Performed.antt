@@ -1,24 +1,23 @@
 -- A plan's stores as the code makes them, over variables: each row after the one before it. Assumes nothing.
-use Prim.Native.Nat.{ℕ, _+_, _*_, _≤_}
+use Prim.Native.Nat.{ℕ, _+_, _*_}
 use mathlib.Core.Path.{_≡_, refl, ap, sym, _∙_}
 use mathlib.Core.Bool.{Bool, true, false}
-use mathlib.Core.List.{List, [], _∷_, _++_, append-nil}
+use mathlib.Core.List.{List, [], _∷_, _++_}
 use lib.Dec.{ltb}
 use lib.ListN.{getD}
 use Rattle.kinds.specs.declared.Transaction.{Transaction}
-use Rattle.kinds.specs.declared.Head.{Head}
 use Rattle.kinds.specs.declared.Number.{Number}
 use Rattle.kinds.specs.Numbers.{num}
 use Rattle.fields.specs.Field.{putField}
 use Rattle.rules.specs.declared.Plan.{Plan}
 use Rattle.rules.specs.declared.Lay.{Lay}
-use Rattle.rules.specs.declared.Lay.the-variants.{Nothing, Values, Kept}
+use Rattle.rules.specs.declared.Lay.the-variants.{Nothing}
 use Rattle.rules.specs.declared.Order.{Order}
-use Rattle.rules.specs.declared.Order.the-variants.{Neither, EntryOnly, HeadOnly, EntryThenHead, HeadThenEntry}
+use Rattle.rules.specs.declared.Order.the-variants.{Neither}
 use Rattle.machine.specs.Stores.{Table, ofCommitted, ofApplied, ofTarget, Store, change, committedHead, appliedHead}
-use Rattle.machine.specs.Rows.{layOne, overlay, laid, entryRow, changeRow, headRow, thenRow, rowsBy, rowsOf}
-use Rattle.image.specs.Layout.{committedAt, appliedAt, valuesAt}
-use Rattle.image.specs.Records.{putEntryAt, putHeadAt}
+use Rattle.machine.specs.Rows.{layOne, overlay, laid, changeRow, headRow, thenRow, rowsBy, rowsOf}
+use Rattle.image.specs.Layout.{valuesAt}
+use Rattle.image.specs.Records.{putHeadAt}
 use Rattle.image.specs.View.{writeIf, write, written}
 
 pub written-append : (l : List ℕ) (es fs : List Store) → written l (es ++ fs) ≡ written (written l es) fs

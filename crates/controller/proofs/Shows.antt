@@ -1,10 +1,10 @@
 -- What the code reads is what the machine reads from what the image shows. Assumes nothing.
-use Prim.Native.Nat.{ℕ, zero, suc, _+_, _-_, _≤_, _<_}
+use Prim.Native.Nat.{ℕ, _+_, _-_, _≤_, _<_}
 use mathlib.Core.Path.{_≡_, refl, ap, ap₂, sym, _∙_}
 use mathlib.Core.Bool.{Bool, true, false, _&&_}
 use mathlib.Core.List.{List, [], _∷_}
 use native.Mathlib.Omega.{arith}
-use borrow.Author.Tests.{eq-eqb, ne-eqb, leb-true, ltb-true}
+use borrow.Author.Tests.{leb-true, ltb-true}
 use lib.Dec.{eqb, leb, ltb}
 use lib.ListN.{length, getD}
 use Rattle.kinds.specs.declared.Transaction.{Transaction}
@@ -15,8 +15,8 @@ use Rattle.kinds.specs.declared.Configuration.{Configuration}
 use Rattle.kinds.specs.declared.Mastership.{Mastership}
 use Rattle.kinds.specs.declared.Target.{Target}
 use Rattle.kinds.specs.Numbers.{num}
-use Rattle.kinds.specs.Statuses.{codeOf, progressCode}
-use Rattle.fields.specs.Field.{field, fieldsAt, quad}
+use Rattle.kinds.specs.Statuses.{progressCode}
+use Rattle.fields.specs.Field.{fieldsAt, quad}
 use Rattle.machine.specs.State.{State, entryOf, inLog, isNode, nodeOf}
 use Rattle.machine.specs.Reads as reads
 use Rattle.machine.specs.Reads.{Query, ofTable, ofEntry, ofState, ofNode, Answer, shows, refuses, isField, fieldOf, flag, entryNumbers, stateNumbers, nodeNumbers, valuesIf, tableNumbers, read}
@@ -27,7 +27,6 @@ use Rattle.image.specs.Formed.{formed}
 use Rattle.image.proofs.UpTo.{and-left, and-right}
 use Rattle.image.proofs.Scanned.{view-length}
 use Rattle.controller.specs.declared.reads.Read.{Read}
-use Rattle.controller.specs.declared.reads.Heads.{Heads}
 use Rattle.controller.specs.Claims.{Entry}
 use Rattle.controller.specs.Reads.{given, unless, readOf, noHead, headsIf, headsOf, marks, netNumbers, placeIf, tablePlace}
 use Rattle.controller.proofs.Decided.{entry-of}
@@ -185,10 +184,3 @@ module _ (l : List ℕ) (b : Bool) (eb : b ≡ formed l) (h j : Head) where
   no-heads t p q =
       let z : formed l ≡ false = sym eb ∙ t in
       ap₂ (λ (x y : Head). record { committed = x; applied = y }) p q ∙ ap (λ (x : Bool). headsIf x (view l)) (sym z)
-
--- ---- no second outcome
-pub only-read : (l : List ℕ) (q : Query) (r p : Read) → r ≡ readOf l q → p ≡ readOf l q → r ≡ p
-only-read l q r p a b = a ∙ sym b
-
-pub only-heads : (l : List ℕ) (r p : Heads) → r ≡ headsOf l → p ≡ headsOf l → r ≡ p
-only-heads l r p a b = a ∙ sym b

@@ -1,7 +1,7 @@
 -- The live list as the code walks it: a hop goes to a lower number, so the list from v is v and the list from where its
 -- hop goes; and what a store and the rest of the walk write. Assumes nothing.
 use Prim.Native.Nat.{ℕ, zero, suc, _+_, _≤_, _<_}
-use mathlib.Core.Path.{_≡_, refl, ap, ap₂, sym, _∙_, subst}
+use mathlib.Core.Path.{_≡_, refl, ap, sym, _∙_}
 use mathlib.Core.Bool.{Bool, true, false}
 use mathlib.Core.List.{List, [], _∷_, _++_}
 use native.Mathlib.Nat.{le-of-suc-le-suc, not-suc-le-zero, add-zero, zero-add}
@@ -15,13 +15,13 @@ use Rattle.kinds.specs.declared.Head.{Head}
 use Rattle.machine.specs.State.{State, entryOf}
 use Rattle.machine.specs.LiveList.{hops, live}
 use Rattle.machine.specs.Kept as kept
-use Rattle.image.specs.Records.{entryAt, logLength, headAt}
+use Rattle.image.specs.Records.{entryAt, headAt}
 use Rattle.image.specs.View.{view}
 use Rattle.image.specs.Formed.{formed}
-use Rattle.image.proofs.Scanned.{view-length, formed-state}
+use Rattle.image.proofs.Scanned.{view-length}
 use Rattle.controller.specs.declared.walking.Listed.{Listed}
 use Rattle.controller.specs.Claims.{Entry}
-use Rattle.controller.specs.Live.{Listing, unlisted, unless, listing, listingIn, listingOf, Lists, ListsLive, liveFrom, Chained, Placed}
+use Rattle.controller.specs.Live.{unless, listing, listingOf, Lists, ListsLive, liveFrom, Chained, Placed}
 use Rattle.controller.proofs.Decided.{entry-of, formed-view}
 
 -- ---- hops, in a well-formed state
@@ -160,7 +160,3 @@ module _ (l m : List ℕ) (b : Bool) (r : Listed) (eb : b ≡ formed l) where
   pub live-then : (m′ : List ℕ) → b ≡ true → ListsLive l m r m′ → Lists l m r m′
   unfolding listingOf
   live-then m′ t d = let z : formed l ≡ true = sym eb ∙ t in (rw z (d .0), rw z (d .1))
-
--- ---- no second outcome
-pub only-live : (l m : List ℕ) (r q : Listed) (n k : List ℕ) → Lists l m r n → Lists l m q k → (r ≡ q) × (n ≡ k)
-only-live l m r q n k a b = (a .0 ∙ sym (b .0), a .1 ∙ sym (b .1))

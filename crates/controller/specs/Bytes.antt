@@ -1,9 +1,8 @@
 -- The pairs of an append as they are lent: four bytes a pair, its path and its value, each little-endian. Assumes nothing.
-use Prim.Native.Nat.{ℕ, zero, suc, _+_, _*_, _/_, _%_, _<_, _≤_}
-use mathlib.Core.Path.{_≡_}
+use Prim.Native.Nat.{ℕ, _+_, _*_, _/_, _%_}
 use mathlib.Core.Bool.{Bool, true, false, _&&_}
 use mathlib.Core.List.{List, [], _∷_}
-use lib.Dec.{eqb, leb}
+use lib.Dec.{eqb}
 use lib.ListN.{length, getD}
 use Rattle.machine.specs.WellFormed.{pairsOk}
 use Rattle.machine.specs.Calls.{Pair, Call, append}

@@ -3,3 +3,4 @@ pub mod Bytes
 pub mod Fresh
 pub mod Live
 pub mod Reads
+pub mod Promises

@@ -10,7 +10,8 @@ ghost use Rattle.machine.specs.Reads.{Query, ofTable, ofEntry, ofState, ofNode,
 ghost use Rattle.image.specs.Records.{headNumbers};
 ghost use Rattle.image.specs.View.{view, netOf};
 ghost use Rattle.image.specs.Formed.{formed};
-ghost use Rattle.controller.specs.Reads.{given, readOf, noHead, headsOf, marks, netNumbers, tablePlace};
+ghost use Rattle.controller.specs.Reads.{given, noHead, marks, netNumbers, tablePlace};
+ghost use Rattle.controller.specs.Promises.{Shows, ShowsHeads};
 use crate::calls::in_log;
 use crate::calls::is_node;
 use image::load_change;
@@ -105,7 +106,7 @@ fn table_place(table: u16) -> usize
 
 // The value of a path: table 1 Committed, 2 Applied, 3 the target. Refuses 1, 2.
 pub fn value(s: &[u8], table: u16, path: u16) -> Read
-    ensures { λ r. ⌜ r ≡ readOf (now (s .entry)) (ofTable table path) ⌝ }
+    ensures { λ r. ⌜ Shows (now (s .entry)) (ofTable table path) r ⌝ }
 {
     if well_formed(s) {
         if is_value(table, path) {
@@ -202,7 +203,7 @@ fn entry_numbers(t: Transaction) -> [u32; 21]
 
 // A field of a transaction. Refuses 1, 2 for the field, 5 for the number.
 pub fn transaction(s: &[u8], number: u16, field: u16) -> Read
-    ensures { λ r. ⌜ r ≡ readOf (now (s .entry)) (ofEntry number field) ⌝ }
+    ensures { λ r. ⌜ Shows (now (s .entry)) (ofEntry number field) r ⌝ }
 {
     if well_formed(s) {
         if is_field(field, 21) {
@@ -284,7 +285,7 @@ fn state_numbers(s: &[u8]) -> [u32; 17]
 
 // A field of what the state has once: the log's length, the heads, configuration, mastership, target. Refuses 1, 2.
 pub fn record(s: &[u8], field: u16) -> Read
-    ensures { λ r. ⌜ r ≡ readOf (now (s .entry)) (ofState field) ⌝ }
+    ensures { λ r. ⌜ Shows (now (s .entry)) (ofState field) r ⌝ }
 {
     if well_formed(s) {
         if is_field(field, 17) {
@@ -315,7 +316,7 @@ fn node_numbers(x: Connection) -> [u32; 2]
 
 // A field of a node's connection. Refuses 1, 2.
 pub fn connection(s: &[u8], node: u16, field: u16) -> Read
-    ensures { λ r. ⌜ r ≡ readOf (now (s .entry)) (ofNode node field) ⌝ }
+    ensures { λ r. ⌜ Shows (now (s .entry)) (ofNode node field) r ⌝ }
 {
     if well_formed(s) {
         if is_node_field(node, field) {
@@ -332,7 +333,7 @@ pub fn connection(s: &[u8], node: u16, field: u16) -> Read
 
 // Committed's and Applied's head; zeros where the image is not well-formed.
 pub fn both_heads(s: &[u8]) -> Heads
-    ensures { λ r. ⌜ r ≡ headsOf (now (s .entry)) ⌝ }
+    ensures { λ r. ⌜ ShowsHeads (now (s .entry)) r ⌝ }
 {
     if well_formed(s) {
         let committed = load_head(s, 4612);

@@ -2,7 +2,8 @@
 ghost use mathlib.Core.Path.{_≡_};
 ghost use Prim.Native.Nat.{_+_, _≤_, _<_};
 ghost use lib.ListN.{length};
-ghost use Rattle.fields.specs.Field.{field, putField, fieldsAt, putFields, ones, twos, quad};
+ghost use Rattle.fields.specs.Field.{ones, twos};
+ghost use Rattle.fields.specs.Promises.{Gets, GetsFour, Puts, PutsFour};
 
 fn wide16(x: u8) -> u16
     ensures { λ r. ⌜ (r ≡ x) × (r < 256) ⌝ }
@@ -18,14 +19,14 @@ fn wide32(x: u8) -> u32
 
 pub fn get1(s: &[u8], at: usize) -> u8
     requires { ⌜ at + 1 ≤ length (now s) ⌝ }
-    ensures { λ r. ⌜ r ≡ field (now (s .entry)) at 1 ⌝ }
+    ensures { λ r. ⌜ Gets (now (s .entry)) at 1 r ⌝ }
 {
     s[at]
 }
 
 pub fn get2(s: &[u8], at: usize) -> u16
     requires { ⌜ at + 2 ≤ length (now s) ⌝ }
-    ensures { λ r. ⌜ r ≡ field (now (s .entry)) at 2 ⌝ }
+    ensures { λ r. ⌜ Gets (now (s .entry)) at 2 r ⌝ }
 {
     let b = at + 1;
     let x = wide16(s[at]);
@@ -35,7 +36,7 @@ pub fn get2(s: &[u8], at: usize) -> u16
 
 pub fn get4(s: &[u8], at: usize) -> u32
     requires { ⌜ at + 4 ≤ length (now s) ⌝ }
-    ensures { λ r. ⌜ r ≡ field (now (s .entry)) at 4 ⌝ }
+    ensures { λ r. ⌜ Gets (now (s .entry)) at 4 r ⌝ }
 {
     let b = at + 1;
     let c = b + 1;
@@ -49,14 +50,14 @@ pub fn get4(s: &[u8], at: usize) -> u32
 
 pub fn put1(s: &mut [u8], at: usize, x: u8)
     requires { ⌜ at + 1 ≤ length (now s) ⌝ }
-    ensures { λ _. ⌜ now (s .exit) ≡ putField (now (s .entry)) at 1 x ⌝ }
+    ensures { λ _. ⌜ Puts (now (s .entry)) at 1 x (now (s .exit)) ⌝ }
 {
     s[at] = x;
 }
 
 pub fn put2(s: &mut [u8], at: usize, x: u16)
     requires { ⌜ at + 2 ≤ length (now s) ⌝ }
-    ensures { λ _. ⌜ now (s .exit) ≡ putField (now (s .entry)) at 2 x ⌝ }
+    ensures { λ _. ⌜ Puts (now (s .entry)) at 2 x (now (s .exit)) ⌝ }
 {
     let b = at + 1;
     s[at] = (x % 256) as u8;
@@ -65,7 +66,7 @@ pub fn put2(s: &mut [u8], at: usize, x: u16)
 
 pub fn put4(s: &mut [u8], at: usize, x: u32)
     requires { ⌜ at + 4 ≤ length (now s) ⌝ }
-    ensures { λ _. ⌜ now (s .exit) ≡ putField (now (s .entry)) at 4 x ⌝ }
+    ensures { λ _. ⌜ Puts (now (s .entry)) at 4 x (now (s .exit)) ⌝ }
 {
     let b = at + 1;
     let c = b + 1;
@@ -82,7 +83,7 @@ pub fn put4(s: &mut [u8], at: usize, x: u32)
 // Four numbers of one byte, one after another.
 pub fn get_ones(s: &[u8], at: usize) -> [u8; 4]
     requires { ⌜ at + 4 ≤ length (now s) ⌝ }
-    ensures { λ r. ⌜ r ≡ fieldsAt (now (s .entry)) at ones ⌝ }
+    ensures { λ r. ⌜ GetsFour (now (s .entry)) at ones r ⌝ }
 {
     [
         get1(s, at),
@@ -95,7 +96,7 @@ pub fn get_ones(s: &[u8], at: usize) -> [u8; 4]
 // Four numbers of two bytes, one after another.
 pub fn get_twos(s: &[u8], at: usize) -> [u16; 4]
     requires { ⌜ at + 8 ≤ length (now s) ⌝ }
-    ensures { λ r. ⌜ r ≡ fieldsAt (now (s .entry)) at twos ⌝ }
+    ensures { λ r. ⌜ GetsFour (now (s .entry)) at twos r ⌝ }
 {
     [
         get2(s, at),
@@ -107,7 +108,7 @@ pub fn get_twos(s: &[u8], at: usize) -> [u16; 4]
 
 pub fn put_ones(s: &mut [u8], at: usize, x: [u8; 4])
     requires { ⌜ at + 4 ≤ length (now s) ⌝ }
-    ensures { λ _. ⌜ now (s .exit) ≡ putFields (now (s .entry)) at ones (quad x) ⌝ }
+    ensures { λ _. ⌜ PutsFour (now (s .entry)) at ones x (now (s .exit)) ⌝ }
 {
     put1(s, at, x[0]);
     put1(s, at + 1, x[1]);
@@ -117,7 +118,7 @@ pub fn put_ones(s: &mut [u8], at: usize, x: [u8; 4])
 
 pub fn put_twos(s: &mut [u8], at: usize, x: [u16; 4])
     requires { ⌜ at + 8 ≤ length (now s) ⌝ }
-    ensures { λ _. ⌜ now (s .exit) ≡ putFields (now (s .entry)) at twos (quad x) ⌝ }
+    ensures { λ _. ⌜ PutsFour (now (s .entry)) at twos x (now (s .exit)) ⌝ }
 {
     put2(s, at, x[0]);
     put2(s, at + 2, x[1]);

@@ -1,23 +1,20 @@
 -- Storing what was loaded changes nothing: each record of an image whose codes are codes, written back as it was read,
 -- leaves every byte. Assumes nothing.
-use Prim.Native.Nat.{ℕ, zero, suc, _+_, _*_, _≤_, _<_}
-use mathlib.Core.Path.{_≡_, refl, ap, ap₂, sym, _∙_}
-use mathlib.Core.Bool.{Bool, true, false, _&&_}
-use mathlib.Core.List.{List, [], _∷_}
-use native.Mathlib.Nat.{add-assoc}
+use Prim.Native.Nat.{ℕ, zero, suc, _+_, _≤_}
+use mathlib.Core.Path.{_≡_, refl}
+use mathlib.Core.Bool.{true, _&&_}
+use mathlib.Core.List.{List}
 use native.Mathlib.Omega.{arith}
-use borrow.Author.Tests.{leb-true, eqb-true, eqb-false}
-use lib.Dec.{eqb, leb}
-use lib.ListN.{getD}
-use Rattle.kinds.specs.Statuses.{codeOf, statusIf, statusOf, progressCode, progressIf, progressOf}
-use Rattle.kinds.specs.declared.Status.the-variants.{None, Pending, InProgress, Complete, Aborted, Canceled, Failed}
+use borrow.Author.Tests.{leb-true}
+use lib.Dec.{leb}
+use Rattle.kinds.specs.Statuses.{codeOf, statusOf, progressCode, progressOf}
 use Rattle.kinds.specs.declared.Progress.the-variants as progress
 use Rattle.fields.specs.Field.{field, putField, fieldsAt, putFields}
 use Rattle.fields.proofs.Laws.{Bytes, put-back}
 use Rattle.fields.proofs.Runs.{puts-back}
 use Rattle.machine.specs.Stores.{Table}
 use Rattle.image.specs.Layout.{entryWidths, headWidths, tableWidths, configurationWidths, mastershipWidths, targetWidths, connectionsWidths, placeOf, changeAt, valuesAt, configurationAt, mastershipAt, targetAt, connectionsAt}
-use Rattle.image.specs.Records.{flagCode, flagOf, entryNumbers, entryAt, putEntryAt, changeOf, headNumbers, headAt, putHeadAt, configurationNumbers, configurationOf, putConfiguration, mastershipNumbers, mastershipOf, putMastership, targetNumbers, targetOf, putTarget, connectionsNumbers, connectionsOf, eight, putConnections}
+use Rattle.image.specs.Records.{flagCode, flagOf, entryAt, putEntryAt, changeOf, headAt, putHeadAt, configurationOf, putConfiguration, mastershipOf, putMastership, targetOf, putTarget, connectionsOf, putConnections}
 use Rattle.image.specs.View.{tableOf}
 use Rattle.image.specs.Formed.{flagOk, statusesOk, flagsOk}
 use Rattle.image.proofs.UpTo.{and-left, and-right}

@@ -1,8 +1,7 @@
 -- What a row of reads gives, and what a row of writes leaves, over variables. Assumes nothing.
 use Prim.Native.Nat.{ℕ, zero, suc, _+_, _-_, _*_, _<_, _≤_}
 use mathlib.Core.Path.{_≡_, refl, ap, ap₂, sym, _∙_}
-use mathlib.Core.Logic.{inl, inr}
-use mathlib.Core.Bool.{Bool, true, false}
+use mathlib.Core.Logic.{inl}
 use mathlib.Core.List.{List, [], _∷_, _++_}
 use native.Mathlib.Nat.{add-assoc, min-eq-left}
 use native.Mathlib.Numerals.{add-one}
@@ -14,7 +13,6 @@ use lib.Seq.{take-suc, take-all}
 use Rattle.kinds.specs.declared.Transaction.{Transaction}
 use Rattle.kinds.specs.declared.Side.{Side}
 use Rattle.kinds.specs.declared.Number.{Number}
-use Rattle.kinds.specs.declared.Status.{Status}
 use Rattle.kinds.specs.declared.Connection.{Connection}
 use Rattle.kinds.specs.Numbers.{num}
 use Rattle.kinds.specs.Statuses.{codeOf}
@@ -22,8 +20,8 @@ use Rattle.fields.specs.Field.{field, putField, fieldsAt, putFields, ones, twos
 use Rattle.fields.proofs.Runs.{table-at, length-fields, length-puts, puts-append, puts-outside, total-twos}
 use Rattle.fields.proofs.Laws.{field-kept}
 use Rattle.machine.specs.State.{absent, never, nodeOf}
-use Rattle.machine.specs.Stores.{ofApplied, targetValues}
-use Rattle.image.specs.Layout.{codeWidths, markWidths, tableWidths, nodeWidths}
+use Rattle.machine.specs.Stores.{Table, ofApplied, targetValues}
+use Rattle.image.specs.Layout.{codeWidths, markWidths, tableWidths, nodeWidths, valuesAt}
 use Rattle.image.specs.Records.{toSide, toConnections, codes, marks, entryAt, putEntryAt, toNode, putNodeAt, connectionsOf, putConnections}
 use Rattle.image.specs.View.{tableOf, writeIf, write}
 
@@ -152,6 +150,6 @@ all-here l s vs k a b z p =
     let t : take 32 vs ≡ vs = take-all 32 vs (omega arith) in
     p .0 ∙ ap (upToHere l vs 4760) e ∙ ap (λ (x : List ℕ). putFields l 4760 tableWidths x) t
 
-pub length-table : (l : List ℕ) → length (tableOf l ofApplied) ≡ 32
+pub length-table : (l : List ℕ) (b : Table) → length (tableOf l b) ≡ 32
 unfolding tableOf
-length-table l = length-fields tableWidths l 4696
+length-table l b = length-fields tableWidths l (valuesAt b)

@@ -1,13 +1,12 @@
 -- What a change of the bytes from a to below e leaves: each part of the view that lies apart. Assumes nothing.
-use Prim.Native.Nat.{ℕ, zero, suc, _+_, _-_, _*_, _≤_, _<_}
-use mathlib.Core.Path.{_≡_, refl, ap, sym, _∙_}
+use Prim.Native.Nat.{ℕ, _+_, _-_, _*_, _≤_}
+use mathlib.Core.Path.{_≡_, ap, _∙_}
 use mathlib.Core.Logic.{_⊎_, inl, inr, ⊎-elim}
 use mathlib.Core.List.{List}
 use native.Mathlib.Omega.{arith}
-use Rattle.fields.specs.Field.{total}
 use Rattle.fields.proofs.Laws.{Outside, field-kept}
 use Rattle.fields.proofs.Runs.{fields-kept}
-use Rattle.machine.specs.Stores.{Table, ofCommitted, ofApplied, ofTarget}
+use Rattle.machine.specs.Stores.{Table, ofTarget}
 use Rattle.image.specs.Layout.{entryWidths, headWidths, tableWidths, configurationWidths, mastershipWidths, targetWidths, connectionsWidths, placeOf, lengthAt, changeAt, valuesAt, configurationAt, mastershipAt, targetAt, connectionsAt, imageLength}
 use Rattle.image.specs.Records.{toEntry, entryAt, logLength, changeOf, toHead, headAt, toConfiguration, configurationOf, toMastership, mastershipOf, toTarget, targetOf, toConnections, connectionsOf}
 use Rattle.image.specs.View.{upTo, tableOf, partOf, netOf}

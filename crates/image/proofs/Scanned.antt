@@ -1,5 +1,5 @@
 -- The scan's order of tests is that of the definition. Assumes nothing.
-use Prim.Native.Nat.{ℕ, zero, suc, _+_, _-_, _*_, _≤_, _<_}
+use Prim.Native.Nat.{ℕ, _+_, _-_, _≤_, _<_}
 use mathlib.Core.Path.{_≡_, refl, ap, ap₂, sym, _∙_}
 use mathlib.Core.Bool.{Bool, true, false, _&&_, _||_, and-true, and-false, and-assoc}
 use mathlib.Core.List.{List}
@@ -9,12 +9,10 @@ use borrow.Author.Tests.{eq-eqb, ne-eqb, lt-leb, le-leb, lt-ltb, le-ltb, eqb-tru
 use lib.Dec.{eqb, leb, ltb}
 use lib.ListN.{length}
 use Rattle.fields.specs.Field.{field, fieldsAt, ones}
-use Rattle.kinds.specs.declared.Transaction.{Transaction}
-use Rattle.machine.specs.State.{State}
 use Rattle.machine.specs.WellFormed.{allEntries, pairsOk, entryOk, headsOk, sizesOk, wellFormed}
-use Rattle.image.specs.Layout.{placeOf, imageLength}
+use Rattle.image.specs.Layout.{imageLength}
 use Rattle.image.specs.Records.{entryAt, logLength, connectionsOf}
-use Rattle.image.specs.View.{upTo, tableOf, view}
+use Rattle.image.specs.View.{tableOf, view}
 use Rattle.image.specs.Formed.{allUpTo, statusesOk, entryStatusesOk, marksOk, flagsOk, entryFormed, codesOk, formed}
 use Rattle.image.proofs.UpTo.{length-upTo, all-same, all-both, all-entries, and-left, and-right}
 

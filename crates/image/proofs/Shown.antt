@@ -1,6 +1,6 @@
 -- The joint: the view of an image with a row of stores made in it is the view with the same stores made. Assumes nothing.
-use Prim.Native.Nat.{ℕ, zero, suc, _+_, _-_, _*_, _^_, _≤_, _<_}
-use mathlib.Core.Path.{_≡_, refl, ap, ap₂, sym, subst, _∙_}
+use Prim.Native.Nat.{ℕ, zero, suc, _+_, _-_, _*_, _≤_, _<_}
+use mathlib.Core.Path.{_≡_, refl, ap, sym, subst, _∙_}
 use mathlib.Core.Logic.{_⊎_, inl, inr, ⊎-elim}
 use mathlib.Core.Bool.{Bool, true, false}
 use mathlib.Core.List.{List, [], _∷_, _++_}
@@ -8,7 +8,7 @@ use native.Mathlib.Omega.{arith}
 use native.Mathlib.Numerals.{add-one}
 use borrow.Author.Tests.{ltb-true, ltb-false}
 use lib.Dec.{ltb}
-use lib.ListN.{length, getD, set, length-set, length-append}
+use lib.ListN.{length, set, length-set, length-append}
 use lib.Seq.{set-out}
 use Rattle.kinds.specs.declared.Transaction.{Transaction}
 use Rattle.kinds.specs.declared.Head.{Head}
@@ -18,15 +18,17 @@ use Rattle.kinds.specs.declared.Mastership.{Mastership}
 use Rattle.kinds.specs.declared.Connection.{Connection}
 use Rattle.kinds.specs.declared.Target.{Target}
 use Rattle.kinds.specs.Numbers.{num}
-use Rattle.fields.specs.Field.{field, putField, fieldsAt, putFields}
+use Rattle.fields.specs.Field.{putField, putFields}
 use Rattle.fields.proofs.Laws.{Outside, length-put, put-outside, put-same}
-use Rattle.fields.proofs.Runs.{Fit, length-puts, puts-outside, puts-same, table-set, length-fields}
+use Rattle.fields.proofs.Runs.{Fit, length-puts, puts-outside, puts-same, table-set}
 use Rattle.machine.specs.State.{Part, Net, State, putEntry}
 use Rattle.machine.specs.Stores.{Table, ofCommitted, ofApplied, ofTarget, Store, grow, entry, change, committedHead, appliedHead, value, targetValues, configuration, mastership, connections, target, withCommitted, withApplied, withNet, afterValue, after, afters}
 use Rattle.image.specs.Layout.{entryWidths, headWidths, tableWidths, configurationWidths, mastershipWidths, targetWidths, connectionsWidths, placeOf, lengthAt, changeAt, committedAt, appliedAt, valuesAt, configurationAt, mastershipAt, targetAt, connectionsAt, imageLength}
 use Rattle.image.specs.Records.{toEntry, entryNumbers, entryAt, putEntryAt, logLength, changeOf, toHead, headNumbers, headAt, putHeadAt, toConfiguration, configurationNumbers, configurationOf, putConfiguration, toMastership, mastershipNumbers, mastershipOf, putMastership, toTarget, targetNumbers, targetOf, putTarget, toConnections, connectionsNumbers, eight, connectionsOf, putConnections}
 use Rattle.image.specs.View.{upTo, tableOf, partOf, netOf, view, writeIf, write, written}
-use Rattle.image.proofs.UpTo.{upTo-set, length-upTo}
+use Rattle.image.proofs.UpTo.{upTo-set}
+use Rattle.image.proofs.Scanned.{view-length}
+use Rattle.image.proofs.Chain.{length-table}
 use Rattle.image.proofs.Kept.{Apart, part-kept, net-kept, entry-kept, length-kept, entries-kept, log-kept, change-kept, head-kept, table-kept, configuration-kept, mastership-kept, target-kept, connections-kept}
 use Rattle.image.proofs.Sized.{SizedEntry, SizedHead, SizedMastership, SizedTable, SizedConnections, entry-room, head-room, configuration-room, mastership-room, target-room, connections-room, table-room, entry-back, configuration-back, target-back, connections-back, eight-all}
 
@@ -255,17 +257,13 @@ module _ (l : List ℕ) (z : length l ≡ imageLength) (f : logLength l ≤ 128)
       let o : Outside l m (valuesAt ofTarget) (valuesAt ofTarget + 64) = value-outside ofTarget p v h in
       target-values m _ o (value-same ofTarget p v h k (omega arith))
 
-  length-table : (b : Table) → length (tableOf l b) ≡ 32
-  unfolding tableOf
-  length-table b = length-fields tableWidths l (valuesAt b)
-
   value-out : (b : Table) (p v : ℕ) → 32 ≤ p → view l ≡ afterValue (view l) b p v
   unfolding view
-  value-out ofCommitted p v h = let e : tableOf l ofCommitted ≡ set (tableOf l ofCommitted) p v = sym (set-out (tableOf l ofCommitted) p v (omega (arith, length-table ofCommitted))) in
+  value-out ofCommitted p v h = let e : tableOf l ofCommitted ≡ set (tableOf l ofCommitted) p v = sym (set-out (tableOf l ofCommitted) p v (omega (arith, length-table l ofCommitted))) in
       ap (λ (x : List ℕ). withCommitted (view l) (record { head = headAt l committedAt; values = x })) e
-  value-out ofApplied p v h = let e : tableOf l ofApplied ≡ set (tableOf l ofApplied) p v = sym (set-out (tableOf l ofApplied) p v (omega (arith, length-table ofApplied))) in
+  value-out ofApplied p v h = let e : tableOf l ofApplied ≡ set (tableOf l ofApplied) p v = sym (set-out (tableOf l ofApplied) p v (omega (arith, length-table l ofApplied))) in
       ap (λ (x : List ℕ). withApplied (view l) (record { head = headAt l appliedAt; values = x })) e
-  value-out ofTarget p v h = let e : tableOf l ofTarget ≡ set (tableOf l ofTarget) p v = sym (set-out (tableOf l ofTarget) p v (omega (arith, length-table ofTarget))) in
+  value-out ofTarget p v h = let e : tableOf l ofTarget ≡ set (tableOf l ofTarget) p v = sym (set-out (tableOf l ofTarget) p v (omega (arith, length-table l ofTarget))) in
       ap (λ (x : List ℕ). withNet (view l) (record { configuration = configurationOf l; mastership = mastershipOf l; connections = connectionsOf l; target = targetOf l; values = x })) e
 
   shown-value : (b : Table) (p v : ℕ) → v < 65536 → view (write l (value b p v)) ≡ after (view l) (value b p v)
@@ -389,11 +387,6 @@ module _ (l : List ℕ) (z : length l ≡ imageLength) (f : logLength l ≤ 128)
   length-write (mastership m) = length-puts mastershipWidths (mastershipNumbers m) l mastershipAt ∙ z
   length-write (connections xs) = length-puts connectionsWidths (connectionsNumbers (eight xs)) l connectionsAt ∙ z
   length-write (target t) = length-puts targetWidths (targetNumbers t) l targetAt ∙ z
-
--- ---- the log's length, from the view
-view-length : (l : List ℕ) → length (view l .log) ≡ logLength l
-unfolding view
-view-length l = length-upTo (entryAt l) (logLength l)
 
 log-put : (l : List Transaction) (i : ℕ) (t : Transaction) → length (putEntry l i t) ≡ length l
 log-put l zero t = refl

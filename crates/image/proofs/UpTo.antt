@@ -6,11 +6,11 @@ use mathlib.Core.List.{List, [], _∷_, _++_}
 use native.Mathlib.Omega.{arith}
 use native.Mathlib.Numerals.{add-one}
 use lib.Dec.{ltb, eqb}
-use lib.ListN.{length, getD, set, length-append, length-set, List·getD-append, List·getD-eq-default}
+use lib.ListN.{length, getD, set, length-append, length-set, List·getD-append}
 use lib.Seq.{getD-append-seam, getD-set-same, getD-set-other, ext-getD}
 use borrow.Author.Tests.{eqb-true, eqb-false, ltb-true, ltb-false}
 use Rattle.kinds.specs.declared.Transaction.{Transaction}
-use Rattle.machine.specs.State.{entryOf, putEntry, blank}
+use Rattle.machine.specs.State.{entryOf, blank}
 use Rattle.machine.specs.WellFormed.{allFrom, allEntries}
 use Rattle.image.specs.View.{upTo}
 use Rattle.image.specs.Formed.{allUpTo}

@@ -1,5 +1,5 @@
 -- Each record as a run of numbers, and back; where the image has it, and the image with another there. Assumes nothing.
-use Prim.Native.Nat.{ℕ, _+_, _*_}
+use Prim.Native.Nat.{ℕ, _+_}
 use mathlib.Core.List.{List, [], _∷_, _++_}
 use mathlib.Core.Bool.{Bool, true, false}
 use lib.Dec.{eqb}
@@ -14,8 +14,8 @@ use Rattle.kinds.specs.declared.Target.{Target}
 use Rattle.kinds.specs.Numbers.{num, ord, trm}
 use Rattle.kinds.specs.Statuses.{codeOf, statusOf, progressCode, progressOf}
 use Rattle.machine.specs.State.{never}
-use Rattle.fields.specs.Field.{field, putField, fieldsAt, putFields, quad}
-use Rattle.image.specs.Layout.{codeWidths, markWidths, entryWidths, headWidths, configurationWidths, mastershipWidths, targetWidths, connectionsWidths, placeOf, lengthAt, changeAt, configurationAt, mastershipAt, targetAt, connectionsAt}
+use Rattle.fields.specs.Field.{field, fieldsAt, putFields, quad}
+use Rattle.image.specs.Layout.{entryWidths, headWidths, configurationWidths, mastershipWidths, targetWidths, connectionsWidths, placeOf, lengthAt, changeAt, configurationAt, mastershipAt, targetAt, connectionsAt}
 
 -- ---- flags
 abbrev pub flagCode : Bool → ℕ

@@ -4,7 +4,7 @@ use mathlib.Core.List.{List, [], _∷_, _++_}
 use mathlib.Core.Bool.{Bool, true, false}
 use lib.Dec.{ltb}
 use Rattle.kinds.specs.Numbers.{num}
-use Rattle.fields.specs.Field.{field, putField, fieldsAt, putFields}
+use Rattle.fields.specs.Field.{putField, fieldsAt, putFields}
 use Rattle.machine.specs.State.{Part, Net, State}
 use Rattle.machine.specs.Stores.{Table, ofCommitted, ofApplied, ofTarget, Store, grow, entry, change, committedHead, appliedHead, value, targetValues, configuration, mastership, connections, target}
 use Rattle.image.specs.Layout.{tableWidths, lengthAt, changeAt, committedAt, appliedAt, valuesAt}

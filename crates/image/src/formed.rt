@@ -2,14 +2,15 @@
 // reads nothing that its test does not need.
 ghost use mathlib.Core.Path.{_≡_};
 ghost use mathlib.Core.Bool.{_&&_};
-ghost use Prim.Native.Nat.{_+_, _*_, _-_, _≤_, _<_};
-ghost use lib.ListN.{length, getD};
-ghost use lib.Dec.{leb, ltb};
+ghost use Prim.Native.Nat.{_+_, _≤_};
+ghost use lib.ListN.{length};
+ghost use lib.Dec.{ltb};
 ghost use Rattle.fields.specs.Field.{field, fieldsAt, ones};
-ghost use Rattle.machine.specs.WellFormed.{pairsOk, entryOk, headOk, headsOk};
-ghost use Rattle.image.specs.Records.{entryAt, logLength, headAt};
+ghost use Rattle.machine.specs.WellFormed.{pairsOk, headOk, headsOk};
+ghost use Rattle.image.specs.Records.{headAt};
 ghost use Rattle.image.specs.View.{view};
-ghost use Rattle.image.specs.Formed.{allUpTo, statusesOk, marksOk, flagOk, flagsOk, entryFormed, formed};
+ghost use Rattle.image.specs.Formed.{allUpTo, statusesOk, marksOk, flagsOk, entryFormed};
+ghost use Rattle.image.specs.Promises.{TellsFormed};
 use fields::get1;
 use fields::get2;
 use fields::get4;
@@ -175,7 +176,7 @@ fn flags_formed(s: &[u8]) -> bool
 
 // Whether the bytes, whatever they are and however many, are a well-formed image.
 pub fn well_formed(s: &[u8]) -> bool
-    ensures { λ r. ⌜ r ≡ formed (now (s .entry)) ⌝ }
+    ensures { λ r. ⌜ TellsFormed (now (s .entry)) r ⌝ }
 {
     if s.len() != 4883 {
         return false;

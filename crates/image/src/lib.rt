@@ -1,17 +1,12 @@
 // The state image: each record loaded from the lent bytes and stored into them. No rule is here.
 ghost use mathlib.Core.Path.{_≡_};
-ghost use mathlib.Core.List.{List, _∷_, []};
-ghost use Prim.Native.Nat.{_+_, _*_, _≤_, _<_};
-ghost use lib.ListN.{length, getD};
-ghost use lib.Dec.{ltb};
-ghost use Rattle.kinds.specs.Numbers.{num};
+ghost use Prim.Native.Nat.{_+_, _≤_, _<_};
+ghost use lib.ListN.{length};
 ghost use Rattle.kinds.specs.Statuses.{statusOf};
-ghost use Rattle.fields.specs.Field.{field, putField, fieldsAt, putFields};
-ghost use Rattle.machine.specs.Stores.{ofApplied, grow, change, targetValues};
-ghost use Rattle.machine.specs.State.{absent, nodeOf};
-ghost use Rattle.image.specs.Layout.{codeWidths, markWidths, tableWidths, placeOf};
-ghost use Rattle.image.specs.Records.{codes, marks, toSide, entryAt, putEntryAt, logLength, changeOf, headAt, putHeadAt, configurationOf, putConfiguration, mastershipOf, putMastership, flagCode, targetOf, putTarget, toNode, putNodeAt, connectionsOf, putConnections};
-ghost use Rattle.image.specs.View.{tableOf, write, writeIf};
+ghost use Rattle.fields.specs.Field.{field, putFields};
+ghost use Rattle.image.specs.Layout.{codeWidths, markWidths};
+ghost use Rattle.image.specs.Records.{codes, marks, toSide, logLength, flagCode, toNode, putNodeAt};
+ghost use Rattle.image.specs.Promises.{LoadsEntry, StoresEntry, TellsLength, Grows, LoadsChange, StoresChange, LoadsHead, StoresHead, LoadsValue, StoresValue, LoadsConfiguration, StoresConfiguration, LoadsMastership, StoresMastership, LoadsTarget, StoresTarget, LoadsConnection, LoadsConnections, StoresConnections, ClearsTarget, CopiesTarget};
 use fields::get_ones;
 use fields::get_twos;
 use fields::get1;
@@ -65,7 +60,7 @@ fn load_side(s: &[u8], at: usize, o: usize) -> Side
 // The entry of number n.
 pub fn load_entry(s: &[u8], n: u16) -> Transaction
     requires { ⌜ (1 ≤ n) × ((n ≤ 128) × (4883 ≤ length (now s))) ⌝ }
-    ensures { λ r. ⌜ r ≡ entryAt (now (s .entry)) n ⌝ }
+    ensures { λ r. ⌜ LoadsEntry (now (s .entry)) n r ⌝ }
 {
     let at = 36 * ((n - 1) as usize);
     let change = load_side(s, at, at + 8);
@@ -122,7 +117,7 @@ fn store_marks(s: &mut [u8], at: usize, t: Transaction)
 
 pub fn store_entry(s: &mut [u8], n: u16, t: Transaction)
     requires { ⌜ (1 ≤ n) × ((n ≤ 128) × (4883 ≤ length (now s))) ⌝ }
-    ensures { λ _. ⌜ now (s .exit) ≡ putEntryAt (now (s .entry)) n t ⌝ }
+    ensures { λ _. ⌜ StoresEntry (now (s .entry)) n t (now (s .exit)) ⌝ }
 {
     let at = 36 * ((n - 1) as usize);
     let paths = t.paths;
@@ -139,7 +134,7 @@ pub fn store_entry(s: &mut [u8], n: u16, t: Transaction)
 
 pub fn log_length(s: &[u8]) -> u16
     requires { ⌜ 4883 ≤ length (now s) ⌝ }
-    ensures { λ r. ⌜ r ≡ logLength (now (s .entry)) ⌝ }
+    ensures { λ r. ⌜ TellsLength (now (s .entry)) r ⌝ }
 {
     get2(s, 4608)
 }
@@ -147,7 +142,7 @@ pub fn log_length(s: &[u8]) -> u16
 // One entry more, at the end of a log of n.
 pub fn grow(s: &mut [u8], n: u16, t: Transaction)
     requires { ⌜ (n ≡ logLength (now s)) × ((n < 128) × (4883 ≤ length (now s))) ⌝ }
-    ensures { λ _. ⌜ now (s .exit) ≡ write (now (s .entry)) (grow t) ⌝ }
+    ensures { λ _. ⌜ Grows (now (s .entry)) n t (now (s .exit)) ⌝ }
 {
     store_entry(s, n + 1, t);
     put2(s, 4608, n + 1);
@@ -155,14 +150,14 @@ pub fn grow(s: &mut [u8], n: u16, t: Transaction)
 
 pub fn load_change(s: &[u8]) -> Number
     requires { ⌜ 4883 ≤ length (now s) ⌝ }
-    ensures { λ r. ⌜ r ≡ num (changeOf (now (s .entry))) ⌝ }
+    ensures { λ r. ⌜ LoadsChange (now (s .entry)) r ⌝ }
 {
     Number::of(get2(s, 4610))
 }
 
 pub fn store_change(s: &mut [u8], n: Number)
     requires { ⌜ 4883 ≤ length (now s) ⌝ }
-    ensures { λ _. ⌜ now (s .exit) ≡ write (now (s .entry)) (change n) ⌝ }
+    ensures { λ _. ⌜ StoresChange (now (s .entry)) n (now (s .exit)) ⌝ }
 {
     put2(s, 4610, n.get());
 }
@@ -171,7 +166,7 @@ pub fn store_change(s: &mut [u8], n: Number)
 
 pub fn load_head(s: &[u8], at: usize) -> Head
     requires { ⌜ at + 10 ≤ length (now s) ⌝ }
-    ensures { λ r. ⌜ r ≡ headAt (now (s .entry)) at ⌝ }
+    ensures { λ r. ⌜ LoadsHead (now (s .entry)) at r ⌝ }
 {
     let index = Number::of(get2(s, at));
     let target = Number::of(get2(s, at + 2));
@@ -187,7 +182,7 @@ pub fn load_head(s: &[u8], at: usize) -> Head
 
 pub fn store_head(s: &mut [u8], at: usize, h: Head)
     requires { ⌜ at + 10 ≤ length (now s) ⌝ }
-    ensures { λ _. ⌜ now (s .exit) ≡ putHeadAt (now (s .entry)) at h ⌝ }
+    ensures { λ _. ⌜ StoresHead (now (s .entry)) at h (now (s .exit)) ⌝ }
 {
     let index = h.index;
     let target = h.target;
@@ -210,7 +205,7 @@ fn wide(x: u8) -> usize
 // The value of a path; 0 where there is no such path.
 pub fn load_value(s: &[u8], at: usize, p: u8) -> u16
     requires { ⌜ at + 64 ≤ length (now s) ⌝ }
-    ensures { λ r. ⌜ r ≡ getD (fieldsAt (now (s .entry)) at tableWidths) p 0 ⌝ }
+    ensures { λ r. ⌜ LoadsValue (now (s .entry)) at p r ⌝ }
 {
     let k = wide(p);
     if k < 32 {
@@ -222,7 +217,7 @@ pub fn load_value(s: &[u8], at: usize, p: u8) -> u16
 // Nothing is stored where there is no such path.
 pub fn store_value(s: &mut [u8], at: usize, p: u8, v: u16)
     requires { ⌜ at + 64 ≤ length (now s) ⌝ }
-    ensures { λ _. ⌜ now (s .exit) ≡ writeIf (ltb p 32) (putField (now (s .entry)) (at + 2 * p) 2 v) (now (s .entry)) ⌝ }
+    ensures { λ _. ⌜ StoresValue (now (s .entry)) at p v (now (s .exit)) ⌝ }
 {
     let k = wide(p);
     if k < 32 {
@@ -235,7 +230,7 @@ pub fn store_value(s: &mut [u8], at: usize, p: u8, v: u16)
 
 pub fn load_configuration(s: &[u8]) -> Configuration
     requires { ⌜ 4883 ≤ length (now s) ⌝ }
-    ensures { λ r. ⌜ r ≡ configurationOf (now (s .entry)) ⌝ }
+    ensures { λ r. ⌜ LoadsConfiguration (now (s .entry)) r ⌝ }
 {
     let state = Progress::of(get1(s, 4824));
     let term = Term::of(get4(s, 4825));
@@ -244,7 +239,7 @@ pub fn load_configuration(s: &[u8]) -> Configuration
 
 pub fn store_configuration(s: &mut [u8], g: Configuration)
     requires { ⌜ 4883 ≤ length (now s) ⌝ }
-    ensures { λ _. ⌜ now (s .exit) ≡ putConfiguration (now (s .entry)) g ⌝ }
+    ensures { λ _. ⌜ StoresConfiguration (now (s .entry)) g (now (s .exit)) ⌝ }
 {
     let state = g.state;
     let term = g.term;
@@ -254,7 +249,7 @@ pub fn store_configuration(s: &mut [u8], g: Configuration)
 
 pub fn load_mastership(s: &[u8]) -> Mastership
     requires { ⌜ 4883 ≤ length (now s) ⌝ }
-    ensures { λ r. ⌜ r ≡ mastershipOf (now (s .entry)) ⌝ }
+    ensures { λ r. ⌜ LoadsMastership (now (s .entry)) r ⌝ }
 {
     let master = get1(s, 4829);
     let term = Term::of(get4(s, 4830));
@@ -264,7 +259,7 @@ pub fn load_mastership(s: &[u8]) -> Mastership
 
 pub fn store_mastership(s: &mut [u8], m: Mastership)
     requires { ⌜ 4883 ≤ length (now s) ⌝ }
-    ensures { λ _. ⌜ now (s .exit) ≡ putMastership (now (s .entry)) m ⌝ }
+    ensures { λ _. ⌜ StoresMastership (now (s .entry)) m (now (s .exit)) ⌝ }
 {
     let term = m.term;
     put1(s, 4829, m.master);
@@ -283,7 +278,7 @@ fn flag_code(b: bool) -> u8
 
 pub fn load_target(s: &[u8]) -> Target
     requires { ⌜ 4883 ≤ length (now s) ⌝ }
-    ensures { λ r. ⌜ r ≡ targetOf (now (s .entry)) ⌝ }
+    ensures { λ r. ⌜ LoadsTarget (now (s .entry)) r ⌝ }
 {
     let id = get4(s, 4838);
     let running = get1(s, 4842) == 1;
@@ -292,7 +287,7 @@ pub fn load_target(s: &[u8]) -> Target
 
 pub fn store_target(s: &mut [u8], t: Target)
     requires { ⌜ 4883 ≤ length (now s) ⌝ }
-    ensures { λ _. ⌜ now (s .exit) ≡ putTarget (now (s .entry)) t ⌝ }
+    ensures { λ _. ⌜ StoresTarget (now (s .entry)) t (now (s .exit)) ⌝ }
 {
     put4(s, 4838, t.id);
     put1(s, 4842, flag_code(t.running));
@@ -312,14 +307,14 @@ fn load_node(s: &[u8], at: usize) -> Connection
 // The connection of node n.
 pub fn load_connection(s: &[u8], n: u8) -> Connection
     requires { ⌜ (1 ≤ n) × ((n ≤ 8) × (4883 ≤ length (now s))) ⌝ }
-    ensures { λ r. ⌜ r ≡ nodeOf (connectionsOf (now (s .entry))) n ⌝ }
+    ensures { λ r. ⌜ LoadsConnection (now (s .entry)) n r ⌝ }
 {
     load_node(s, 4843 + 5 * ((n - 1) as usize))
 }
 
 pub fn load_connections(s: &[u8]) -> [Connection; 8]
     requires { ⌜ 4883 ≤ length (now s) ⌝ }
-    ensures { λ r. ⌜ r ≡ connectionsOf (now (s .entry)) ⌝ }
+    ensures { λ r. ⌜ LoadsConnections (now (s .entry)) r ⌝ }
 {
     let a = load_node(s, 4843);
     let b = load_node(s, 4848);
@@ -352,7 +347,7 @@ fn store_nodes(s: &mut [u8], at: usize, a: Connection, b: Connection, c: Connect
 
 pub fn store_connections(s: &mut [u8], xs: [Connection; 8])
     requires { ⌜ 4883 ≤ length (now s) ⌝ }
-    ensures { λ _. ⌜ now (s .exit) ≡ putConnections (now (s .entry)) xs ⌝ }
+    ensures { λ _. ⌜ StoresConnections (now (s .entry)) xs (now (s .exit)) ⌝ }
 {
     let a = xs[0];
     let b = xs[1];
@@ -371,7 +366,7 @@ pub fn store_connections(s: &mut [u8], xs: [Connection; 8])
 // Every one 0.
 pub fn clear_target(s: &mut [u8])
     requires { ⌜ 4883 ≤ length (now s) ⌝ }
-    ensures { λ _. ⌜ now (s .exit) ≡ write (now (s .entry)) (targetValues absent) ⌝ }
+    ensures { λ _. ⌜ ClearsTarget (now (s .entry)) (now (s .exit)) ⌝ }
 {
     let mut k: usize = 0;
     while k < 32 {
@@ -383,7 +378,7 @@ pub fn clear_target(s: &mut [u8])
 // Every one that of Applied.
 pub fn copy_target(s: &mut [u8])
     requires { ⌜ 4883 ≤ length (now s) ⌝ }
-    ensures { λ _. ⌜ now (s .exit) ≡ write (now (s .entry)) (targetValues (tableOf (now (s .entry)) ofApplied)) ⌝ }
+    ensures { λ _. ⌜ CopiesTarget (now (s .entry)) (now (s .exit)) ⌝ }
 {
     let mut k: usize = 0;
     while k < 32 {

@@ -1,12 +1,6 @@
 // The paper's numbers, statuses and small records. A log number, an ordinal and a term are three types with private
 // fields: none can be compared with another, and only the methods below read inside.
-ghost use mathlib.Core.Path.{_≡_};
-ghost use Prim.Native.Nat.{_+_};
-ghost use lib.Dec.{eqb, ltb, leb};
-ghost use Rattle.kinds.specs.Numbers.{num, ord, trm, follows, nextOrdinal, nextTerm, isFull, isLast};
-ghost use Rattle.kinds.specs.Statuses.{codeOf, statusOf, progressOf, progressCode, done, isComplete};
-ghost use Rattle.kinds.specs.Events.{noEvent, refusal};
-ghost use Rattle.kinds.specs.Records.{withChange, withRollback};
+ghost use Rattle.kinds.specs.Promises.{MakesNumber, ShowsNumber, SameNumber, BelowNumber, FollowsNumber, MakesOrdinal, ShowsOrdinal, SameOrdinal, FollowsOrdinal, TellsFull, MakesNextOrdinal, MakesTerm, ShowsTerm, SameTerm, BelowTerm, TellsLast, MakesNextTerm, ShowsStatus, ReadsStatus, TellsDone, TellsComplete, ShowsProgress, ReadsProgress, PutsChange, PutsRollback, MakesNoEvent, Refuses};
 
 // A log number: 0 none, else 1 to 128.
 pub struct Number(u16);
@@ -19,32 +13,32 @@ pub struct Term(u32);
 
 impl Number {
     pub fn of(n: u16) -> Number
-        ensures { λ r. ⌜ r ≡ num n ⌝ }
+        ensures { λ r. ⌜ MakesNumber n r ⌝ }
     {
         Number(n)
     }
 
     pub fn get(self) -> u16
-        ensures { λ r. ⌜ r ≡ self .0 ⌝ }
+        ensures { λ r. ⌜ ShowsNumber self r ⌝ }
     {
         self.0
     }
 
     pub fn is(self, other: Number) -> bool
-        ensures { λ r. ⌜ r ≡ eqb (self .0) (other .0) ⌝ }
+        ensures { λ r. ⌜ SameNumber self other r ⌝ }
     {
         self.0 == other.0
     }
 
     pub fn below(self, other: Number) -> bool
-        ensures { λ r. ⌜ r ≡ ltb (self .0) (other .0) ⌝ }
+        ensures { λ r. ⌜ BelowNumber self other r ⌝ }
     {
         self.0 < other.0
     }
 
     // Whether this number comes straight after `before`.
     pub fn follows(self, before: Number) -> bool
-        ensures { λ r. ⌜ r ≡ follows (before .0) (self .0) ⌝ }
+        ensures { λ r. ⌜ FollowsNumber self before r ⌝ }
     {
         let b = before.0 as u32;
         let n = self.0 as u32;
@@ -54,26 +48,26 @@ impl Number {
 
 impl Ordinal {
     pub fn of(n: u32) -> Ordinal
-        ensures { λ r. ⌜ r ≡ ord n ⌝ }
+        ensures { λ r. ⌜ MakesOrdinal n r ⌝ }
     {
         Ordinal(n)
     }
 
     pub fn get(self) -> u32
-        ensures { λ r. ⌜ r ≡ self .0 ⌝ }
+        ensures { λ r. ⌜ ShowsOrdinal self r ⌝ }
     {
         self.0
     }
 
     pub fn is(self, other: Ordinal) -> bool
-        ensures { λ r. ⌜ r ≡ eqb (self .0) (other .0) ⌝ }
+        ensures { λ r. ⌜ SameOrdinal self other r ⌝ }
     {
         self.0 == other.0
     }
 
     // Whether this ordinal comes straight after `before`; 0 comes after none.
     pub fn follows(self, before: Ordinal) -> bool
-        ensures { λ r. ⌜ r ≡ follows (before .0) (self .0) ⌝ }
+        ensures { λ r. ⌜ FollowsOrdinal self before r ⌝ }
     {
         let b = before.0 as u64;
         let n = self.0 as u64;
@@ -81,14 +75,14 @@ impl Ordinal {
     }
 
     pub fn full(self) -> bool
-        ensures { λ r. ⌜ r ≡ isFull (self .0) ⌝ }
+        ensures { λ r. ⌜ TellsFull self r ⌝ }
     {
         256 <= self.0
     }
 
     // The ordinal after this one; a full one stays.
     pub fn next(self) -> Ordinal
-        ensures { λ r. ⌜ r ≡ nextOrdinal self ⌝ }
+        ensures { λ r. ⌜ MakesNextOrdinal self r ⌝ }
     {
         let n = self.0;
         if 256 <= n {
@@ -100,38 +94,38 @@ impl Ordinal {
 
 impl Term {
     pub fn of(n: u32) -> Term
-        ensures { λ r. ⌜ r ≡ trm n ⌝ }
+        ensures { λ r. ⌜ MakesTerm n r ⌝ }
     {
         Term(n)
     }
 
     pub fn get(self) -> u32
-        ensures { λ r. ⌜ r ≡ self .0 ⌝ }
+        ensures { λ r. ⌜ ShowsTerm self r ⌝ }
     {
         self.0
     }
 
     pub fn is(self, other: Term) -> bool
-        ensures { λ r. ⌜ r ≡ eqb (self .0) (other .0) ⌝ }
+        ensures { λ r. ⌜ SameTerm self other r ⌝ }
     {
         self.0 == other.0
     }
 
     pub fn below(self, other: Term) -> bool
-        ensures { λ r. ⌜ r ≡ ltb (self .0) (other .0) ⌝ }
+        ensures { λ r. ⌜ BelowTerm self other r ⌝ }
     {
         self.0 < other.0
     }
 
     pub fn last(self) -> bool
-        ensures { λ r. ⌜ r ≡ isLast (self .0) ⌝ }
+        ensures { λ r. ⌜ TellsLast self r ⌝ }
     {
         4294967295 <= self.0
     }
 
     // The term after this one; the last one stays.
     pub fn next(self) -> Term
-        ensures { λ r. ⌜ r ≡ nextTerm self ⌝ }
+        ensures { λ r. ⌜ MakesNextTerm self r ⌝ }
     {
         let n = self.0;
         if 4294967295 <= n {
@@ -153,7 +147,7 @@ pub enum Status {
 
 impl Status {
     pub fn code(self) -> u8
-        ensures { λ r. ⌜ r ≡ codeOf self ⌝ }
+        ensures { λ r. ⌜ ShowsStatus self r ⌝ }
     {
         match self {
             Status::None => 0,
@@ -168,7 +162,7 @@ impl Status {
 
     // The status of a code; what is no code is read as Failed.
     pub fn of(n: u8) -> Status
-        ensures { λ r. ⌜ r ≡ statusOf n ⌝ }
+        ensures { λ r. ⌜ ReadsStatus n r ⌝ }
     {
         match n {
             0 => Status::None,
@@ -182,7 +176,7 @@ impl Status {
     }
 
     pub fn done(self) -> bool
-        ensures { λ r. ⌜ r ≡ done self ⌝ }
+        ensures { λ r. ⌜ TellsDone self r ⌝ }
     {
         match self {
             Status::None => false,
@@ -196,7 +190,7 @@ impl Status {
     }
 
     pub fn complete(self) -> bool
-        ensures { λ r. ⌜ r ≡ isComplete self ⌝ }
+        ensures { λ r. ⌜ TellsComplete self r ⌝ }
     {
         match self {
             Status::None => false,
@@ -219,7 +213,7 @@ pub enum Progress {
 
 impl Progress {
     pub fn code(self) -> u8
-        ensures { λ r. ⌜ r ≡ progressCode self ⌝ }
+        ensures { λ r. ⌜ ShowsProgress self r ⌝ }
     {
         match self {
             Progress::Pending => 1,
@@ -230,7 +224,7 @@ impl Progress {
 
     // The state of a code; what is no code is read as Complete.
     pub fn of(n: u8) -> Progress
-        ensures { λ r. ⌜ r ≡ progressOf n ⌝ }
+        ensures { λ r. ⌜ ReadsProgress n r ⌝ }
     {
         match n {
             1 => Progress::Pending,
@@ -287,7 +281,7 @@ pub struct Transaction {
 
 impl Transaction {
     pub fn with_change(self, change: Side) -> Transaction
-        ensures { λ r. ⌜ r ≡ withChange self change ⌝ }
+        ensures { λ r. ⌜ PutsChange self change r ⌝ }
     {
         let paths = self.paths;
         let values = self.values;
@@ -307,7 +301,7 @@ impl Transaction {
     }
 
     pub fn with_rollback(self, rollback: Side) -> Transaction
-        ensures { λ r. ⌜ r ≡ withRollback self rollback ⌝ }
+        ensures { λ r. ⌜ PutsRollback self rollback r ⌝ }
     {
         let paths = self.paths;
         let values = self.values;
@@ -351,7 +345,7 @@ pub struct Reply {
 
 impl Event {
     pub fn none() -> Event
-        ensures { λ r. ⌜ r ≡ noEvent ⌝ }
+        ensures { λ r. ⌜ MakesNoEvent r ⌝ }
     {
         Event {
             phase: 0,
@@ -365,7 +359,7 @@ impl Event {
 impl Reply {
     // An answer with no event.
     pub fn of(answer: u8) -> Reply
-        ensures { λ r. ⌜ r ≡ refusal answer ⌝ }
+        ensures { λ r. ⌜ Refuses answer r ⌝ }
     {
         let event = Event {
             phase: 0,

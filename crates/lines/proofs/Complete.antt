@@ -2,12 +2,11 @@
 use Prim.Native.Nat.{ℕ, zero, suc, _+_, _-_, _*_, _≤_, _<_, min}
 use mathlib.Core.Path.{_≡_, refl, ap, sym, subst, _∙_}
 use mathlib.Core.List.{List, [], _∷_, _++_, foldl, foldl-append, append-assoc}
-use mathlib.Core.Bool.{Bool, true, false, cond, _&&_}
+use mathlib.Core.Bool.{Bool, true, false, cond}
 use native.Mathlib.Omega.{arith}
-use native.Mathlib.Nat.{zero-add}
 use borrow.Author.Tests.{le-leb, ltb-true, ltb-false}
-use lib.Dec.{eqb, ltb, leb}
-use lib.ListN.{length, take, set, getD, replicate, length-append, length-set, length-take}
+use lib.Dec.{ltb}
+use lib.ListN.{length, take, set, replicate, length-append, length-set}
 use lib.Seq.{take-all, take-nil, take-append-le, take-suc-set}
 use native.Mathlib.Numerals.{add-one}
 use Rattle.machine.specs.Calls as machine
@@ -17,8 +16,8 @@ use Rattle.lines.specs.Text.{text}
 use Rattle.lines.specs.Decimal.{isDigit}
 use Rattle.lines.specs.Grammar.{allDigits, tenfold, Number, Row, one, more, Says, says-no-pairs, says-append, says-rollback, says-start, says-stop, says-connect, says-disconnect, says-master, says-sync, says-work}
 use Rattle.lines.specs.Reading.{order, up, stored, storedIf, pushed, fresh, wordAt, finished, said, twoBytes, ten, bytesOf, low, high}
-use Rattle.lines.specs.Handed.{Hands, flat, callFor, pairsFor}
-use Rattle.lines.proofs.Steps.{and-left, and-right, st, digit-begins, digit-path, digit-more, text-ends}
+use Rattle.lines.specs.Handed.{Hands, flat}
+use Rattle.lines.proofs.Steps.{and-left, and-right, st, digit-begins, digit-path, digit-more}
 
 -- ---- digits
 grows : (d : List ℕ) (v : ℕ) → v ≤ foldl tenfold v d

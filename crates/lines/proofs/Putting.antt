@@ -1,13 +1,13 @@
 -- Texts put one after another, and the digits of a number. Assumes nothing.
-use Prim.Native.Nat.{ℕ, zero, suc, _+_, _*_, _/_, _%_, _^_, _≤_, _<_}
+use Prim.Native.Nat.{ℕ, zero, suc, _+_, _/_, _%_, _^_, _≤_, _<_}
 use mathlib.Core.Path.{_≡_, refl, ap, ap₂, sym, _∙_}
-use mathlib.Core.List.{List, [], _∷_, _++_, append-nil}
+use mathlib.Core.List.{List, [], _∷_, _++_}
 use mathlib.Core.Bool.{Bool, true, false, cond}
 use native.Mathlib.Omega.{arith}
 use native.Mathlib.Nat.{add-zero, zero-add, pow-suc}
 use borrow.Author.Tests.{lt-ltb, le-ltb, le-leb, lt-leb}
 use lib.Dec.{ltb}
-use lib.ListN.{length, getD, take, set, drop, length-append, length-set, length-take}
+use lib.ListN.{length, getD, take, set, drop, length-append, length-take}
 use lib.Seq.{sets, sets-eq, length-sets, take-suc, take-all}
 use native.Mathlib.Numerals.{add-one}
 use Rattle.lines.specs.Decimal.{spelled, decimal}

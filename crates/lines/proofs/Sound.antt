@@ -1,6 +1,6 @@
 -- Every line is one of the grammar or is read as unreadable: a reader's line is taken apart as the script has it.
 -- Assumes nothing.
-use Prim.Native.Nat.{ℕ, zero, suc, _+_, _-_, _*_, _≤_, _<_}
+use Prim.Native.Nat.{ℕ, zero, suc, _+_, _-_, _≤_}
 use mathlib.Core.Path.{_≡_, refl, ap, ap₂, sym, subst, _∙_}
 use mathlib.Core.Logic.{_⊎_, inl, inr}
 use mathlib.Core.List.{List, [], _∷_, _++_, foldl, append-assoc, append-nil}
@@ -8,7 +8,7 @@ use mathlib.Core.Bool.{Bool, true, false, cond, not, _&&_}
 use native.Mathlib.Omega.{arith}
 use native.Mathlib.Nat.{le-refl}
 use borrow.Author.Tests.{eqb-true, leb-true, not-true}
-use lib.Dec.{T, eqb, ltb, leb}
+use lib.Dec.{T, eqb, leb}
 use lib.ListN.{length, length-append}
 use Rattle.machine.specs.Calls as machine
 use Rattle.machine.specs.Calls.{Pair}
@@ -20,7 +20,7 @@ use Rattle.lines.specs.declared.reading.Word.the-variants.{Nothing, NoPa
 use Rattle.lines.specs.Text.{text}
 use Rattle.lines.specs.Decimal.{isDigit}
 use Rattle.lines.specs.Grammar.{allDigits, tenfold, pair, Number, Row, one, more, Says, says-no-pairs, says-append, says-rollback, says-start, says-stop, says-connect, says-disconnect, says-master, says-sync, says-work}
-use Rattle.lines.specs.Reading.{order, up, next, afterCall, afterS, afterSt, placed, stored, grownIf, pushed, pushedIf, fresh, wordAt, lineOf, finished, said}
+use Rattle.lines.specs.Reading.{order, up, afterCall, afterS, afterSt, placed, stored, pushed, pushedIf, fresh, wordAt, lineOf, finished, said}
 use Rattle.lines.proofs.Steps.{and-left, and-right, st, apart, text-begins, text-path, text-over, next-letter, digit-begins, digit-path, digit-more, text-ends, at-letter}
 
 -- what the rest l of a line makes of a reader

@@ -1,16 +1,15 @@
 -- One byte's step of a reader, by the order at its place. Assumes nothing.
-use Prim.Native.Nat.{ℕ, zero, suc, _+_, _-_, _*_, _≤_, _<_}
-use mathlib.Core.Path.{_≡_, refl, ap, sym, subst, _∙_}
-use mathlib.Core.List.{List, [], _∷_, _++_, foldl}
-use mathlib.Core.Bool.{Bool, true, false, cond, not, _&&_}
+use Prim.Native.Nat.{ℕ, _-_}
+use mathlib.Core.Path.{_≡_, refl, ap, sym, _∙_}
+use mathlib.Core.List.{List}
+use mathlib.Core.Bool.{Bool, true, false, cond, _&&_}
 use native.Mathlib.Omega.{arith}
-use native.Mathlib.Nat.{zero-add}
-use borrow.Author.Tests.{eqb-true, eq-eqb, ne-eqb, le-leb, leb-true}
-use lib.Dec.{T, eqb, ltb, leb}
+use borrow.Author.Tests.{ne-eqb}
+use lib.Dec.{eqb, leb}
 use Rattle.lines.specs.declared.reading.Reader.{Reader}
 use Rattle.lines.specs.Decimal.{isDigit}
 use Rattle.lines.specs.Grammar.{tenfold}
-use Rattle.lines.specs.Reading.{order, up, leads, next, placed, stored, pushed, pushedIf, grownIf, withDigitAt, withTextAt}
+use Rattle.lines.specs.Reading.{order, up, next, placed, stored, pushed, pushedIf, grownIf}
 
 abbrev pub st : ℕ → ℕ → ℕ → List ℕ → Reader
 st p v k m = record { at = p; value = v; count = k; numbers = m }

@@ -4,3 +4,4 @@ pub mod Grammar
 pub mod Reading
 pub mod Handed
 pub mod Replies
+pub mod Promises

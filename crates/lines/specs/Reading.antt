@@ -1,7 +1,7 @@
 -- How a line is read, byte by byte, in a state of a few numbers: the code's own steps as definitions. That they read just
 -- what the grammar says is proved in `proofs/Readable.antt`. Assumes nothing.
 use Prim.Native.Nat.{ℕ, _+_, _-_, _*_, _/_, _%_}
-use mathlib.Core.List.{List, [], _∷_, _++_, foldl}
+use mathlib.Core.List.{List, [], _∷_, foldl}
 use mathlib.Core.Bool.{Bool, true, false, cond}
 use lib.Dec.{eqb, ltb, leb}
 use lib.ListN.{getD, set, replicate}

@@ -1,30 +1,7 @@
 // A call's line, read byte by byte in a state of a few numbers: a line of any length needs no more memory.
 ghost use mathlib.Core.Path.{_≡_};
-ghost use Prim.Native.Nat.{_+_, _≤_, _<_};
-ghost use Rattle.lines.specs.Reading.{
-  order,
-  up,
-  afterCall,
-  afterS,
-  afterSt,
-  next,
-  placed,
-  begun,
-  grown,
-  stored,
-  withDigitAt,
-  withTextAt,
-  pushed,
-  fresh,
-  wordAt,
-  twoBytes,
-  ten,
-  plain,
-  bytesOf,
-  withPairs,
-  finished,
-  said,
-};
+ghost use Rattle.lines.specs.Reading.{order, up, afterCall, afterS, afterSt, next, placed, begun, grown, stored, withDigitAt, withTextAt, wordAt, twoBytes, ten, plain, bytesOf, withPairs};
+ghost use Rattle.lines.specs.Promises.{StartsFresh, Pushes, Finishes, ReadsLine};
 
 // Where the line so far leads: a place of the script; the number that is being read; the first ten numbers that ended.
 pub struct Reader {
@@ -228,7 +205,7 @@ fn with_text(r: Reader, b: u8) -> Reader
 
 // A reader at a line's start.
 pub fn fresh() -> Reader
-    ensures { λ r. ⌜ r ≡ fresh ⌝ }
+    ensures { λ r. ⌜ StartsFresh r ⌝ }
 {
     let numbers = [0u16; 10];
     Reader {
@@ -241,7 +218,7 @@ pub fn fresh() -> Reader
 
 // The reader after one byte more of the line.
 pub fn push(r: Reader, b: u8) -> Reader
-    ensures { λ q. ⌜ q ≡ pushed r b ⌝ }
+    ensures { λ q. ⌜ Pushes r b q ⌝ }
 {
     if b < 48 {
         return with_text(r, b);
@@ -333,7 +310,7 @@ fn with_pairs(r: Reader) -> Line
 
 // What the line says that the reader was given.
 pub fn finish(r: Reader) -> Line
-    ensures { λ q. ⌜ q ≡ finished r ⌝ }
+    ensures { λ q. ⌜ Finishes r q ⌝ }
 {
     let n = r.numbers;
     let v = r.value;
@@ -361,7 +338,7 @@ pub fn finish(r: Reader) -> Line
 
 // What a whole line says.
 pub fn read(line: &[u8]) -> Line
-    ensures { λ r. ⌜ r ≡ said (now (line .entry)) ⌝ }
+    ensures { λ r. ⌜ ReadsLine (now (line .entry)) r ⌝ }
 {
     let mut r = fresh();
     let mut i = 0;

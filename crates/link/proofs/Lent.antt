@@ -13,7 +13,7 @@ use Rattle.image.specs.Layout.{entryWidths, headWidths, tableWidths, configurat
 use Rattle.image.specs.Records.{entryNumbers, putEntryAt, logLength, headNumbers, putHeadAt, configurationNumbers, putConfiguration, mastershipNumbers, putMastership, targetNumbers, putTarget, connectionsNumbers, eight, putConnections}
 use Rattle.image.specs.View.{writeIf, write, written}
 
-bytes-put : (w : ℕ) (l : List ℕ) (at x : ℕ) → Bytes l → Bytes (putField l at w x)
+pub bytes-put : (w : ℕ) (l : List ℕ) (at x : ℕ) → Bytes l → Bytes (putField l at w x)
 unfolding putField
 bytes-put zero l at x h = h
 bytes-put (suc w) l at x h = bytes-put w (set l at (x % 256)) (at + 1) (x / 256) (set-all (λ j y. y < 256) l at (x % 256) 0 h (omega arith))

@@ -85,10 +85,6 @@ module _ (l : List ℕ) (c : Call) (r : Reply) (m : List ℕ) (p : Claims l c r 
       let d : wellFormed (view m) ≡ true = ap wellFormed (shows-next y w .1) ∙ step-keeps-well-formed (view l) c (formed-state l w) in
       and-both (eqb (length m) imageLength) _ (eq-eqb _ _ a) (and-both (codesOk m) (wellFormed (view m)) b d)
 
--- no second outcome
-pub only : (l : List ℕ) (c : Call) (r r' : Reply) (m m' : List ℕ) → Claims l c r m → Claims l c r' m' → (r ≡ r') × (m ≡ m')
-only l c r r' m m' p q = (p .0 ∙ sym (q .0), p .1 ∙ sym (q .1))
-
 -- ---- any calls, one after another
 pub record Shows (s : State) (cs : List Call) (rs : List Reply) (m : List ℕ) : Type 0 where
   pub bytes : Bytes m

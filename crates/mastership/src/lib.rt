@@ -5,7 +5,8 @@ use kinds::Mastership;
 use kinds::Term;
 use rules::Mastered;
 ghost use mathlib.Core.Path.{_≡_};
-ghost use Rattle.mastership.specs.Lent.{masterBy, masterOf, Masters};
+ghost use Rattle.mastership.specs.Lent.{masterBy, Masters};
+ghost use Rattle.mastership.specs.Promises.{MastersOf};
 
 // The rule on the record's parts, for node n with a connection of this id.
 fn master_by(master: u8, term: Term, conn: u32, n: u8, id: u32, connected: bool) -> Mastered
@@ -27,7 +28,7 @@ pub fn master(m: &mut Mastership, n: u8, id: u32, connected: bool) -> u8
 
 // The same on a record by value, which is kept in a local and lent: callers need no walk.
 pub fn master_of(m: Mastership, n: u8, id: u32, connected: bool) -> Mastered
-    ensures { λ r. ⌜ r ≡ masterOf m n id connected ⌝ }
+    ensures { λ r. ⌜ MastersOf m n id connected r ⌝ }
 {
     let mut mastership = m;
     let answer = master(&mut mastership, n, id, connected);

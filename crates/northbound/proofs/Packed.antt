@@ -1,15 +1,12 @@
 -- The packing loses nothing, over the ranges of what is packed; and the controller's contract gives the packed one.
 -- Assumes nothing.
-use Prim.Native.Nat.{ℕ, _+_, _*_, _/_, _%_, _≤_, _<_}
+use Prim.Native.Nat.{ℕ, _+_, _*_, _/_, _<_}
 use mathlib.Core.Path.{_≡_, refl, ap, ap₂, sym, _∙_}
-use mathlib.Core.Bool.{Bool, true, false}
+use mathlib.Core.Bool.{Bool}
 use mathlib.Core.List.{List}
 use native.Mathlib.Omega.{arith}
 use Rattle.kinds.specs.declared.Reply.{Reply}
-use Rattle.kinds.specs.declared.Event.{Event}
-use Rattle.kinds.specs.declared.Status.{Status}
-use Rattle.kinds.specs.Numbers.{num}
-use Rattle.kinds.specs.Statuses.{codeOf, statusOf}
+use Rattle.kinds.specs.Statuses.{codeOf}
 use Rattle.machine.specs.Calls.{Call}
 use Rattle.machine.specs.Reads.{Query}
 use Rattle.image.specs.Formed.{formed}
@@ -110,16 +107,3 @@ shows l q r p k e = (e .0 ∙ ap packedRead k, e .1 ∙ k)
 
 pub tells : (l : List ℕ) (b c : Bool) → b ≡ formed l → b ≡ c → Tells l (answerOf c)
 tells l b c e t = ap answerOf (sym t ∙ e)
-
--- ---- no second outcome
-pub only : (l : List ℕ) (c : Call) (p q : ℕ) (m n : List ℕ) → Claims l c p m → Claims l c q n → (p ≡ q) × (m ≡ n)
-only l c p q m n a b = (a .0 .0 ∙ sym (b .0 .0), a .1 ∙ sym (b .1))
-
-pub only-fresh : (l : List ℕ) (p q : ℕ) (m n : List ℕ) → Freshens l p m → Freshens l q n → (p ≡ q) × (m ≡ n)
-only-fresh l p q m n a b = (a .0 .0 ∙ sym (b .0 .0), a .1 ∙ sym (b .1))
-
-pub only-live : (l m : List ℕ) (p q : ℕ) (n k : List ℕ) → Lists l m p n → Lists l m q k → (p ≡ q) × (n ≡ k)
-only-live l m p q n k a b = (a .0 .0 ∙ sym (b .0 .0), a .1 ∙ sym (b .1))
-
-pub only-read : (l : List ℕ) (q : Query) (p r : ℕ) → Shows l q p → Shows l q r → p ≡ r
-only-read l q p r a b = a .0 ∙ sym (b .0)

@@ -7,3 +7,4 @@ pub mod CommitRollback
 pub mod ApplyChange
 pub mod ApplyRollback
 pub mod Outside
+pub mod Promises

@@ -13,10 +13,11 @@ use kinds::Term;
 use kinds::Transaction;
 ghost use mathlib.Core.Path.{_≡_};
 ghost use Rattle.rules.specs.Outside.{mayRollBack, rolledBack, start, stop, off, connect, disconnect, master, synchroniseBy, synchronise, reaches, isSynchronised, lineOpen};
+ghost use Rattle.rules.specs.Promises.{TellsRollback, RollsBack, Starts, Stops, TurnsOff, Connects, Disconnects, Masters, Synchronises, TellsReach, TellsLine};
 
 // Whether a rollback of the entry may be asked: phase Change and c.commit Complete.
 pub fn may_roll_back(t: Transaction) -> bool
-    ensures { λ r. ⌜ r ≡ mayRollBack t ⌝ }
+    ensures { λ r. ⌜ TellsRollback t r ⌝ }
 {
     let change = t.change;
     let commit = change.commit;
@@ -26,7 +27,7 @@ pub fn may_roll_back(t: Transaction) -> bool
 
 // The entry once its rollback is asked: phase Rollback, r.commit and r.apply Pending.
 pub fn rolled_back(t: Transaction) -> Transaction
-    ensures { λ r. ⌜ r ≡ rolledBack t ⌝ }
+    ensures { λ r. ⌜ RollsBack t r ⌝ }
 {
     let rollback = t.rollback;
     let mut next = t;
@@ -37,7 +38,7 @@ pub fn rolled_back(t: Transaction) -> Transaction
 
 // What start answers, and the target: its id counted, running.
 pub fn start(t: Target) -> Targeted
-    ensures { λ r. ⌜ r ≡ start t ⌝ }
+    ensures { λ r. ⌜ Starts t r ⌝ }
 {
     if t.running {
         return Targeted {
@@ -60,7 +61,7 @@ pub fn start(t: Target) -> Targeted
 
 // What stop answers, and the target: not running.
 pub fn stop(t: Target) -> Targeted
-    ensures { λ r. ⌜ r ≡ stop t ⌝ }
+    ensures { λ r. ⌜ Stops t r ⌝ }
 {
     if t.running {
         let target = Target {
@@ -77,7 +78,7 @@ pub fn stop(t: Target) -> Targeted
 
 // The connection once it is lost: its id stays.
 pub fn off(x: Connection) -> Connection
-    ensures { λ r. ⌜ r ≡ off x ⌝ }
+    ensures { λ r. ⌜ TurnsOff x r ⌝ }
 {
     Connection {
         id: x.id,
@@ -87,7 +88,7 @@ pub fn off(x: Connection) -> Connection
 
 // What connect answers, and the node's connection: its id counted, connected.
 pub fn connect(x: Connection, running: bool) -> Connected
-    ensures { λ r. ⌜ r ≡ connect x running ⌝ }
+    ensures { λ r. ⌜ Connects x running r ⌝ }
 {
     if x.connected {
         return Connected {
@@ -119,7 +120,7 @@ pub fn connect(x: Connection, running: bool) -> Connected
 
 // What disconnect answers, and the node's connection: lost.
 pub fn disconnect(x: Connection) -> Connected
-    ensures { λ r. ⌜ r ≡ disconnect x ⌝ }
+    ensures { λ r. ⌜ Disconnects x r ⌝ }
 {
     if x.connected {
         return Connected {
@@ -135,7 +136,7 @@ pub fn disconnect(x: Connection) -> Connected
 
 // What mastership of node n, whose connection is x, answers, and the record after it.
 pub fn master(m: Mastership, n: u8, x: Connection) -> Mastered
-    ensures { λ r. ⌜ r ≡ master m n x ⌝ }
+    ensures { λ r. ⌜ Masters m n x r ⌝ }
 {
     let mut next = m;
     if x.connected {
@@ -217,7 +218,7 @@ pub fn synchronise_by(state: Progress, g: Configuration, term: Term, reaches: bo
 // What synchronise by a node answers, and the configuration after it, from the mastership's term, whether the node is
 // master and whether it reaches the target.
 pub fn synchronise(g: Configuration, term: Term, is_master: bool, reaches: bool) -> Synchronised
-    ensures { λ r. ⌜ r ≡ synchronise g term «is_master» reaches ⌝ }
+    ensures { λ r. ⌜ Synchronises g term «is_master» reaches r ⌝ }
 {
     if is_master {
         if g.term.below(term) {
@@ -239,7 +240,7 @@ pub fn synchronise(g: Configuration, term: Term, is_master: bool, reaches: bool)
 
 // Whether a node reaches the target: it is connected with id equal to conn, and the target runs.
 pub fn reaches(x: Connection, m: Mastership, t: Target) -> bool
-    ensures { λ r. ⌜ r ≡ reaches x m t ⌝ }
+    ensures { λ r. ⌜ TellsReach x m t r ⌝ }
 {
     x.connected & ((x.id == m.conn) & t.running)
 }
@@ -258,7 +259,7 @@ pub fn is_synchronised(state: Progress) -> bool
 // Whether the line is open for node n: it is master and reaches the target, and the configuration is Complete in the
 // mastership's term.
 pub fn line_open(n: u8, x: Connection, m: Mastership, t: Target, g: Configuration) -> bool
-    ensures { λ r. ⌜ r ≡ lineOpen n x m t g ⌝ }
+    ensures { λ r. ⌜ TellsLine n x m t g r ⌝ }
 {
     let reached = reaches(x, m, t);
     let state = g.state;

@@ -1,14 +1,7 @@
-use Prim.Native.Nat.{ℕ, _≤_, _-_, _+_, _*_}
-use mathlib.Core.Path.{_≡_, refl, sym, ap, _∙_}
-use mathlib.Core.List.{List}
+use Prim.Native.Nat.{_≤_, _-_}
+use mathlib.Core.Path.{refl}
 use borrow.Author.Needs.{needs}
-use native.Mathlib.Omega.{arith}
-use lib.ListN.{length, getD}
-use Rattle.fields.specs.Field.{fieldsAt, putFields}
-use Rattle.fields.proofs.Runs.{table-at}
 use Rattle.machine.specs.State.{absent}
-use Rattle.machine.specs.Stores.{ofApplied}
-use Rattle.image.specs.View.{tableOf, write}
 use Rattle.image.proofs.Chain.{Here, clear-none, clear-more, all-here}
 use Rattle.image.proofs.clear_target.Statement.{statement}
 use Rattle.image.proofs.clear_target.Tie as tie

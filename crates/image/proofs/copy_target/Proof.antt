@@ -1,14 +1,7 @@
-use Prim.Native.Nat.{ℕ, _≤_, _-_, _+_, _*_}
-use mathlib.Core.Path.{_≡_, refl, sym, ap, _∙_}
-use mathlib.Core.List.{List}
+use Prim.Native.Nat.{_≤_, _-_}
 use borrow.Author.Needs.{needs}
-use native.Mathlib.Omega.{arith}
-use lib.ListN.{length, getD}
-use Rattle.fields.specs.Field.{fieldsAt, putFields}
-use Rattle.fields.proofs.Runs.{table-at}
-use Rattle.machine.specs.State.{absent}
 use Rattle.machine.specs.Stores.{ofApplied}
-use Rattle.image.specs.View.{tableOf, write}
+use Rattle.image.specs.View.{tableOf}
 use Rattle.image.proofs.Chain.{Here, copy-none, copy-more, all-here, length-table}
 use Rattle.image.proofs.copy_target.Statement.{statement}
 use Rattle.image.proofs.copy_target.Tie as tie
@@ -69,7 +62,7 @@ same-length c = search needs
 
 -- src/lib.rt:376:1
 returns : tie.Need-returns Inv-loop μ-loop
-returns c = all-here _ _ _ _ (c .before .loop .inv .0) (c .loop-test .left) (length-table _) (c .before .loop .inv .1)
+returns c = all-here _ _ _ _ (c .before .loop .inv .0) (c .loop-test .left) (length-table _ _) (c .before .loop .inv .1)
 
 pub copy-target-spec : {M : Type 1} → statement M
 copy-target-spec =

@@ -1,4 +1,3 @@
-use Rattle.image.specs.Records.{flagOf}
 use borrow.Author.Needs.{needs}
 use Rattle.image.proofs.load_node.Statement.{statement}
 use Rattle.image.proofs.load_node.Tie as tie

@@ -26,6 +26,7 @@ ghost use Rattle.rules.specs.Plans.{entryThenHead};
 ghost use Rattle.rules.specs.Sides.{applyAt};
 ghost use Rattle.rules.specs.Heads.{closed};
 ghost use Rattle.rules.specs.ApplyChange.{reached, tests, pendingRule, begunRule, rule, plans, applyChange};
+ghost use Rattle.rules.specs.Promises.{AppliesChange};
 
 // Whether o ≥ 1 and the applied ordinal is o: the push has landed.
 pub fn reached(applied: Ordinal, o: Ordinal) -> bool
@@ -216,7 +217,7 @@ pub fn apply_change(
     line: bool,
     accepted: bool,
 ) -> Plan
-    ensures { λ r. ⌜ r ≡ applyChange t h settled i line accepted ⌝ }
+    ensures { λ r. ⌜ AppliesChange t h settled i line accepted r ⌝ }
 {
     let change = t.change;
     let apply = change.apply;

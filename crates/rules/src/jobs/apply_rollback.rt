@@ -23,6 +23,7 @@ ghost use Rattle.kinds.specs.Events.{event};
 ghost use Rattle.kinds.specs.Records.{withRollback};
 ghost use Rattle.rules.specs.Sides.{applyAt};
 ghost use Rattle.rules.specs.ApplyRollback.{wasTried, isAborted, tests, pendingRule, begunRule, rule, plans, applyRollback};
+ghost use Rattle.rules.specs.Promises.{AppliesRollback};
 
 // Whether the change's push was tried: c.apply Complete or Failed.
 pub fn was_tried(apply: Status) -> bool
@@ -220,7 +221,7 @@ pub fn apply_rollback(
     line: bool,
     accepted: bool,
 ) -> Plan
-    ensures { λ r. ⌜ r ≡ applyRollback t h settled i line accepted ⌝ }
+    ensures { λ r. ⌜ AppliesRollback t h settled i line accepted r ⌝ }
 {
     let rollback = t.rollback;
     let apply = rollback.apply;

@@ -3,10 +3,11 @@ use kinds::Head;
 use kinds::Status;
 ghost use mathlib.Core.Path.{_≡_};
 ghost use Rattle.rules.specs.AtRest.{atRest};
+ghost use Rattle.rules.specs.Promises.{TellsRest};
 
 // Whether the commit side is at rest, from Committed's head and from c.commit and r.commit of the entry at its index.
 pub fn at_rest(h: Head, c: Status, r: Status) -> bool
-    ensures { λ b. ⌜ b ≡ atRest h c r ⌝ }
+    ensures { λ b. ⌜ TellsRest h c r b ⌝ }
 {
     let index = h.index.get();
     let target = h.target.get();

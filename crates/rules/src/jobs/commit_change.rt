@@ -25,6 +25,7 @@ ghost use Rattle.kinds.specs.Events.{event};
 ghost use Rattle.kinds.specs.Records.{withChange};
 ghost use Rattle.rules.specs.Sides.{committed};
 ghost use Rattle.rules.specs.CommitChange.{tests, rule, beginning, plans, commitChange};
+ghost use Rattle.rules.specs.Promises.{CommitsChange};
 
 // What the rules ask: change = i − 1, target = i, rest, the outcome, the ordinal's limit, change = i.
 pub fn tests(h: Head, change: Number, rest: bool, i: Number, accepted: bool) -> CommitTests
@@ -175,7 +176,7 @@ pub fn commit_change(
     accepted: bool,
     present: [u16; 4],
 ) -> Plan
-    ensures { λ r. ⌜ r ≡ commitChange t h change rest i accepted present ⌝ }
+    ensures { λ r. ⌜ CommitsChange t h change rest i accepted present r ⌝ }
 {
     let side = t.change;
     let commit = side.commit;

@@ -21,6 +21,7 @@ ghost use Rattle.kinds.specs.Events.{event};
 ghost use Rattle.kinds.specs.Records.{withRollback};
 ghost use Rattle.rules.specs.Sides.{begun, committed};
 ghost use Rattle.rules.specs.CommitRollback.{tests, rule, plans, commitRollback};
+ghost use Rattle.rules.specs.Promises.{CommitsRollback};
 
 // What the rules ask, with r.index: revision = i, target = r.index, rest, the ordinal's limit, revision = r.index. The
 // outcome is not looked at.
@@ -135,7 +136,7 @@ pub fn plans(rule: Rule, t: Transaction, h: Head, i: Number, o: Ordinal) -> Plan
 
 // The plan that job 3 decides for entry t, numbered i; `rest` says whether the commit side is at rest.
 pub fn commit_rollback(t: Transaction, h: Head, rest: bool, i: Number) -> Plan
-    ensures { λ r. ⌜ r ≡ commitRollback t h rest i ⌝ }
+    ensures { λ r. ⌜ CommitsRollback t h rest i r ⌝ }
 {
     let rollback = t.rollback;
     let commit = rollback.commit;

@@ -1,4 +1,3 @@
-use mathlib.Core.Path.{refl}
 use borrow.Author.Needs.{needs}
 use Rattle.controller.proofs.calls.args_ok.Statement.{statement}
 use Rattle.controller.proofs.calls.args_ok.Tie as tie

@@ -1,5 +1,5 @@
 use native.Mathlib.Omega.{arith}
-use Rattle.controller.proofs.Decided.{size, few, index-in, index-one, rest-none, rest-some}
+use Rattle.controller.proofs.Decided.{size, index-one, rest-none, rest-some}
 use borrow.Author.Needs.{needs}
 use Rattle.controller.proofs.deciding.rest.Statement.{statement}
 use Rattle.controller.proofs.deciding.rest.Tie as tie

@@ -1,4 +1,3 @@
-use mathlib.Core.Bool.{and-false}
 use Rattle.image.specs.Formed.{entryFormed}
 use borrow.Author.Needs.{needs}
 use Rattle.image.proofs.formed.entry_formed.Statement.{statement}

@@ -1,5 +1,4 @@
 use Rattle.image.proofs.Scanned.{last-mark}
-use mathlib.Core.Bool.{and-false}
 use borrow.Author.Tests.{lt-leb, le-leb, lt-ltb, le-ltb}
 use Rattle.image.specs.Formed.{marksOk}
 use borrow.Author.Needs.{needs}

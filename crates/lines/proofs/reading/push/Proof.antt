@@ -1,5 +1,5 @@
 use Rattle.lines.specs.Reading.{pushed}
-use borrow.Author.Tests.{eq-eqb, ne-eqb, lt-ltb, le-ltb, le-leb, lt-leb}
+use borrow.Author.Tests.{le-leb, lt-leb}
 use borrow.Author.Needs.{needs}
 use Rattle.lines.proofs.reading.push.Statement.{statement}
 use Rattle.lines.proofs.reading.push.Tie as tie

@@ -1,5 +1,5 @@
 use Rattle.lines.specs.Reading.{wordAt}
-use borrow.Author.Tests.{eq-eqb, ne-eqb, lt-ltb, le-ltb, le-leb, lt-leb}
+use borrow.Author.Tests.{ne-eqb}
 use Rattle.lines.proofs.reading.word_at.Statement.{statement}
 use Rattle.lines.proofs.reading.word_at.Tie as tie
 use Rattle.lines.proofs.reading.word_at.Reads as reads

@@ -1,9 +1,7 @@
 -- `put_text` puts the bytes one after another: after i turns the first i of them stand there. Assumes nothing.
 use Prim.Native.Nat.{_+_, _-_, _≤_}
-use mathlib.Core.Path.{_≡_, refl, sym, ap, _∙_}
 use native.Mathlib.Omega.{arith}
-use native.Mathlib.Nat.{add-zero}
-use lib.ListN.{length, take, length-set}
+use lib.ListN.{length, take}
 use borrow.Author.Needs.{needs}
 use Rattle.lines.specs.Replies.{Put}
 use Rattle.lines.proofs.Putting.{put-more, put-whole, put-length}

@@ -1,0 +1,39 @@
+-- No second outcome keeps what a public function of this crate promises: `Claims`, `Freshens` (in Fresh), `Lists` (in Live),
+-- and here what the reads promise. Assumes nothing.
+use Prim.Native.Nat.{ℕ}
+use mathlib.Core.Path.{_≡_}
+use mathlib.Core.List.{List}
+use Rattle.kinds.specs.declared.Reply.{Reply}
+use Rattle.kinds.specs.Outcome.{one, both}
+use Rattle.machine.specs.Calls.{Call}
+use Rattle.machine.specs.Reads.{Query}
+use Rattle.controller.specs.declared.walking.Listed.{Listed}
+use Rattle.controller.specs.declared.reads.Read.{Read}
+use Rattle.controller.specs.declared.reads.Heads.{Heads}
+use Rattle.controller.specs.Claims.{Claims}
+use Rattle.controller.specs.Fresh.{Freshens}
+use Rattle.controller.specs.Live.{Lists}
+use Rattle.controller.specs.Reads.{readOf, headsOf}
+
+-- ---- what changes lent bytes
+pub claims-only : (l : List ℕ) (c : Call) (r q : Reply) (m n : List ℕ) → Claims l c r m → Claims l c q n → (r ≡ q) × (m ≡ n)
+claims-only l c r q m n = both
+
+pub freshens-only : (l : List ℕ) (r q : Reply) (m n : List ℕ) → Freshens l r m → Freshens l q n → (r ≡ q) × (m ≡ n)
+freshens-only l r q m n = both
+
+pub lists-only : (l room : List ℕ) (r q : Listed) (m n : List ℕ) → Lists l room r m → Lists l room q n → (r ≡ q) × (m ≡ n)
+lists-only l room r q m n = both
+
+-- ---- reads
+abbrev pub Shows : List ℕ → Query → Read → Type 0
+Shows l what r = r ≡ readOf l what
+
+pub shows-only : (l : List ℕ) (what : Query) (r q : Read) → Shows l what r → Shows l what q → r ≡ q
+shows-only l what r q = one
+
+abbrev pub ShowsHeads : List ℕ → Heads → Type 0
+ShowsHeads l r = r ≡ headsOf l
+
+pub shows-heads-only : (l : List ℕ) (r q : Heads) → ShowsHeads l r → ShowsHeads l q → r ≡ q
+shows-heads-only l r q = one

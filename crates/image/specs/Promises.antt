@@ -1,0 +1,162 @@
+-- What each public function of this crate promises of its answer r, or of the image s′ that it leaves, and that no second
+-- outcome keeps the promise. Assumes nothing.
+use Prim.Native.Nat.{ℕ, _+_, _*_}
+use mathlib.Core.Bool.{Bool}
+use mathlib.Core.List.{List}
+use mathlib.Core.Path.{_≡_}
+use lib.Dec.{ltb}
+use lib.ListN.{getD}
+use Rattle.kinds.specs.Numbers.{num}
+use Rattle.kinds.specs.Outcome.{one}
+use Rattle.kinds.specs.declared.Configuration.{Configuration}
+use Rattle.kinds.specs.declared.Connection.{Connection}
+use Rattle.kinds.specs.declared.Head.{Head}
+use Rattle.kinds.specs.declared.Mastership.{Mastership}
+use Rattle.kinds.specs.declared.Number.{Number}
+use Rattle.kinds.specs.declared.Target.{Target}
+use Rattle.kinds.specs.declared.Transaction.{Transaction}
+use Rattle.fields.specs.Field.{fieldsAt, putField}
+use Rattle.image.specs.Formed.{formed}
+use Rattle.image.specs.Layout.{tableWidths}
+use Rattle.image.specs.Records.{entryAt, putEntryAt, logLength, changeOf, headAt, putHeadAt, configurationOf, putConfiguration, mastershipOf, putMastership, targetOf, putTarget, connectionsOf, putConnections}
+use Rattle.image.specs.View.{write, writeIf, tableOf}
+use Rattle.machine.specs.State.{nodeOf, absent}
+use Rattle.machine.specs.Stores.{grow, change, targetValues, ofApplied}
+
+abbrev pub TellsFormed : List ℕ → Bool → Type 0
+TellsFormed s r = r ≡ formed s
+
+pub tells-formed-only : (s : List ℕ) (r q : Bool) → TellsFormed s r → TellsFormed s q → r ≡ q
+tells-formed-only s r q = one
+
+abbrev pub LoadsEntry : List ℕ → ℕ → Transaction → Type 0
+LoadsEntry s n r = r ≡ entryAt s n
+
+pub loads-entry-only : (s : List ℕ) (n : ℕ) (r q : Transaction) → LoadsEntry s n r → LoadsEntry s n q → r ≡ q
+loads-entry-only s n r q = one
+
+abbrev pub StoresEntry : List ℕ → ℕ → Transaction → List ℕ → Type 0
+StoresEntry s n t s′ = s′ ≡ putEntryAt s n t
+
+pub stores-entry-only : (s : List ℕ) (n : ℕ) (t : Transaction) (s′ s″ : List ℕ)
+    → StoresEntry s n t s′ → StoresEntry s n t s″ → s′ ≡ s″
+stores-entry-only s n t s′ s″ = one
+
+abbrev pub TellsLength : List ℕ → ℕ → Type 0
+TellsLength s r = r ≡ logLength s
+
+pub tells-length-only : (s : List ℕ) (r q : ℕ) → TellsLength s r → TellsLength s q → r ≡ q
+tells-length-only s r q = one
+
+abbrev pub Grows : List ℕ → ℕ → Transaction → List ℕ → Type 0
+Grows s n t s′ = s′ ≡ write s (grow t)
+
+pub grows-only : (s : List ℕ) (n : ℕ) (t : Transaction) (s′ s″ : List ℕ) → Grows s n t s′ → Grows s n t s″ → s′ ≡ s″
+grows-only s n t s′ s″ = one
+
+abbrev pub LoadsChange : List ℕ → Number → Type 0
+LoadsChange s r = r ≡ num (changeOf s)
+
+pub loads-change-only : (s : List ℕ) (r q : Number) → LoadsChange s r → LoadsChange s q → r ≡ q
+loads-change-only s r q = one
+
+abbrev pub StoresChange : List ℕ → Number → List ℕ → Type 0
+StoresChange s n s′ = s′ ≡ write s (change n)
+
+pub stores-change-only : (s : List ℕ) (n : Number) (s′ s″ : List ℕ) → StoresChange s n s′ → StoresChange s n s″ → s′ ≡ s″
+stores-change-only s n s′ s″ = one
+
+abbrev pub LoadsHead : List ℕ → ℕ → Head → Type 0
+LoadsHead s at r = r ≡ headAt s at
+
+pub loads-head-only : (s : List ℕ) (at : ℕ) (r q : Head) → LoadsHead s at r → LoadsHead s at q → r ≡ q
+loads-head-only s at r q = one
+
+abbrev pub StoresHead : List ℕ → ℕ → Head → List ℕ → Type 0
+StoresHead s at h s′ = s′ ≡ putHeadAt s at h
+
+pub stores-head-only : (s : List ℕ) (at : ℕ) (h : Head) (s′ s″ : List ℕ)
+    → StoresHead s at h s′ → StoresHead s at h s″ → s′ ≡ s″
+stores-head-only s at h s′ s″ = one
+
+abbrev pub LoadsValue : List ℕ → ℕ → ℕ → ℕ → Type 0
+LoadsValue s at p r = r ≡ getD (fieldsAt s at tableWidths) p 0
+
+pub loads-value-only : (s : List ℕ) (at p r q : ℕ) → LoadsValue s at p r → LoadsValue s at p q → r ≡ q
+loads-value-only s at p r q = one
+
+abbrev pub StoresValue : List ℕ → ℕ → ℕ → ℕ → List ℕ → Type 0
+StoresValue s at p v s′ = s′ ≡ writeIf (ltb p 32) (putField s (at + 2 * p) 2 v) s
+
+pub stores-value-only : (s : List ℕ) (at p v : ℕ) (s′ s″ : List ℕ)
+    → StoresValue s at p v s′ → StoresValue s at p v s″ → s′ ≡ s″
+stores-value-only s at p v s′ s″ = one
+
+abbrev pub LoadsConfiguration : List ℕ → Configuration → Type 0
+LoadsConfiguration s r = r ≡ configurationOf s
+
+pub loads-configuration-only : (s : List ℕ) (r q : Configuration) → LoadsConfiguration s r → LoadsConfiguration s q → r ≡ q
+loads-configuration-only s r q = one
+
+abbrev pub StoresConfiguration : List ℕ → Configuration → List ℕ → Type 0
+StoresConfiguration s g s′ = s′ ≡ putConfiguration s g
+
+pub stores-configuration-only : (s : List ℕ) (g : Configuration) (s′ s″ : List ℕ)
+    → StoresConfiguration s g s′ → StoresConfiguration s g s″ → s′ ≡ s″
+stores-configuration-only s g s′ s″ = one
+
+abbrev pub LoadsMastership : List ℕ → Mastership → Type 0
+LoadsMastership s r = r ≡ mastershipOf s
+
+pub loads-mastership-only : (s : List ℕ) (r q : Mastership) → LoadsMastership s r → LoadsMastership s q → r ≡ q
+loads-mastership-only s r q = one
+
+abbrev pub StoresMastership : List ℕ → Mastership → List ℕ → Type 0
+StoresMastership s m s′ = s′ ≡ putMastership s m
+
+pub stores-mastership-only : (s : List ℕ) (m : Mastership) (s′ s″ : List ℕ)
+    → StoresMastership s m s′ → StoresMastership s m s″ → s′ ≡ s″
+stores-mastership-only s m s′ s″ = one
+
+abbrev pub LoadsTarget : List ℕ → Target → Type 0
+LoadsTarget s r = r ≡ targetOf s
+
+pub loads-target-only : (s : List ℕ) (r q : Target) → LoadsTarget s r → LoadsTarget s q → r ≡ q
+loads-target-only s r q = one
+
+abbrev pub StoresTarget : List ℕ → Target → List ℕ → Type 0
+StoresTarget s t s′ = s′ ≡ putTarget s t
+
+pub stores-target-only : (s : List ℕ) (t : Target) (s′ s″ : List ℕ) → StoresTarget s t s′ → StoresTarget s t s″ → s′ ≡ s″
+stores-target-only s t s′ s″ = one
+
+abbrev pub LoadsConnection : List ℕ → ℕ → Connection → Type 0
+LoadsConnection s n r = r ≡ nodeOf (connectionsOf s) n
+
+pub loads-connection-only : (s : List ℕ) (n : ℕ) (r q : Connection) → LoadsConnection s n r → LoadsConnection s n q → r ≡ q
+loads-connection-only s n r q = one
+
+abbrev pub LoadsConnections : List ℕ → List Connection → Type 0
+LoadsConnections s r = r ≡ connectionsOf s
+
+pub loads-connections-only : (s : List ℕ) (r q : List Connection) → LoadsConnections s r → LoadsConnections s q → r ≡ q
+loads-connections-only s r q = one
+
+abbrev pub StoresConnections : List ℕ → List Connection → List ℕ → Type 0
+StoresConnections s xs s′ = s′ ≡ putConnections s xs
+
+pub stores-connections-only : (s : List ℕ) (xs : List Connection) (s′ s″ : List ℕ)
+    → StoresConnections s xs s′ → StoresConnections s xs s″ → s′ ≡ s″
+stores-connections-only s xs s′ s″ = one
+
+abbrev pub ClearsTarget : List ℕ → List ℕ → Type 0
+ClearsTarget s s′ = s′ ≡ write s (targetValues absent)
+
+pub clears-target-only : (s s′ s″ : List ℕ) → ClearsTarget s s′ → ClearsTarget s s″ → s′ ≡ s″
+clears-target-only s s′ s″ = one
+
+abbrev pub CopiesTarget : List ℕ → List ℕ → Type 0
+CopiesTarget s s′ = s′ ≡ write s (targetValues (tableOf s ofApplied))
+
+pub copies-target-only : (s s′ s″ : List ℕ) → CopiesTarget s s′ → CopiesTarget s s″ → s′ ≡ s″
+copies-target-only s s′ s″ = one
