@@ -80,7 +80,7 @@ host_set_up() {
     local flags="-C target-feature=+crt-static -C relocation-model=static"
     case $(uname -m) in
     x86_64)
-        host_install gcc gcc cargo cargo-web rustc rustc-web || return 1
+        host_install gcc gcc gcc libc6-dev cargo cargo-web rustc rustc-web || return 1
         HOST_CC=gcc HOST_LINK=-static HOST_RUN=
         ;;
     aarch64)

@@ -9,6 +9,8 @@ use makowist_host::reads::{Query, CONNECTION_FIELDS, RECORD_FIELDS, TABLES, TRAN
 pub struct Counts {
     pub calls: u64,
     pub reads: u64,
+    /// Those from which every call was compared.
+    pub states: u64,
     /// By answer: accepted, then each refusal.
     answers: [u64; Refusal::COUNT + 1],
     /// By rule: whole, then cut.
@@ -75,6 +77,7 @@ impl Counts {
     pub fn told(&self) -> usize {
         println!("{:>12}  calls compared, reply and every byte", self.calls);
         println!("{:>12}  reads compared, answer and every byte of image and room", self.reads);
+        println!("{:>12}  states visited by the exhaustive walk, every call from each", self.states);
         for (answer, count) in self.answers.iter().enumerate() {
             println!("{count:>12}  answer {answer}");
         }
@@ -88,6 +91,6 @@ impl Counts {
         let rules = self.rules.iter().filter(|[whole, cut]| whole + cut > 0).count();
         let refusals = self.answers[1..].iter().filter(|count| **count > 0).count();
         println!("rules seen: {rules} of {}; refusals seen: {refusals} of {}", Rule::ALL.len(), Refusal::COUNT);
-        unseen_answers + unseen_rules + unseen_reads
+        unseen_answers + unseen_rules + unseen_reads + usize::from(self.states == 0)
     }
 }

@@ -1,6 +1,7 @@
 //! Two controllers side by side: each call goes to both, and reply and every byte must be the same.
 
 use crate::counts::Counts;
+use crate::watch::Watch;
 use makowist_host::controller::State;
 use makowist_host::fault::Fault;
 use makowist_host::guarded::{Edge, Guarded};
@@ -34,10 +35,11 @@ pub struct Desk {
     pub edge: Edge,
     fault: Option<Fault>,
     pub counts: Counts,
+    watch: Watch,
 }
 
 impl Desk {
-    pub fn new(fault: Option<Fault>) -> Desk {
+    pub fn new(fault: Option<Fault>, watch: Watch) -> Desk {
         Desk {
             lent: Guarded::new(),
             lent_pairs: Guarded::new(),
@@ -45,7 +47,22 @@ impl Desk {
             edge: Edge::End,
             fault,
             counts: Counts::default(),
+            watch,
         }
+    }
+
+    /// Whether the comparison's time is up.
+    pub fn is_over(&mut self) -> bool {
+        self.watch.is_over(&self.counts)
+    }
+
+    /// Whether half of it is.
+    pub fn is_half_over(&mut self) -> bool {
+        self.watch.is_half_over(&self.counts)
+    }
+
+    pub fn seconds(&self) -> u64 {
+        self.watch.elapsed().as_secs()
     }
 
     /// Lays these bytes down as the image that the proved controller is lent from now on.

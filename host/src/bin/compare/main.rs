@@ -4,25 +4,26 @@
 //!
 //! - `sessions`, `unreached`, `damaged`: how many calls of each kind; `transactions`: how far the exhaustive walk goes
 //! - `seed`: another one makes another run
-//! - `minutes`: go on with new seeds until so many minutes have passed
+//! - `minutes`: go on with new seeds, the walk once and for at most half of them, and stop when they have passed
 //! - `fault=NAME`: put that fault into the independent copy; a difference is then expected, and ends the run with 1
 //! - `fault=all`: try every fault, and end with 1 where one is not found
-//! - `overrun=1`: write one byte past a lent slice, which must end the program with a fault
+//! - `overrun=End`, `overrun=Begin`: write the byte outside that edge of a lent slice, which must end the program
 //!
-//! Ends with 0 where there is no difference and every answer and every rule, whole and cut, was seen.
+//! Ends with 0 where there is no difference and no count is 0: every answer, every rule, whole and cut, every read.
 
 mod counts;
 mod desk;
 mod every;
 mod sessions;
 mod states;
+mod watch;
 
 use desk::{Compared, Desk};
 use makowist_host::fault::Fault;
 use makowist_host::guarded::{Edge, Guarded};
 use makowist_host::random::Random;
 use std::process::ExitCode;
-use std::time::{Duration, Instant};
+use watch::Watch;
 
 #[derive(Clone)]
 struct Sizes {
@@ -37,12 +38,12 @@ struct Arguments {
     seed: u64,
     minutes: u64,
     fault: Option<String>,
-    overrun: bool,
+    overrun: Option<Edge>,
 }
 
 fn arguments() -> Result<Arguments, String> {
     let sizes = Sizes { sessions: 1_000_000, unreached: 400_000, damaged: 150_000, transactions: 3 };
-    let mut arguments = Arguments { sizes, seed: 1, minutes: 0, fault: None, overrun: false };
+    let mut arguments = Arguments { sizes, seed: 1, minutes: 0, fault: None, overrun: None };
     for argument in std::env::args().skip(1) {
         let (name, value) = argument.split_once('=').ok_or(format!("{argument}: expected name=value"))?;
         let number = || value.parse::<u64>().map_err(|error| format!("{argument}: {error}"));
@@ -54,7 +55,8 @@ fn arguments() -> Result<Arguments, String> {
             "seed" => arguments.seed = number()?,
             "minutes" => arguments.minutes = number()?,
             "fault" => arguments.fault = Some(value.to_string()),
-            "overrun" => arguments.overrun = number()? == 1,
+            "overrun" if value == "End" => arguments.overrun = Some(Edge::End),
+            "overrun" if value == "Begin" => arguments.overrun = Some(Edge::Begin),
             _ => return Err(format!("{argument}: no such argument")),
         }
     }
@@ -70,8 +72,9 @@ fn compare(desk: &mut Desk, sizes: &Sizes, seed: u64, tells: bool) -> Compared<(
     };
     let mut random = Random::new(seed);
     if sizes.transactions > 0 {
-        let states = every::run(desk, sizes.transactions)?;
-        told(&format!("{states} states with up to {} transactions, every call from each", sizes.transactions), desk);
+        let extent = if every::run(desk, sizes.transactions)? { "all" } else { "not all, for time" };
+        let (states, transactions) = (desk.counts.states, sizes.transactions);
+        told(&format!("{states} states with up to {transactions} transactions ({extent}), every call from each"), desk);
     }
     for edge in [Edge::End, Edge::Begin] {
         desk.edge = edge;
@@ -89,33 +92,25 @@ fn compare(desk: &mut Desk, sizes: &Sizes, seed: u64, tells: bool) -> Compared<(
 
 /// Compares, again and again while there is time, and answers whether all was seen and nothing differed.
 fn compare_for(arguments: &Arguments, fault: Option<Fault>) -> bool {
-    let mut desk = Desk::new(fault);
-    let began = Instant::now();
+    let mut desk = Desk::new(fault, Watch::new(arguments.minutes));
     let mut sizes = arguments.sizes.clone();
-    let mut seed = arguments.seed;
-    loop {
+    for seed in arguments.seed.. {
         if let Err(difference) = compare(&mut desk, &sizes, seed, seed == arguments.seed) {
             println!("compare: DIFFERENCE with seed {seed} at call {}\n{difference}", desk.counts.calls);
             return false;
         }
-        if began.elapsed() >= Duration::from_secs(60 * arguments.minutes) {
+        if arguments.minutes == 0 || desk.is_over() {
             break;
         }
-        seed += 1;
         sizes.transactions = 0;
-        println!(
-            "compare: {} s of {} s, {} calls, 0 differences",
-            began.elapsed().as_secs(),
-            60 * arguments.minutes,
-            desk.counts.calls
-        );
     }
     let unseen = desk.counts.told();
     println!(
-        "compare: {} calls and {} reads compared in {} s, 0 differences, {unseen} kinds never seen",
+        "compare: {} calls, {} reads and {} states compared in {} s, 0 differences, {unseen} kinds never seen",
         desk.counts.calls,
         desk.counts.reads,
-        began.elapsed().as_secs()
+        desk.counts.states,
+        desk.seconds()
     );
     unseen == 0
 }
@@ -125,22 +120,25 @@ fn find_faults(arguments: &Arguments) -> bool {
     let faults = Fault::all();
     let mut missed = 0;
     for fault in &faults {
-        let mut desk = Desk::new(Some(*fault));
+        let mut desk = Desk::new(Some(*fault), Watch::new(0));
         let found = compare(&mut desk, &arguments.sizes, arguments.seed, false).is_err();
         println!("{:>10}  {fault:?}{}", desk.counts.calls, if found { "" } else { " was NOT found" });
         missed += usize::from(!found);
     }
     println!("compare: {} faults put in, one at a time; {} found, {missed} missed", faults.len(), faults.len() - missed);
-    missed == 0
+    missed == 0 && !faults.is_empty()
 }
 
-/// Writes the byte past a lent slice.
-fn overrun() {
-    let mut memory = Guarded::new();
-    let last = memory.bytes(16, Edge::End).as_mut_ptr_range().end;
-    println!("compare: a byte past a lent slice is written now");
+/// Writes the byte outside that edge of a lent slice.
+fn overrun(edge: Edge) {
+    let lent = Guarded::new().bytes(16, edge).as_mut_ptr_range();
+    println!("compare: the byte outside a lent slice is written now ({edge:?})");
+    let outside = match edge {
+        Edge::End => lent.end,
+        Edge::Begin => lent.start.wrapping_sub(1),
+    };
     // SAFETY: none; it must fault.
-    unsafe { last.write_volatile(1) };
+    unsafe { outside.write_volatile(1) };
     println!("compare: it went through");
 }
 
@@ -153,8 +151,8 @@ fn main() -> ExitCode {
         }
     };
     let fault = arguments.fault.as_deref().filter(|name| *name != "all");
-    let passed = if arguments.overrun {
-        overrun();
+    let passed = if let Some(edge) = arguments.overrun {
+        overrun(edge);
         false
     } else if arguments.fault.as_deref() == Some("all") {
         find_faults(&arguments)

@@ -9,10 +9,10 @@ use makowist_host::random::Random;
 use makowist_host::reads::Query;
 use makowist_host::requests::{change, sensible, wild};
 
-/// Runs sessions until so many calls have been compared.
+/// Runs sessions until so many calls have been compared, or the time is up.
 pub fn run(desk: &mut Desk, calls: u64, random: &mut Random) -> Compared<()> {
     let end = desk.counts.calls + calls;
-    while desk.counts.calls < end {
+    while desk.counts.calls < end && !desk.is_over() {
         session(desk, random)?;
     }
     Ok(())

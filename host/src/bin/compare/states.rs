@@ -15,7 +15,7 @@ use makowist_host::requests::{change, wild};
 /// Compares so many calls from states that are well-formed and otherwise arbitrary.
 pub fn unreached(desk: &mut Desk, calls: u64, random: &mut Random) -> Compared<()> {
     let end = desk.counts.calls + calls;
-    while desk.counts.calls < end {
+    while desk.counts.calls < end && !desk.is_over() {
         let focus = Focus::new(random);
         let state = focus.state(random);
         let bytes = focus.image(&state, random);
@@ -40,7 +40,7 @@ pub fn unreached(desk: &mut Desk, calls: u64, random: &mut Random) -> Compared<(
 /// Compares so many calls from images with a byte, a field, the length or everything damaged.
 pub fn damaged(desk: &mut Desk, calls: u64, random: &mut Random) -> Compared<()> {
     let end = desk.counts.calls + calls;
-    while desk.counts.calls < end {
+    while desk.counts.calls < end && !desk.is_over() {
         let focus = Focus::new(random);
         let state = focus.state(random);
         let mut bytes = focus.image(&state, random);
