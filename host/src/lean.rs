@@ -1,6 +1,7 @@
 //! The C interface's calls over the independent controller's rules, without a state: the image is checked where it lies,
 //! and only the records that a call reads are loaded, and those that it changes stored. This is what the benchmark sets
-//! beside the proved controller. `northbound` is the plain way to the same bytes.
+//! beside the proved controller, so each call is a function of its own that is never inlined, as the exported ones are.
+//! `northbound` is the plain way to the same bytes.
 
 use crate::controller::{
     counted, Change, Connection, ConfigurationState, Node, Number, Ordinal, Phase, Refusal, Status, Term, LOG_LIMIT,
@@ -62,11 +63,12 @@ fn on(image: &mut [u8], call: impl FnOnce(&mut Image, usize) -> Result<Answer, R
     Served { reply, rule: None }.packed()
 }
 
-/// Carries a request out on an image and answers the packed reply.
-pub fn serve(image: &mut [u8], request: &Request) -> u64 {
+/// Carries a request out on an image, with an append's pairs lent from `pairs`, and answers the packed reply.
+#[inline]
+pub fn serve(image: &mut [u8], request: &Request, pairs: &[u8]) -> u64 {
     match *request {
         Request::Fresh => fresh(image),
-        Request::Append(ref pairs) => append(image, pairs),
+        Request::Append(_) => append(image, pairs),
         Request::Rollback(number) => rollback(image, number),
         Request::Start => start(image),
         Request::Stop => stop(image),
@@ -78,6 +80,7 @@ pub fn serve(image: &mut [u8], request: &Request) -> u64 {
     }
 }
 
+#[inline(never)]
 pub fn fresh(image: &mut [u8]) -> u64 {
     if image.len() != LENGTH {
         return u64::from(Refusal::NotWellFormed.number());
@@ -87,6 +90,7 @@ pub fn fresh(image: &mut [u8]) -> u64 {
     0
 }
 
+#[inline(never)]
 pub fn append(image: &mut [u8], pairs: &[u8]) -> u64 {
     on(image, |image, length| {
         if pairs.len() % 4 != 0 {
@@ -119,6 +123,7 @@ fn entry_of(image: &mut Image, length: usize, number: u16) -> Result<&mut [u8], 
     Ok(&mut image[ENTRY * place..ENTRY * (place + 1)])
 }
 
+#[inline(never)]
 pub fn rollback(image: &mut [u8], number: u16) -> u64 {
     on(image, |image, length| {
         let bytes = entry_of(image, length, number)?;
@@ -133,6 +138,7 @@ pub fn rollback(image: &mut [u8], number: u16) -> u64 {
     })
 }
 
+#[inline(never)]
 pub fn start(image: &mut [u8]) -> u64 {
     on(image, |image, _| {
         if image[at::TARGET + 4] == 1 {
@@ -145,6 +151,7 @@ pub fn start(image: &mut [u8]) -> u64 {
     })
 }
 
+#[inline(never)]
 pub fn stop(image: &mut [u8]) -> u64 {
     on(image, |image, _| {
         if image[at::TARGET + 4] == 0 {
@@ -170,6 +177,7 @@ fn connection_of(image: &Image, node: Node) -> Connection {
     Connection { id: u32_at(image, at), connected: image[at + 4] == 1 }
 }
 
+#[inline(never)]
 pub fn connect(image: &mut [u8], node: u16) -> u64 {
     on(image, |image, _| {
         let node = node_of(node)?;
@@ -186,6 +194,7 @@ pub fn connect(image: &mut [u8], node: u16) -> u64 {
     })
 }
 
+#[inline(never)]
 pub fn disconnect(image: &mut [u8], node: u16) -> u64 {
     on(image, |image, _| {
         let node = node_of(node)?;
@@ -197,6 +206,7 @@ pub fn disconnect(image: &mut [u8], node: u16) -> u64 {
     })
 }
 
+#[inline(never)]
 pub fn master(image: &mut [u8], node: u16) -> u64 {
     on(image, |image, _| {
         let node = node_of(node)?;
@@ -222,6 +232,7 @@ fn reaches_target(image: &Image, node: Node) -> bool {
     connection.connected && connection.id == u32_at(image, at::MASTERSHIP + 5) && image[at::TARGET + 4] == 1
 }
 
+#[inline(never)]
 pub fn sync(image: &mut [u8], node: u16) -> u64 {
     on(image, |image, _| {
         let node = node_of(node)?;
@@ -264,6 +275,7 @@ fn settled(image: &Image, length: usize, ordinal: Ordinal) -> bool {
         })
 }
 
+#[inline(never)]
 pub fn work(image: &mut [u8], node: u16, job: u16, number: u16, outcome: u16, cut: u16) -> u64 {
     on(image, |image, length| {
         let (node, job, outcome, cut) = ranged(node, job, outcome, cut).ok_or(Refusal::OutOfRange)?;
@@ -300,10 +312,12 @@ pub fn work(image: &mut [u8], node: u16, job: u16, number: u16, outcome: u16, cu
     })
 }
 
+#[inline(never)]
 pub fn is_well_formed(image: &[u8]) -> bool {
     <&Image>::try_from(image).is_ok_and(|image| checked(image).is_some())
 }
 
+#[inline(never)]
 pub fn live(image: &[u8], room: &mut [u16]) -> u64 {
     let Some((image, _)) = <&Image>::try_from(image).ok().and_then(|image| Some((image, checked(image)?))) else {
         return u64::from(Refusal::NotWellFormed.number());
@@ -374,10 +388,57 @@ const ONCE: [Field; RECORD_FIELDS as usize] = [
 const IN_CONNECTION: [Field; CONNECTION_FIELDS as usize] = [(0, 4), (4, 1)];
 
 /// Reads one number where it lies.
+#[inline]
 pub fn read(image: &[u8], query: Query) -> u64 {
+    match query {
+        Query::Value { table, path } => value(image, table, path),
+        Query::Transaction { number, field } => transaction(image, number, field),
+        Query::Record { field } => record(image, field),
+        Query::Connection { node, field } => connection(image, node, field),
+    }
+}
+
+#[inline(never)]
+pub fn value(image: &[u8], table: u16, path: u16) -> u64 {
+    shown(image, |_| {
+        let (values, width) =
+            one_of(&[(at::COMMITTED_VALUES, 2), (at::APPLIED_VALUES, 2), (at::TARGET_VALUES, 2)], table)?;
+        (path < 32).then(|| (values + 2 * usize::from(path), width)).ok_or(Refusal::OutOfRange)
+    })
+}
+
+#[inline(never)]
+pub fn transaction(image: &[u8], number: u16, field: u16) -> u64 {
+    shown(image, |length| {
+        let (at, width) = one_of(&IN_ENTRY, field)?;
+        let place = Number(number).place().filter(|place| *place < length).ok_or(Refusal::NoSuchNumber)?;
+        Ok((ENTRY * place + at, width))
+    })
+}
+
+#[inline(never)]
+pub fn record(image: &[u8], field: u16) -> u64 {
+    shown(image, |_| one_of(&ONCE, field))
+}
+
+#[inline(never)]
+pub fn connection(image: &[u8], node: u16, field: u16) -> u64 {
+    shown(image, |_| {
+        let node = node_of(node)?;
+        let (at, width) = one_of(&IN_CONNECTION, field)?;
+        Ok((connection_at(node) + at, width))
+    })
+}
+
+fn one_of(fields: &[Field], field: u16) -> Result<Field, Refusal> {
+    usize::from(field).checked_sub(1).and_then(|place| fields.get(place)).copied().ok_or(Refusal::OutOfRange)
+}
+
+/// The number at the place that is found in a well-formed image, whose log has the length given.
+fn shown(image: &[u8], find: impl FnOnce(usize) -> Result<Field, Refusal>) -> u64 {
     let read = <&Image>::try_from(image).map_err(|_| Refusal::NotWellFormed).and_then(|image| {
-        let length = checked(image).ok_or(Refusal::NotWellFormed)?;
-        located(query, length).map(|(at, width)| match width {
+        let (at, width) = find(checked(image).ok_or(Refusal::NotWellFormed)?)?;
+        Ok(match width {
             1 => image[at].into(),
             2 => u16_at(image, at).into(),
             _ => u32_at(image, at),
@@ -386,30 +447,5 @@ pub fn read(image: &[u8], query: Query) -> u64 {
     match read {
         Ok(value) => u64::from(value) << 32,
         Err(refusal) => refusal.number().into(),
-    }
-}
-
-/// Where a query's number lies in an image whose log has that length.
-fn located(query: Query, length: usize) -> Result<Field, Refusal> {
-    let one_of = |fields: &[Field], field: u16| {
-        usize::from(field).checked_sub(1).and_then(|place| fields.get(place)).copied().ok_or(Refusal::OutOfRange)
-    };
-    match query {
-        Query::Value { table, path } => {
-            let (values, _) =
-                one_of(&[(at::COMMITTED_VALUES, 2), (at::APPLIED_VALUES, 2), (at::TARGET_VALUES, 2)], table)?;
-            (path < 32).then(|| (values + 2 * usize::from(path), 2)).ok_or(Refusal::OutOfRange)
-        }
-        Query::Transaction { number, field } => {
-            let (at, width) = one_of(&IN_ENTRY, field)?;
-            let place = Number(number).place().filter(|place| *place < length).ok_or(Refusal::NoSuchNumber)?;
-            Ok((ENTRY * place + at, width))
-        }
-        Query::Record { field } => one_of(&ONCE, field),
-        Query::Connection { node, field } => {
-            let node = node_of(node)?;
-            let (at, width) = one_of(&IN_CONNECTION, field)?;
-            Ok((connection_at(node) + at, width))
-        }
     }
 }

@@ -37,6 +37,7 @@ pub const WELL_FORMED: u64 = 0;
 pub const NOT_WELL_FORMED: u64 = 1;
 
 /// Carries a request out on a lent image, with an append's pairs lent from `pairs`.
+#[inline]
 pub fn serve(image: &mut [u8], request: &Request, pairs: &[u8]) -> u64 {
     let (bytes, length) = (image.as_mut_ptr(), image.len());
     // SAFETY: every pointer goes with the length of the slice that it was taken from, and nobody else holds the image.
@@ -59,17 +60,20 @@ pub fn serve(image: &mut [u8], request: &Request, pairs: &[u8]) -> u64 {
 }
 
 /// Writes the live list into the room and answers its length, packed.
+#[inline]
 pub fn live(image: &[u8], room: &mut [u16]) -> u64 {
     // SAFETY: as in `serve`.
     unsafe { exported::makowist_live(image.as_ptr(), image.len(), room.as_mut_ptr(), room.len()) }
 }
 
+#[inline]
 pub fn well_formed(image: &[u8]) -> u64 {
     // SAFETY: as in `serve`.
     unsafe { exported::makowist_well_formed(image.as_ptr(), image.len()) }
 }
 
 /// Reads one number of a lent image.
+#[inline]
 pub fn read(image: &[u8], query: Query) -> u64 {
     let (bytes, length) = (image.as_ptr(), image.len());
     // SAFETY: as in `serve`.

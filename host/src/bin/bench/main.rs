@@ -58,9 +58,6 @@ fn main() {
             if let Some((ratio, name, length)) = report.worst() {
                 println!("\nHighest ratio to the independent controller: {ratio:.2} ({name}, log of {length}).");
             }
-            if let Some((plain, words)) = report.floors() {
-                println!("The used bytes of a log of 128, summed one by one: {plain:.0} {unit}; by words of eight: {words:.0}.");
-            }
         }
         ["plot", unit, file] => print!("{}", Report { unit, figures: &read_figures(file) }.plot()),
         _ => {

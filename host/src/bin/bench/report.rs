@@ -30,29 +30,31 @@ impl Report<'_> {
         names
     }
 
-    /// A row for each call and length: the four costs, and the two ratios that are aimed at.
+    /// A row for each call and a column for each length: both costs and their ratio. The sums come last.
     pub fn table(&self) -> String {
-        let mut table = format!(
-            "| call | log | proved ({0}) | independent | independent, whole state | sum of used bytes \
-             | proved : independent | proved : sum |\n|---|--:|--:|--:|--:|--:|--:|--:|\n",
-            self.unit
-        );
+        let mut table = format!("| {}, proved : independent = ratio |", self.unit);
+        table.extend(LENGTHS.map(|length| format!(" log of {length} |")));
+        table += "\n|---|--:|--:|--:|--:|\n";
         for name in self.names() {
-            for length in LENGTHS {
-                let Some(proved) = self.cost(name, length, "Proved") else { continue };
-                let side = |side| self.cost(name, length, side).unwrap_or(0.0);
-                let _ = writeln!(
-                    table,
-                    "| {name} | {length} | {proved:.0} | {:.0} | {:.0} | {:.0} | {:.2} | {:.2} |",
-                    side("Independent"),
-                    side("Typed"),
-                    side("Floor"),
-                    self.ratio(name, length, "Independent").unwrap_or(0.0),
-                    self.ratio(name, length, "Floor").unwrap_or(0.0)
-                );
-            }
+            let costs = |length| Some((self.cost(name, length, "Proved")?, self.cost(name, length, "Independent")?));
+            self.row(&mut table, name, |length| {
+                let ((proved, independent), ratio) = (costs(length)?, self.ratio(name, length, "Independent")?);
+                Some(format!("{proved:.0} : {independent:.0} = {ratio:.2}"))
+            });
         }
+        let checked = |length, side| self.cost("well-formed", length, side).map(|cost| format!("{cost:.0}"));
+        self.row(&mut table, "sum of the used bytes, one by one", |length| checked(length, "Floor"));
+        self.row(&mut table, "the same by words of eight", |length| checked(length, "Words"));
+        self.row(&mut table, "well-formed : sum one by one", |length| {
+            self.ratio("well-formed", length, "Floor").map(|ratio| format!("{ratio:.2}"))
+        });
         table
+    }
+
+    fn row(&self, table: &mut String, name: &str, cell: impl Fn(usize) -> Option<String>) {
+        *table += &format!("| {name} |");
+        table.extend(LENGTHS.map(|length| format!(" {} |", cell(length).unwrap_or_default())));
+        *table += "\n";
     }
 
     /// The highest ratio of the proved call to the independent one, and where it is.
@@ -60,11 +62,6 @@ impl Report<'_> {
         let all = self.names().into_iter().flat_map(|name| LENGTHS.map(|length| (name, length)));
         all.filter_map(|(name, length)| Some((self.ratio(name, length, "Independent")?, name, length)))
             .max_by(|one, other| one.0.total_cmp(&other.0))
-    }
-
-    /// What the two sums of a full image's used bytes cost.
-    pub fn floors(&self) -> Option<(f64, f64)> {
-        Some((self.cost("well-formed", 128, "Floor")?, self.cost("well-formed", 128, "Words")?))
     }
 
     /// Two panels: how the check of a whole image grows with the log, and every call's ratio to the independent one.

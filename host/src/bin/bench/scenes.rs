@@ -66,22 +66,20 @@ impl Scene {
 
     /// Makes the call on the image and answers its reply.
     pub fn run(&self, side: Side, image: &mut [u8], room: &mut [u16]) -> u64 {
+        let pairs = match &self.call {
+            Call::Request(Request::Append(pairs)) => pairs.as_slice(),
+            _ => &[],
+        };
         match (side, &self.call) {
             (Side::Nothing, _) => 0,
             (Side::Floor, _) => (sum(&image[..ENTRY * self.length]) + sum(&image[at::LOG_LENGTH..])).into(),
             (Side::Words, _) => sum_of_words(&image[..ENTRY * self.length])
                 .wrapping_add(sum_of_words(&image[at::LOG_LENGTH..])),
-            (Side::Proved, Call::Request(request)) => {
-                let pairs = match request {
-                    Request::Append(pairs) => pairs.as_slice(),
-                    _ => &[],
-                };
-                peer::serve(image, request, pairs)
-            }
+            (Side::Proved, Call::Request(request)) => peer::serve(image, request, pairs),
             (Side::Proved, Call::Read(query)) => peer::read(image, *query),
             (Side::Proved, Call::Live) => peer::live(image, room),
             (Side::Proved, Call::WellFormed) => peer::well_formed(image),
-            (Side::Independent, Call::Request(request)) => lean::serve(image, request),
+            (Side::Independent, Call::Request(request)) => lean::serve(image, request, pairs),
             (Side::Independent, Call::Read(query)) => lean::read(image, *query),
             (Side::Independent, Call::Live) => lean::live(image, room),
             (Side::Independent, Call::WellFormed) => well_formed(lean::is_well_formed(image)),
@@ -113,10 +111,12 @@ fn well_formed(formed: bool) -> u64 {
     if formed { peer::WELL_FORMED } else { peer::NOT_WELL_FORMED }
 }
 
+#[inline(never)]
 fn sum(bytes: &[u8]) -> u32 {
     bytes.iter().map(|byte| u32::from(*byte)).sum()
 }
 
+#[inline(never)]
 fn sum_of_words(bytes: &[u8]) -> u64 {
     let word = |eight: &[u8]| u64::from_le_bytes(eight.try_into().expect("eight bytes"));
     bytes.chunks_exact(8).map(word).fold(0, u64::wrapping_add)
@@ -170,7 +170,7 @@ pub fn scenes(length: usize) -> Vec<Scene> {
     add("sync", &synchronising, Request::Sync(2));
 
     if length == 0 {
-        for (name, job) in [("job 1", 1), ("job 2", 2), ("job 3", 3), ("job 4", 4)] {
+        for (name, job) in [("job 1 refused", 1), ("job 2 refused", 2), ("job 3 refused", 3), ("job 4 refused", 4)] {
             add(name, &base, work(job, 1));
         }
     } else {
