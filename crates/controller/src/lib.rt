@@ -84,7 +84,7 @@ pub fn disconnect(s: &mut [u8], node: u16) -> Reply
     Reply::of(1)
 }
 
-// Gives mastership to a node that asks, or takes it from one that is lost.
+// Gives mastership to a node that asks, or frees it of a master that is lost or has reconnected.
 pub fn master(s: &mut [u8], node: u16) -> Reply
     ensures { λ r. ⌜ Claims (now (s .entry)) (master node) r (now (s .exit)) ⌝ }
 {

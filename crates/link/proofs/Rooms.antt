@@ -300,20 +300,20 @@ term-small t h = go (isLast (t .0)) refl
     go false e = omega (arith, leb-false 4294967295 (t .0) e)
 
 master-sized : (m : Mastership) (n : ℕ) (x : Connection) → n ≤ 8 → SizedMastership m → x .id < 4294967296 → SizedMastership (outside.master m n x .mastership)
-master-sized m n x k f i = go (x .connected) (eqb (m .master) 0) (isLast (m .term .0)) (eqb (m .master) n)
+master-sized m n x k f i = go (x .connected && eqb (m .master) 0) (isLast (m .term .0)) (eqb (m .master) n) (x .connected && eqb (x .id) (m .conn))
   where
-    go : (c z l b : Bool)
+    go : (z l b h : Bool)
         → SizedMastership
-        (outside.masteredIf c
         (outside.masteredIf z
         (outside.masteredIf l (outside.mastered 9 m) (outside.mastered 0 (record { master = n; term = nextTerm (m .term); conn = x .id })))
-        (outside.mastered 11 m))
-        (outside.masteredIf b (outside.mastered 0 (record { master = 0; term = m .term; conn = m .conn })) (outside.mastered 11 m)) .mastership)
-    go true true true b = f
-    go true true false b = record { master = omega arith; term = term-small (m .term) (f .term); conn = i }
-    go true false l b = f
-    go false z l true = record { master = omega arith; term = f .term; conn = f .conn }
-    go false z l false = f
+        (outside.masteredIf b
+        (outside.masteredIf h (outside.mastered 11 m) (outside.mastered 0 (record { master = 0; term = m .term; conn = m .conn })))
+        (outside.mastered 11 m)) .mastership)
+    go true true b h = f
+    go true false b h = record { master = omega arith; term = term-small (m .term) (f .term); conn = i }
+    go false l true true = f
+    go false l true false = record { master = omega arith; term = f .term; conn = f .conn }
+    go false l false h = f
 
 sync-small : (g : Configuration) (term : Term) (m r : Bool) → g .term .0 < 4294967296 → term .0 < 4294967296
     → outside.synchronise g term m r .configuration .term .0 < 4294967296

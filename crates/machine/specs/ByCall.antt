@@ -3,7 +3,7 @@
 use Prim.Native.Nat.{ℕ, suc, _+_, _≤_, _<_}
 use native.Mathlib.Omega.{arith}
 use mathlib.Core.List.{List, [], _∷_, _++_, map}
-use mathlib.Core.Bool.{Bool, true, false}
+use mathlib.Core.Bool.{Bool, true, false, _&&_}
 use mathlib.Core.Path.{_≡_, refl, sym, subst}
 use lib.Dec.{eqb, ltb, leb}
 use lib.ListN.{length}
@@ -171,21 +171,22 @@ module _ (s : State) (P : Reply → State → Type 0) where
     unfolding decide afters after
     master-of n =
         unless-of 2 (omega arith) (isNode n) _
-        (λ e. go e (nodeOf (s .net .connections) n .connected) (eqb (s .net .mastership .master) 0) (isLast (s .net .mastership .term .0)) refl (eqb (s .net .mastership .master) n))
+        (λ e. let m = s .net .mastership in let y = nodeOf (s .net .connections) n in
+        go e (y .connected && eqb (m .master) 0) (isLast (m .term .0)) refl (eqb (m .master) n) (y .connected && eqb (y .id) (m .conn)))
       where
-        go : isNode n ≡ true → (c z l : Bool) → isLast (s .net .mastership .term .0) ≡ l → (b : Bool)
+        go : isNode n ≡ true → (z l : Bool) → isLast (s .net .mastership .term .0) ≡ l → (b h : Bool)
             → (let m = s .net .mastership in
-            let x = outside.masteredIf c
-            (outside.masteredIf z
+            let x = outside.masteredIf z
             (outside.masteredIf l (outside.mastered 9 m) (outside.mastered 0 (record { master = n; term = nextTerm (m .term); conn = nodeOf (s .net .connections) n .id })))
-            (outside.mastered 11 m))
-            (outside.masteredIf b (outside.mastered 0 (record { master = 0; term = m .term; conn = m .conn })) (outside.mastered 11 m)) in
+            (outside.masteredIf b
+            (outside.masteredIf h (outside.mastered 11 m) (outside.mastered 0 (record { master = 0; term = m .term; conn = m .conn })))
+            (outside.mastered 11 m)) in
             Of (answers (x .answer) (mastership (x .mastership) ∷ [])))
-        go e true true true f b = refuses 9 (omega arith)
-        go e true true false f b = k .elect n (node-high n e) _ (one-more (s .net .mastership .term) f)
-        go e true false l f b = refuses 11 (omega arith)
-        go e false z l f true = k .resign
-        go e false z l f false = refuses 11 (omega arith)
+        go e true true f b h = refuses 9 (omega arith)
+        go e true false f b h = k .elect n (node-high n e) _ (one-more (s .net .mastership .term) f)
+        go e false l f true true = refuses 11 (omega arith)
+        go e false l f true false = k .resign
+        go e false l f false h = refuses 11 (omega arith)
 
     sync-of : (n : ℕ) → Of (decide s (sync n))
     unfolding decide afters after

@@ -17,7 +17,7 @@ fn master_by(master: u8, term: Term, conn: u32, n: u8, id: u32, connected: bool)
     rules::master(m, n, x)
 }
 
-// Node n, whose connection has this id, asks for mastership or is found lost.
+// Node n, whose connection has this id, asks for mastership, or is found lost or reconnected.
 pub fn master(m: &mut Mastership, n: u8, id: u32, connected: bool) -> u8
     ensures { λ r. ⌜ Masters (now (m .entry)) n id connected r (now (m .exit)) ⌝ }
 {

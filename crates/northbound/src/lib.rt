@@ -94,7 +94,7 @@ pub extern "C" fn makowist_disconnect(image: &mut [u8], node: u16) -> u64
     pack(controller::disconnect(image, node))
 }
 
-// Gives mastership to a node that asks, or takes it from one that is lost.
+// Gives mastership to a node that asks, or frees it of a master that is lost or has reconnected.
 #[no_mangle]
 pub extern "C" fn makowist_master(image: &mut [u8], node: u16) -> u64
     ensures { λ r. ⌜ Claims (now (image .entry)) (master node) r (now (image .exit)) ⌝ }

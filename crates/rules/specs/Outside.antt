@@ -83,15 +83,15 @@ masteredIf false a b = b
 abbrev pub mastered : ℕ → Mastership → Mastered
 mastered a m = record { answer = a; mastership = m }
 
--- n connected: where there is no master, n at the next term and at its connection's id, else 11;
--- n not connected: where n is master, no master and the rest kept, else 11
+-- no master and n connected: n at the next term and at its connection's id, or 9 at the last term;
+-- n master, and not connected or its id differs from conn (order 1): no master and the rest kept; else 11
 abbrev pub master : Mastership → ℕ → Connection → Mastered
 master m n x =
-    masteredIf (x .connected)
-    (masteredIf (eqb (m .master) 0)
+    masteredIf (x .connected && eqb (m .master) 0)
     (masteredIf (isLast (m .term .0)) (mastered 9 m) (mastered 0 (record { master = n; term = nextTerm (m .term); conn = x .id })))
+    (masteredIf (eqb (m .master) n)
+    (masteredIf (x .connected && eqb (x .id) (m .conn)) (mastered 11 m) (mastered 0 (record { master = 0; term = m .term; conn = m .conn })))
     (mastered 11 m))
-    (masteredIf (eqb (m .master) n) (mastered 0 (record { master = 0; term = m .term; conn = m .conn })) (mastered 11 m))
 
 -- ---- synchronise by a node: whether it is master, and whether it reaches the target
 abbrev pub synchronisedIf : Bool → Synchronised → Synchronised → Synchronised

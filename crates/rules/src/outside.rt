@@ -134,34 +134,35 @@ pub fn disconnect(x: Connection) -> Connected
     }
 }
 
-// What mastership of node n, whose connection is x, answers, and the record after it.
+// What mastership of node n, whose connection is x, answers, and the record after it: n where there is no master and n is
+// connected; no master where it is n, lost or back with another id than conn.
 pub fn master(m: Mastership, n: u8, x: Connection) -> Mastered
     ensures { λ r. ⌜ Masters m n x r ⌝ }
 {
     let mut next = m;
-    if x.connected {
-        if m.master == 0 {
-            let term = m.term;
-            if term.last() {
-                return Mastered {
-                    answer: 9,
-                    mastership: m,
-                };
-            }
-            next.master = n;
-            next.term = term.next();
-            next.conn = x.id;
+    if x.connected & (m.master == 0) {
+        let term = m.term;
+        if term.last() {
             return Mastered {
-                answer: 0,
-                mastership: next,
+                answer: 9,
+                mastership: m,
             };
         }
+        next.master = n;
+        next.term = term.next();
+        next.conn = x.id;
         return Mastered {
-            answer: 11,
-            mastership: m,
+            answer: 0,
+            mastership: next,
         };
     }
     if m.master == n {
+        if x.connected & (x.id == m.conn) {
+            return Mastered {
+                answer: 11,
+                mastership: m,
+            };
+        }
         next.master = 0;
         return Mastered {
             answer: 0,
