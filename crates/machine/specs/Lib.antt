@@ -14,3 +14,4 @@ pub mod Entries
 pub mod Kept
 pub mod Sessions
 pub mod Traps
+pub mod Reconnected
