@@ -421,7 +421,8 @@ impl State {
         Ok(())
     }
 
-    /// Makes a connected node the master where there is none; frees the mastership of a master that is not connected.
+    /// Makes a connected node the master where there is none; frees the mastership of a master that is not connected, or
+    /// that has reconnected.
     pub fn master(&mut self, node: u16) -> Result<(), Refusal> {
         let node = Node::new(node).ok_or(Refusal::OutOfRange)?;
         let connection = self.connection(node);
@@ -432,12 +433,18 @@ impl State {
                 self.mastership.conn = connection.id;
                 Ok(())
             }
-            Some(master) if master == node && !connection.connected => {
+            Some(master) if master == node && (!connection.connected || self.reconnected(node)) => {
                 self.mastership.master = None;
                 Ok(())
             }
             _ => Err(Refusal::NoRule),
         }
+    }
+
+    /// Whether the node is master and connected, but not by the connection that mastership names (order 1).
+    pub fn reconnected(&self, node: Node) -> bool {
+        let connection = self.connection(node);
+        self.mastership.master == Some(node) && connection.connected && connection.id != self.mastership.conn
     }
 
     /// Begins, or ends, the synchronising of the target with the applied values in a new term.

@@ -1,6 +1,6 @@
 //! Wrong copies of one rule, to show that the comparison finds them. Only the comparison asks for one.
 
-use crate::controller::{ConfigurationState, Event, Number, Phase, Refusal, Stage, State, Status};
+use crate::controller::{ConfigurationState, Event, Number, Phase, Refusal, Stage, State, Status, Term};
 use crate::jobs::Rule;
 use crate::northbound::{act, Answer, Request, Served};
 use crate::reads::Query;
@@ -23,6 +23,14 @@ pub enum Fault {
     StaleTerm,
     /// A push lays the values on the target alone.
     AppliedForgotten,
+    /// A master that has reconnected is refused.
+    ReconnectedRefused,
+    /// A master that has reconnected is freed, and conn is set to 0.
+    ReconnectedForgetsConn,
+    /// A master that has reconnected is freed, and the term is set to 0.
+    ReconnectedForgetsTerm,
+    /// A master that is connected with id equal to conn is freed.
+    FreedAtConn,
     /// A read of the applied values shows the target's.
     AppliedReadFromTarget,
     /// A read of c.ordinal shows r.ordinal.
@@ -37,7 +45,8 @@ impl Fault {
         all.extend(two_stores().map(Fault::AlwaysCut));
         all.extend(two_stores().map(Fault::Silent));
         all.extend([Fault::AbortedOnceBegun, Fault::RestInFlight, Fault::StaleTerm, Fault::AppliedForgotten]);
-        all.extend([Fault::AppliedReadFromTarget, Fault::OrdinalReadFromRollback]);
+        all.extend([Fault::ReconnectedRefused, Fault::ReconnectedForgetsConn, Fault::ReconnectedForgetsTerm]);
+        all.extend([Fault::FreedAtConn, Fault::AppliedReadFromTarget, Fault::OrdinalReadFromRollback]);
         all
     }
 
@@ -73,6 +82,19 @@ impl Fault {
                 state.applied.values = before.applied.values;
                 served
             }
+            Fault::ReconnectedRefused if request.is_of_reconnected(&before) => {
+                *state = before;
+                Served { reply: Err(Refusal::NoRule), rule: None }
+            }
+            Fault::ReconnectedForgetsConn if request.is_of_reconnected(&before) => {
+                state.mastership.conn = 0;
+                served
+            }
+            Fault::ReconnectedForgetsTerm if request.is_of_reconnected(&before) => {
+                state.mastership.term = Term(0);
+                served
+            }
+            Fault::FreedAtConn if served.reply == Err(Refusal::NoRule) => freed_at_conn(state, request, served),
             _ => served,
         }
     }
@@ -131,4 +153,14 @@ fn pushed_on_stale_term(state: &mut State, request: &Request) -> Served {
     let served = act(state, request);
     state.configuration = configuration;
     served
+}
+
+fn freed_at_conn(state: &mut State, request: &Request, served: Served) -> Served {
+    match (request, state.mastership.master) {
+        (Request::Master(node), Some(master)) if *node == u16::from(master.number()) => {
+            state.mastership.master = None;
+            Served { reply: Ok(Answer::Nothing), rule: None }
+        }
+        _ => served,
+    }
 }

@@ -217,7 +217,9 @@ pub fn master(image: &mut [u8], node: u16) -> u64 {
             image[at::MASTERSHIP] = node.number();
             put_u32(image, at::MASTERSHIP + 1, term);
             put_u32(image, at::MASTERSHIP + 5, connection.id);
-        } else if master == node.number() && !connection.connected {
+        } else if master == node.number()
+            && (!connection.connected || connection.id != u32_at(image, at::MASTERSHIP + 5))
+        {
             image[at::MASTERSHIP] = 0;
         } else {
             return Err(Refusal::NoRule);

@@ -1,6 +1,6 @@
 //! The C interface's calls over the independent controller: bytes in, packed reply and bytes out.
 
-use crate::controller::{Event, Number, Refusal, State};
+use crate::controller::{Event, Node, Number, Refusal, State};
 use crate::image;
 use crate::jobs::Rule;
 
@@ -18,6 +18,13 @@ pub enum Request {
     Master(u16),
     Sync(u16),
     Work { node: u16, job: u16, number: u16, outcome: u16, cut: u16 },
+}
+
+impl Request {
+    /// Whether it asks mastership for a master that has reconnected.
+    pub fn is_of_reconnected(&self, state: &State) -> bool {
+        matches!(*self, Request::Master(node) if Node::new(node).is_some_and(|node| state.reconnected(node)))
+    }
 }
 
 /// What a call answers: the event, or an append's number, or neither.

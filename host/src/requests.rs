@@ -58,8 +58,12 @@ fn line(state: &State, random: &mut Random) -> Option<Request> {
     };
     let connection = state.connections[usize::from(master.number()) - 1];
     let node = u16::from(master.number());
-    if !connection.connected || connection.id != state.mastership.conn {
-        return Some(if connection.connected { Request::Disconnect(node) } else { Request::Master(node) });
+    if !connection.connected {
+        let early = state.target.running && random.once_in(3);
+        return Some(if early { Request::Connect(node) } else { Request::Master(node) });
+    }
+    if state.reconnected(master) {
+        return Some(if random.once_in(4) { Request::Disconnect(node) } else { Request::Master(node) });
     }
     (state.configuration.term < state.mastership.term || state.mastership.term == Term(0)).then_some(Request::Sync(node))
 }

@@ -1,6 +1,6 @@
 //! The paper's own sessions, P1 to P12 and the stepper's example, on the independent controller alone.
 
-use makowist_host::controller::{Number, Ordinal, Refusal, State, Status};
+use makowist_host::controller::{Mastership, Number, Ordinal, Refusal, State, Status, Term};
 use makowist_host::jobs::Worked;
 use makowist_host::lines::{read, stepped};
 
@@ -209,6 +209,29 @@ fn the_live_list_hops_to_r_index() {
     assert_eq!(state.live().collect::<Vec<_>>(), [Number(3), Number(2), Number(1)]);
     commit_rollback(&mut state, 3);
     assert_eq!(state.live().collect::<Vec<_>>(), [Number(2), Number(1)]);
+}
+
+/// Order 1: the line drops while change 1 is being applied, and the node is back before anyone else asks.
+#[test]
+fn a_master_that_reconnected_is_freed() {
+    let mut state = with_open_line();
+    state.append(&[(3, 7)]).unwrap();
+    commit(&mut state, 1);
+    assert!(work(&mut state, 2, 1, ACCEPTED).reply.is_ok());
+    assert_eq!(state.master(1), Err(Refusal::NoRule));
+    state.disconnect(1).unwrap();
+    state.connect(1).unwrap();
+    assert_eq!(work(&mut state, 2, 1, ACCEPTED).reply, Err(Refusal::LineNotOpen));
+    let stuck = state.clone();
+    assert_eq!(state.master(1), Ok(()));
+    assert_eq!(state, State { mastership: Mastership { master: None, ..stuck.mastership }, ..stuck });
+    assert_eq!(state.master(1), Ok(()));
+    assert_eq!((state.mastership.term, state.mastership.conn), (Term(2), 2));
+    state.sync(1).unwrap();
+    state.sync(1).unwrap();
+    assert_eq!(told(&mut state, 2, 1, ACCEPTED), (vec![Status::Complete], Refusal::NoRule));
+    assert_eq!(state.target.values[3], 7);
+    assert_eq!(state.master(1), Err(Refusal::NoRule));
 }
 
 const EXAMPLE: &str = "\

@@ -15,6 +15,8 @@ pub struct Counts {
     answers: [u64; Refusal::COUNT + 1],
     /// By rule: whole, then cut.
     rules: [[u64; 2]; Rule::ALL.len()],
+    /// Masters that had reconnected and were freed.
+    pub freed: u64,
     /// By what is read: how often each table or field was shown.
     shown: [[u64; TRANSACTION_FIELDS as usize]; KINDS.len()],
     /// By what is read: how often each refusal was answered.
@@ -81,6 +83,7 @@ impl Counts {
         for (answer, count) in self.answers.iter().enumerate() {
             println!("{count:>12}  answer {answer}");
         }
+        println!("{:>12}  masters that had reconnected freed", self.freed);
         let unseen_reads = self.told_reads();
         println!("{:>12}  {:>12}  rule", "whole", "cut");
         for (rule, [whole, cut]) in Rule::ALL.iter().zip(&self.rules) {
@@ -91,6 +94,6 @@ impl Counts {
         let rules = self.rules.iter().filter(|[whole, cut]| whole + cut > 0).count();
         let refusals = self.answers[1..].iter().filter(|count| **count > 0).count();
         println!("rules seen: {rules} of {}; refusals seen: {refusals} of {}", Rule::ALL.len(), Refusal::COUNT);
-        unseen_answers + unseen_rules + unseen_reads + usize::from(self.states == 0)
+        unseen_answers + unseen_rules + unseen_reads + usize::from(self.states == 0) + usize::from(self.freed == 0)
     }
 }

@@ -93,11 +93,14 @@ impl Desk {
         Ok(Some((after, after_bytes)))
     }
 
-    fn act(&self, state: &mut State, request: &Request) -> Served {
-        match self.fault {
+    fn act(&mut self, state: &mut State, request: &Request) -> Served {
+        let reconnected = request.is_of_reconnected(state);
+        let served = match self.fault {
             None => northbound::act(state, request),
             Some(fault) => fault.act(state, request),
-        }
+        };
+        self.counts.freed += u64::from(reconnected && served.reply.is_ok());
+        served
     }
 
     /// As `call_from`, from bytes that have been lent and may be no image; `state` is what they decode to.
