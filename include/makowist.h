@@ -134,7 +134,9 @@ uint64_t makowist_connect(uint8_t *image, size_t length, uint16_t node);
 uint64_t makowist_disconnect(uint8_t *image, size_t length, uint16_t node);
 
 /* Where there is no master and the node is connected, it becomes master in the next term; where it is master and not
- * connected, there is no master any more. Refuses MAKOWIST_OUT_OF_RANGE, MAKOWIST_NO_RULE, MAKOWIST_COUNTER_AT_LIMIT. */
+ * connected, or connected again under another id than conn, there is no master any more, and a second call makes it master
+ * anew. Refuses MAKOWIST_OUT_OF_RANGE, MAKOWIST_NO_RULE, MAKOWIST_COUNTER_AT_LIMIT; a master that is connected under the id
+ * that conn has is MAKOWIST_NO_RULE. */
 uint64_t makowist_master(uint8_t *image, size_t length, uint16_t node);
 
 /* Brings the applied values to the target in a new term, in two calls: the first begins, the second is answered after
