@@ -2,7 +2,10 @@
 // Program and host). It reads and writes by blocks and keeps one image, one block, one buffer of answers and the reader of
 // one line, whatever the input's length and its lines' length.
 ghost use Prim.Native.Nat.{_≤_};
-ghost use lib.ListN.{length};
+ghost use lib.ListN.{length, take};
+ghost use Rattle.controller.specs.Bytes.{appendOf};
+ghost use Rattle.controller.specs.Claims.{Claims};
+ghost use Rattle.stepper.specs.Answers.{Answers};
 use kinds::Reply;
 use libc::STDIN_FILENO;
 use libc::STDOUT_FILENO;
@@ -24,6 +27,7 @@ struct Turn {
 
 fn append(image: &mut [u8], pairs: [u8; 20], n: usize) -> Reply
     requires { ⌜ n ≤ 20 ⌝ }
+    ensures { λ r. ⌜ Claims (now (image .entry)) (appendOf (take n pairs)) r (now (image .exit)) ⌝ }
 {
     controller::append(image, &pairs[..n])
 }
@@ -31,6 +35,7 @@ fn append(image: &mut [u8], pairs: [u8; 20], n: usize) -> Reply
 // The call that a line says, made on the image; an unreadable line is refused with 2.
 fn answer(image: &mut [u8], line: Line) -> Reply
     requires { ⌜ line .length ≤ 20 ⌝ }
+    ensures { λ r. ⌜ Answers (now (image .entry)) line r (now (image .exit)) ⌝ }
 {
     let call = line.call;
     match call {
