@@ -174,11 +174,10 @@ fn end_last(image: &mut [u8], out: &mut [u8], s: Session) -> usize {
 }
 
 // All that waits is written, and then the closing line.
-fn close(image: &[u8], out: &mut [u8], used: usize)
-    requires { ⌜ 4883 ≤ length (now image) ⌝ }
-{
-    let c = image::load_head(image, 4612);
-    let a = image::load_head(image, 4686);
+fn close(image: &[u8], out: &mut [u8], used: usize) {
+    let heads = controller::both_heads(image);
+    let c = heads.committed;
+    let a = heads.applied;
     let revision = c.revision;
     let ordinal = c.ordinal;
     let applied = a.revision;

@@ -5,69 +5,65 @@ use Rattle.stepper.proofs.close.Statement.{statement}
 use Rattle.stepper.proofs.close.Tie as tie
 use Rattle.stepper.proofs.close.Reads as reads
 use Rattle.stepper.proofs.close.Lts as lts
-use Rattle.image.proofs.load_head.Reads as load-head-reads
+use Rattle.controller.proofs.both_heads.Reads as both-heads-reads
 use Rattle.io.proofs.write_all.Reads as write-all-reads
 use Rattle.kinds.proofs.Number.get.Reads as Number-get-reads
 use Rattle.kinds.proofs.Ordinal.get.Reads as Ordinal-get-reads
 use Rattle.lines.proofs.write_closing.Reads as write-closing-reads
 
--- src/main.rt:140:9
-load-head-requires : tie.Need-load-head-requires
-load-head-requires c κs = search needs
+-- src/main.rt:178:9
+both-heads-requires : tie.Need-both-heads-requires
+both-heads-requires c κs = search needs
 
--- src/main.rt:141:9
-load-head-requires-2 : tie.Need-load-head-requires-2
-load-head-requires-2 c κs = search needs
-
--- src/main.rt:147:38
+-- src/main.rt:186:38
 slice-reshare-prefix-write-all : tie.Need-slice-reshare-prefix-write-all
 slice-reshare-prefix-write-all c = search needs
 
--- src/main.rt:147:38
+-- src/main.rt:186:38
 slice-aggregate-write-all : tie.Need-slice-aggregate-write-all
 slice-aggregate-write-all c = sym (length-take-le _ _ (search needs))
 
--- src/main.rt:147:9
+-- src/main.rt:186:9
 write-all-requires : tie.Need-write-all-requires
 write-all-requires c κs = search needs
 
--- src/main.rt:149:39
+-- src/main.rt:190:9
 get-requires : tie.Need-get-requires
 get-requires c κs = search needs
 
--- src/main.rt:149:55
+-- src/main.rt:191:9
 get-requires-2 : tie.Need-get-requires-2
 get-requires-2 c κs = search needs
 
--- src/main.rt:149:70
+-- src/main.rt:192:9
 get-requires-3 : tie.Need-get-requires-3
 get-requires-3 c κs = search needs
 
--- src/main.rt:149:85
+-- src/main.rt:193:9
 get-requires-4 : tie.Need-get-requires-4
 get-requires-4 c κs = search needs
 
--- src/main.rt:149:9
+-- src/main.rt:188:9
 write-closing-requires : tie.Need-write-closing-requires
 write-closing-requires c κs = search needs
 
--- src/main.rt:150:34
+-- src/main.rt:195:34
 slice-reshare-prefix-write-all-2 : tie.Need-slice-reshare-prefix-write-all-2
 slice-reshare-prefix-write-all-2 c = search needs
 
--- src/main.rt:150:34
+-- src/main.rt:195:34
 slice-aggregate-write-all-2 : tie.Need-slice-aggregate-write-all-2
 slice-aggregate-write-all-2 c = sym (length-take-le _ _ (search needs))
 
--- src/main.rt:150:5
+-- src/main.rt:195:5
 write-all-requires-2 : tie.Need-write-all-requires-2
 write-all-requires-2 c κs = search needs
 
--- src/main.rt:137:1
+-- src/main.rt:177:1
 same-length : tie.Need-same-length
 same-length c = search needs
 
--- src/main.rt:137:1
+-- src/main.rt:177:1
 returns : tie.Need-returns
 returns c = search needs
 
@@ -75,8 +71,7 @@ pub close-spec : {M : Type 1} → statement M
 close-spec =
     tie.close
     (tie.spec
-    load-head-requires
-    load-head-requires-2
+    both-heads-requires
     slice-reshare-prefix-write-all
     slice-aggregate-write-all
     write-all-requires
