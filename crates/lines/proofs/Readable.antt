@@ -95,12 +95,14 @@ same-step : (s : State) (c c′ : machine.Call) → decide s c ≡ decide s c′
 unfolding step outcome
 same-step s c c′ e = rw e
 
+pub decides-five : (s : State) (ps : List Pair) → decide s (machine.append (take 5 ps)) ≡ decide s (machine.append ps)
+decides-five s [] = refl
+decides-five s (a ∷ []) = refl
+decides-five s (a ∷ b ∷ []) = refl
+decides-five s (a ∷ b ∷ d ∷ []) = refl
+decides-five s (a ∷ b ∷ d ∷ e ∷ []) = refl
+decides-five s (a ∷ b ∷ d ∷ e ∷ f ∷ ps) =
+    refused-three s (a ∷ b ∷ d ∷ e ∷ f ∷ []) (too-many a b d e f []) ∙ sym (refused-three s (a ∷ b ∷ d ∷ e ∷ f ∷ ps) (too-many a b d e f ps))
+
 pub first-five : (s : State) (ps : List Pair) → step s (machine.append (take 5 ps)) ≡ step s (machine.append ps)
-first-five s [] = refl
-first-five s (a ∷ []) = refl
-first-five s (a ∷ b ∷ []) = refl
-first-five s (a ∷ b ∷ d ∷ []) = refl
-first-five s (a ∷ b ∷ d ∷ e ∷ []) = refl
-first-five s (a ∷ b ∷ d ∷ e ∷ f ∷ ps) =
-    same-step s (machine.append (a ∷ b ∷ d ∷ e ∷ f ∷ [])) (machine.append (a ∷ b ∷ d ∷ e ∷ f ∷ ps))
-    (refused-three s (a ∷ b ∷ d ∷ e ∷ f ∷ []) (too-many a b d e f []) ∙ sym (refused-three s (a ∷ b ∷ d ∷ e ∷ f ∷ ps) (too-many a b d e f ps)))
+first-five s ps = same-step s (machine.append (take 5 ps)) (machine.append ps) (decides-five s ps)
