@@ -2,10 +2,12 @@
 // Program and host). It reads and writes by blocks and keeps one image, one block, one buffer of answers and the reader of
 // one line, whatever the input's length and its lines' length.
 ghost use Prim.Native.Nat.{_≤_};
-ghost use lib.ListN.{length, take};
+ghost use lib.ListN.{take};
+ghost use Rattle.lines.specs.Reading.{finished};
 ghost use Rattle.controller.specs.Bytes.{appendOf};
 ghost use Rattle.controller.specs.Claims.{Claims};
 ghost use Rattle.stepper.specs.Answers.{Answers};
+ghost use Rattle.stepper.specs.Ended.{MakesRoom, Ends};
 use kinds::Reply;
 use libc::STDIN_FILENO;
 use libc::STDOUT_FILENO;
@@ -63,7 +65,7 @@ fn answer(image: &mut [u8], line: Line) -> Reply
 
 // Writes the answers that wait, if another might not fit behind them; answers how many bytes wait.
 fn room(out: &[u8], used: usize) -> usize
-    ensures { λ r. ⌜ r ≤ length (now (out .entry)) ⌝ }
+    ensures { λ r. ⌜ MakesRoom (now (out .entry)) used r ⌝ }
 {
     if out.len() < used {
         return 0;
@@ -83,7 +85,9 @@ fn flush(out: &[u8], used: usize) {
 }
 
 // A line has ended: its call is made, and its answer put behind those that wait.
-fn end_line(image: &mut [u8], out: &mut [u8], s: Session) -> usize {
+fn end_line(image: &mut [u8], out: &mut [u8], s: Session) -> usize
+    ensures { λ r. ⌜ Ends (now (image .entry)) (finished (s .line)) (now (out .entry)) (s .used) r (now (image .exit)) (now (out .exit)) ⌝ }
+{
     let line = lines::finish(s.line);
     let reply = answer(image, line);
     let at = room(out, s.used);

@@ -1,3 +1,4 @@
+use Rattle.stepper.proofs.Waiting.{ended}
 use Rattle.lines.proofs.Readable.{within}
 use borrow.Author.Needs.{needs}
 use Rattle.stepper.proofs.end_line.Statement.{statement}
@@ -51,7 +52,7 @@ same-length-2 c = search needs
 
 -- src/main.rt:66:1
 returns : tie.Need-returns
-returns c = search needs
+returns c = ended _ _ (c .before .before .before .before .before .before .before .before .before .before .finish .result) _ _ _ _ _ _ _ (c .before .before .before .before .before .before .before .before .before .before .finish .ensures) (c .before .before .before .before .before .before .before .before .answer .ensures) (c .before .before .before .before .room .ensures) (c .before .before .write-reply .ensures)
 
 pub end-line-spec : {M : Type 1} → statement M
 end-line-spec =
