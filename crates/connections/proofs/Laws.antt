@@ -3,7 +3,7 @@
 use Prim.Native.Nat.{ℕ, zero, suc, _≤_, _<_, _-_}
 use native.Mathlib.Nat.{not-suc-le-zero, le-of-suc-le-suc}
 use mathlib.Core.Path.{_≡_, refl, sym, _∙_, ap, subst}
-use mathlib.Core.Bool.{Bool, true, false, _&&_, true≢false}
+use mathlib.Core.Bool.{Bool, true, false, _&&_, true≢false, cond}
 use mathlib.Core.List.{List, [], _∷_, map}
 use native.Mathlib.Omega.{arith}
 use lib.Dec.{eqb, leb}
@@ -14,7 +14,7 @@ use Rattle.rules.specs.declared.Connected.{Connected}
 use Rattle.rules.specs.Outside.{off}
 use Rattle.machine.specs.State.{isNode, nodeOf, putNode, never}
 use Rattle.connections.specs.declared.Place.{Place}
-use Rattle.connections.specs.Table.{placeIf, placeOf, answerIf, tableIf, answerAt, tableAt, Changes, Stops}
+use Rattle.connections.specs.Table.{placeOf, answerAt, tableAt, Changes, Stops}
 
 both-left : (a b : Bool) → (a && b) ≡ true → a ≡ true
 both-left true b e = refl
@@ -44,17 +44,17 @@ put-at cs (suc k) x e = ap (λ (j : ℕ). set cs j x) (one-less k)
 
 -- ---- the promise, by the two tests that `placeOf` makes
 abbrev placed : Bool → Bool → ℕ → Place
-placed eight node n = placeIf eight (placeIf node (record { answer = 0; at = n - 1 }) (record { answer = 2; at = 0 })) (record { answer = 1; at = 0 })
+placed eight node n = cond eight (cond node (record { answer = 0; at = n - 1 }) (record { answer = 2; at = 0 })) (record { answer = 1; at = 0 })
 
 refused-by : (eight node : Bool) (n a : ℕ) (cs t : List Connection) → eqb (placed eight node n .answer) 0 ≡ false
-    → (placed eight node n .answer ≡ answerIf eight (answerIf node a 2) 1) × (cs ≡ tableIf eight (tableIf node t cs) cs)
+    → (placed eight node n .answer ≡ cond eight (cond node a 2) 1) × (cs ≡ cond eight (cond node t cs) cs)
 refused-by true true n a cs t e = absurd (true≢false e)
 refused-by true false n a cs t e = (refl, refl)
 refused-by false node n a cs t e = (refl, refl)
 
 stored-by : (eight node : Bool) (f : Connection → Connected) (cs : List Connection) (n : ℕ) → isNode n ≡ node → eqb (placed eight node n .answer) 0 ≡ true
-    → (f (getD cs (placed eight node n .at) never) .answer ≡ answerIf eight (answerIf node (f (nodeOf cs n) .answer) 2) 1)
-    × (set cs (placed eight node n .at) (f (getD cs (placed eight node n .at) never) .connection) ≡ tableIf eight (tableIf node (putNode cs n (f (nodeOf cs n) .connection)) cs) cs)
+    → (f (getD cs (placed eight node n .at) never) .answer ≡ cond eight (cond node (f (nodeOf cs n) .answer) 2) 1)
+    × (set cs (placed eight node n .at) (f (getD cs (placed eight node n .at) never) .connection) ≡ cond eight (cond node (putNode cs n (f (nodeOf cs n) .connection)) cs) cs)
 stored-by true true f cs n b e = (
   ap (λ (x : Connection). f x .answer) (node-at cs n b),
   put-at cs n (f (getD cs (n - 1) never) .connection) b ∙ ap (λ (x : Connection). putNode cs n (f x .connection)) (node-at cs n b),
@@ -78,10 +78,10 @@ stored f cs n p r e ok er =
 
 -- ---- stop
 pub stop-refused : (cs : List Connection) → eqb (length cs) 8 ≡ false → Stops cs 1 cs
-stop-refused cs e = (sym (ap (λ (y : Bool). answerIf y 0 1) e), sym (ap (λ (y : Bool). tableIf y (map off cs) cs) e))
+stop-refused cs e = (sym (ap (λ (y : Bool). cond y 0 1) e), sym (ap (λ (y : Bool). cond y (map off cs) cs) e))
 
 pub stopped : (cs zs : List Connection) → eqb (length cs) 8 ≡ true → zs ≡ map off cs → Stops cs 0 zs
-stopped cs zs e all = (sym (ap (λ (y : Bool). answerIf y 0 1) e), all ∙ sym (ap (λ (y : Bool). tableIf y (map off cs) cs) e))
+stopped cs zs e all = (sym (ap (λ (y : Bool). cond y 0 1) e), all ∙ sym (ap (λ (y : Bool). cond y (map off cs) cs) e))
 
 -- the table with its first i records disconnected
 pub cleared : ℕ → List Connection → List Connection
@@ -113,7 +113,7 @@ cleared-all (y ∷ ys) = ap (λ (zs : List Connection). off y ∷ zs) (cleared-a
 -- ---- a table of eight: the promise is the answer and the table themselves
 pub of-eight : (f : Connection → Connected) (cs : List Connection) (n r : ℕ) (zs : List Connection) → length cs ≡ 8 → Changes f cs n r zs → (r ≡ answerAt f cs n) × (zs ≡ tableAt f cs n)
 of-eight f cs n r zs e p =
-    (p .0 ∙ ap (λ (y : Bool). answerIf y (answerAt f cs n) 1) (eq-eqb _ _ e), p .1 ∙ ap (λ (y : Bool). tableIf y (tableAt f cs n) cs) (eq-eqb _ _ e))
+    (p .0 ∙ ap (λ (y : Bool). cond y (answerAt f cs n) 1) (eq-eqb _ _ e), p .1 ∙ ap (λ (y : Bool). cond y (tableAt f cs n) cs) (eq-eqb _ _ e))
 
 pub stops-eight : (cs : List Connection) (r : ℕ) (zs : List Connection) → length cs ≡ 8 → Stops cs r zs → zs ≡ map off cs
-stops-eight cs r zs e p = p .1 ∙ ap (λ (y : Bool). tableIf y (map off cs) cs) (eq-eqb _ _ e)
+stops-eight cs r zs e p = p .1 ∙ ap (λ (y : Bool). cond y (map off cs) cs) (eq-eqb _ _ e)

@@ -1,7 +1,7 @@
 -- What the code loads is what the view shows, so what its rules decide is what the machine decides. Assumes nothing.
 use Prim.Native.Nat.{ℕ, _-_, _≤_, _<_}
 use mathlib.Core.Path.{_≡_, refl, ap, ap₂, sym, _∙_}
-use mathlib.Core.Bool.{Bool, true, false, _||_}
+use mathlib.Core.Bool.{Bool, true, false, _||_, cond}
 use mathlib.Core.List.{List, [], _∷_}
 use native.Mathlib.Nat.{add-assoc}
 use native.Mathlib.Omega.{arith}
@@ -17,7 +17,7 @@ use Rattle.kinds.specs.declared.Target.{Target}
 use Rattle.kinds.specs.declared.Configuration.{Configuration}
 use Rattle.kinds.specs.declared.Status.the-variants.{None, Pending, InProgress, Complete, Aborted, Canceled, Failed}
 use Rattle.kinds.specs.Numbers.{num}
-use Rattle.kinds.specs.Statuses.{done, statusIf, statusOf}
+use Rattle.kinds.specs.Statuses.{done, statusOf}
 use Rattle.fields.specs.Field.{field, fieldsAt}
 use Rattle.rules.specs.declared.Plan.{Plan}
 use Rattle.rules.specs.AtRest.{atRest}
@@ -103,7 +103,7 @@ rest-some l h i t r w e p n q s =
     s ∙ ap₂ (λ (x : Head) (u : Transaction). atRest x (u .change .commit) (u .rollback .commit)) e (q ∙ sym (entry-of l i a b)) ∙ at-index l i k
 
 -- ---- settled
-late : (a b d : Bool) → done (statusIf a Complete (statusIf b Aborted (statusIf d Canceled Failed))) ≡ true
+late : (a b d : Bool) → done (cond a Complete (cond b Aborted (cond d Canceled Failed))) ≡ true
 late true b d = refl
 late false true d = refl
 late false false true = refl
@@ -115,7 +115,7 @@ unfolding statusOf
 done-code n = go (eqb n 0) refl (eqb n 1) refl (eqb n 2) refl
   where
     go : (a : Bool) → eqb n 0 ≡ a → (b : Bool) → eqb n 1 ≡ b → (d : Bool) → eqb n 2 ≡ d
-        → done (statusIf a None (statusIf b Pending (statusIf d InProgress (statusIf (eqb n 3) Complete (statusIf (eqb n 4) Aborted (statusIf (eqb n 5) Canceled Failed)))))) ≡ leb 3 n
+        → done (cond a None (cond b Pending (cond d InProgress (cond (eqb n 3) Complete (cond (eqb n 4) Aborted (cond (eqb n 5) Canceled Failed)))))) ≡ leb 3 n
     go true p b q d r = let e : n < 3 = omega (arith, eqb-true n 0 p) in sym (lt-leb _ _ e)
     go false p true q d r = let e : n < 3 = omega (arith, eqb-true n 1 q) in sym (lt-leb _ _ e)
     go false p false q true r = let e : n < 3 = omega (arith, eqb-true n 2 r) in sym (lt-leb _ _ e)

@@ -1,7 +1,7 @@
 -- A plan's stores as the code makes them, over variables: each row after the one before it. Assumes nothing.
 use Prim.Native.Nat.{ℕ, _+_, _*_}
 use mathlib.Core.Path.{_≡_, refl, ap, sym, _∙_}
-use mathlib.Core.Bool.{Bool, true, false}
+use mathlib.Core.Bool.{Bool, true, false, cond}
 use mathlib.Core.List.{List, [], _∷_, _++_}
 use lib.Dec.{ltb}
 use lib.ListN.{getD}
@@ -18,7 +18,7 @@ use Rattle.machine.specs.Stores.{Table, ofCommitted, ofApplied, ofTarget, Store
 use Rattle.machine.specs.Rows.{layOne, overlay, laid, changeRow, headRow, thenRow, rowsBy, rowsOf}
 use Rattle.image.specs.Layout.{valuesAt}
 use Rattle.image.specs.Records.{putHeadAt}
-use Rattle.image.specs.View.{writeIf, write, written}
+use Rattle.image.specs.View.{write, written}
 
 pub written-append : (l : List ℕ) (es fs : List Store) → written l (es ++ fs) ≡ written (written l es) fs
 unfolding written
@@ -30,7 +30,7 @@ pub rows-on : (l m n : List ℕ) (es fs : List Store) → m ≡ written l es →
 rows-on l m n es fs p q = q ∙ ap (λ (x : List ℕ). written x fs) p ∙ sym (written-append l es fs)
 
 -- ---- overlay
-pub lay-used : (l m : List ℕ) (at p v : ℕ) (u : Bool) → u ≡ true → m ≡ writeIf (ltb p 32) (putField l (at + 2 * p) 2 v) l
+pub lay-used : (l m : List ℕ) (at p v : ℕ) (u : Bool) → u ≡ true → m ≡ cond (ltb p 32) (putField l (at + 2 * p) 2 v) l
     → (b : Table) → valuesAt b ≡ at → m ≡ written l (layOne u b p v)
 unfolding written write
 lay-used l m at p v u t q b e = rw (t, e) q

@@ -1,7 +1,7 @@
 -- What the code reads is what the machine reads from what the image shows. Assumes nothing.
 use Prim.Native.Nat.{ℕ, _+_, _-_, _≤_, _<_}
 use mathlib.Core.Path.{_≡_, refl, ap, ap₂, sym, _∙_}
-use mathlib.Core.Bool.{Bool, true, false, _&&_}
+use mathlib.Core.Bool.{Bool, true, false, _&&_, cond}
 use mathlib.Core.List.{List, [], _∷_}
 use native.Mathlib.Omega.{arith}
 use borrow.Author.Tests.{leb-true, ltb-true}
@@ -19,7 +19,7 @@ use Rattle.kinds.specs.Statuses.{progressCode}
 use Rattle.fields.specs.Field.{fieldsAt, quad}
 use Rattle.machine.specs.State.{State, entryOf, inLog, isNode, nodeOf}
 use Rattle.machine.specs.Reads as reads
-use Rattle.machine.specs.Reads.{Query, ofTable, ofEntry, ofState, ofNode, Answer, shows, refuses, isField, fieldOf, flag, entryNumbers, stateNumbers, nodeNumbers, valuesIf, tableNumbers, read}
+use Rattle.machine.specs.Reads.{Query, ofTable, ofEntry, ofState, ofNode, Answer, shows, refuses, isField, fieldOf, flag, entryNumbers, stateNumbers, nodeNumbers, tableNumbers, read}
 use Rattle.image.specs.Layout.{tableWidths}
 use Rattle.image.specs.Records.{entryAt, logLength, changeOf, headNumbers, headAt, configurationOf, mastershipOf, targetOf, connectionsOf}
 use Rattle.image.specs.View.{tableOf, netOf, view}
@@ -28,7 +28,7 @@ use Rattle.image.proofs.UpTo.{and-left, and-right}
 use Rattle.image.proofs.Scanned.{view-length}
 use Rattle.controller.specs.declared.reads.Read.{Read}
 use Rattle.controller.specs.Claims.{Entry}
-use Rattle.controller.specs.Reads.{given, unless, readOf, noHead, headsIf, headsOf, marks, netNumbers, placeIf, tablePlace}
+use Rattle.controller.specs.Reads.{given, unless, readOf, noHead, headsIf, headsOf, marks, netNumbers, tablePlace}
 use Rattle.controller.proofs.Decided.{entry-of}
 
 -- ---- refusal 1, and what follows it
@@ -59,8 +59,8 @@ at-table : (l : List ℕ) (b at : ℕ) → at ≡ tablePlace b → fieldsAt l at
 unfolding tablePlace view tableOf
 at-table l b at e = ap (λ (x : ℕ). fieldsAt l x tableWidths) e ∙ go (eqb b 1) (eqb b 2)
   where
-    go : (x y : Bool) → fieldsAt l (placeIf x 4622 (placeIf y 4696 4760)) tableWidths
-        ≡ valuesIf x (fieldsAt l 4622 tableWidths) (valuesIf y (fieldsAt l 4696 tableWidths) (fieldsAt l 4760 tableWidths))
+    go : (x y : Bool) → fieldsAt l (cond x 4622 (cond y 4696 4760)) tableWidths
+        ≡ cond x (fieldsAt l 4622 tableWidths) (cond y (fieldsAt l 4696 tableWidths) (fieldsAt l 4760 tableWidths))
     go true y = refl
     go false true = refl
     go false false = refl
@@ -69,7 +69,7 @@ pub table-room : (b at n : ℕ) → at ≡ tablePlace b → 4883 ≤ n → at + 
 unfolding tablePlace
 table-room b at n e h = go (eqb b 1) (eqb b 2) e
   where
-    go : (x y : Bool) → at ≡ placeIf x 4622 (placeIf y 4696 4760) → at + 64 ≤ n
+    go : (x y : Bool) → at ≡ cond x 4622 (cond y 4696 4760) → at + 64 ≤ n
     go true y q = omega arith
     go false true q = omega arith
     go false false q = omega arith

@@ -1,6 +1,6 @@
 -- What a read answers: refusal 1, then what the machine reads from what the image shows. Assumes nothing.
 use Prim.Native.Nat.{ℕ}
-use mathlib.Core.Bool.{Bool, true, false}
+use mathlib.Core.Bool.{Bool, true, false, cond}
 use mathlib.Core.List.{List, [], _∷_}
 use lib.Dec.{eqb}
 use Rattle.kinds.specs.declared.Transaction.{Transaction}
@@ -54,10 +54,6 @@ netNumbers w =
     ∷ w .mastership .master ∷ w .mastership .term .0 ∷ w .mastership .conn
     ∷ w .target .id ∷ flag (w .target .running) ∷ []
 
-abbrev pub placeIf : Bool → ℕ → ℕ → ℕ
-placeIf true a b = a
-placeIf false a b = b
-
 -- where a table lies
 unfoldable pub tablePlace : ℕ → ℕ
-tablePlace b = placeIf (eqb b 1) (valuesAt ofCommitted) (placeIf (eqb b 2) (valuesAt ofApplied) (valuesAt ofTarget))
+tablePlace b = cond (eqb b 1) (valuesAt ofCommitted) (cond (eqb b 2) (valuesAt ofApplied) (valuesAt ofTarget))

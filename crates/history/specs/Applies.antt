@@ -3,7 +3,7 @@
 use Prim.Native.Nat.{ℕ, suc, _≤_, _<_}
 use native.Mathlib.Omega.{arith}
 use mathlib.Core.List.{List, [], _∷_, _++_}
-use mathlib.Core.Bool.{Bool, true, false, not, _||_}
+use mathlib.Core.Bool.{Bool, true, false, _||_, cond}
 use mathlib.Core.Path.{_≡_, refl, sym, ap, _∙_, subst}
 use lib.Dec.{eqb, leb}
 use lib.ListN.{length, getD, List·getD-eq-default}
@@ -23,7 +23,7 @@ use Rattle.machine.specs.Next.{over}
 use Rattle.machine.specs.Cases.{and-left}
 use Rattle.machine.specs.Entries.{put-all, add-all, length-over}
 use Rattle.history.specs.Values.{at-over, back-again}
-use Rattle.history.specs.Ops.{Op, push, pop, none, pushed, popped, top, tail, stack, newest, Rising, Falls, stack-low, stack-falls, mem, opAt, opAt-in, opIf, first, first-next, first-more, first-rises, first-low, listIf, Sub, keep, skip, without, without-none, held, holding, clash, crash, mem-first}
+use Rattle.history.specs.Ops.{Op, push, pop, none, pushed, popped, top, tail, stack, newest, Rising, Falls, stack-low, stack-falls, mem, opAt, opAt-in, first, first-next, first-more, first-rises, first-low, Sub, keep, skip, without, without-none, held, holding, clash, crash, mem-first}
 use Rattle.history.specs.Invariant.{val, Link, Linked, says, returns, isGoing, complete, Numbered, isEnded, isStarted, changeTouched, rollbackTouched, applyView, ApplyEntry, Still, Quiet, Calm, Fell, led, Applied}
 use Rattle.history.specs.Frames.{Same, same, val-same, put-same, LinkedStack, stack-linked, not-going, complete-no, complete-same, by-eq}
 
@@ -33,12 +33,12 @@ unfolding first Linked Rising
 first-linked l [] a r h = h
 first-linked l (push k ∷ xs) a r h = go (leb (suc (length xs)) a) (first-linked l xs a (r .1) (h .1))
   where
-    go : (b : Bool) → Linked l (first xs a) → Linked l (listIf b (push k ∷ xs) (first xs a))
+    go : (b : Bool) → Linked l (first xs a) → Linked l (cond b (push k ∷ xs) (first xs a))
     go true x = h
     go false x = x
 first-linked l (pop k ∷ xs) a r h = go (leb (suc (length xs)) a) (first-linked l xs a (r .1) h)
   where
-    go : (b : Bool) → Linked l (first xs a) → Linked l (listIf b (pop k ∷ xs) (first xs a))
+    go : (b : Bool) → Linked l (first xs a) → Linked l (cond b (pop k ∷ xs) (first xs a))
     go true x = h
     go false x = x
 first-linked l (none ∷ xs) a r h = absurd r
@@ -698,6 +698,6 @@ extend {l} {part} {ops} {acts} {bad} side x above =
     old : first (x ∷ ops) (part .head .ordinal .0) ≡ first ops (part .head .ordinal .0)
     old = first-more ops x (part .head .ordinal .0) (side .applied .reach)
 
-    go : (k : ℕ) (b : Bool) → opIf b x (opAt ops (suc (part .head .ordinal .0))) ≡ push k → part .head .target .0 ≡ k → bad ≡ []
+    go : (k : ℕ) (b : Bool) → cond b x (opAt ops (suc (part .head .ordinal .0))) ≡ push k → part .head .target .0 ≡ k → bad ≡ []
     go k true e g = absurd (omega (arith, above k e, target-low side))
     go k false e g = side .applied .clear k e g

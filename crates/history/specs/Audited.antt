@@ -2,7 +2,7 @@
 use Prim.Native.Nat.{ℕ, _+_, _≤_}
 use native.Mathlib.Omega.{arith}
 use mathlib.Core.List.{List}
-use mathlib.Core.Bool.{Bool, true, false, not, _&&_, _||_}
+use mathlib.Core.Bool.{Bool, true, false, not, _&&_, _||_, cond}
 use mathlib.Core.Path.{_≡_, refl, sym, ap, ap₂, _∙_}
 use lib.Dec.{eqb, leb}
 use lib.ListN.{length}
@@ -50,11 +50,11 @@ landed-complete Aborted a o = refl
 landed-complete Canceled a o = refl
 landed-complete Failed a o = refl
 
-no-close2 : (b : Bool) (x y : ApplyChangeRule) → closes2 x ≡ false → closes2 y ≡ false → closes2 (job2.ruleIf b x y) ≡ false
+no-close2 : (b : Bool) (x y : ApplyChangeRule) → closes2 x ≡ false → closes2 y ≡ false → closes2 (cond b x y) ≡ false
 no-close2 true x y e f = e
 no-close2 false x y e f = f
 
-no-close4 : (b : Bool) (x y : ApplyRollbackRule) → closes4 x ≡ false → closes4 y ≡ false → closes4 (job4.ruleIf b x y) ≡ false
+no-close4 : (b : Bool) (x y : ApplyRollbackRule) → closes4 x ≡ false → closes4 y ≡ false → closes4 (cond b x y) ≡ false
 no-close4 true x y e f = e
 no-close4 false x y e f = f
 
@@ -64,7 +64,7 @@ close1 : (c : Status) (n k : ℕ) (a r y f : Bool)
 close1 None n k a r y f = refl
 close1 Pending n k a r y f = sym (go (follows n k) a r)
   where
-    go : (x a r : Bool) → closes1 (job1.ruleIf x (job1.ruleIf a change.Begin (job1.ruleIf r change.Aim change.Wait)) change.Wait) ≡ false
+    go : (x a r : Bool) → closes1 (cond x (cond a change.Begin (cond r change.Aim change.Wait)) change.Wait) ≡ false
     go true true r = refl
     go true false true = refl
     go true false false = refl
@@ -72,7 +72,7 @@ close1 Pending n k a r y f = sym (go (follows n k) a r)
 close1 InProgress n k a r y f = go (follows n k) refl (eqb n k) refl y f
   where
     go : (x : Bool) → follows n k ≡ x → (z : Bool) → eqb n k ≡ z → (y f : Bool)
-        → z ≡ closes1 (job1.ruleIf x (job1.ruleIf y (job1.ruleIf f change.Full change.Land) change.Reject) (job1.ruleIf z change.Finish change.Wait))
+        → z ≡ closes1 (cond x (cond y (cond f change.Full change.Land) change.Reject) (cond z change.Finish change.Wait))
     go true p true q y f = absurd (omega (arith, eqb-true (n + 1) k p, eqb-true n k q))
     go true p false q true true = refl
     go true p false q true false = refl
@@ -84,7 +84,7 @@ close1 Aborted n k a r y f = refl
 close1 Canceled n k a r y f = refl
 close1 Failed n k a r y f = sym (go (follows n k))
   where
-    go : (x : Bool) → closes1 (job1.ruleIf x change.Close change.Wait) ≡ false
+    go : (x : Bool) → closes1 (cond x change.Close change.Wait) ≡ false
     go true = refl
     go false = refl
 
@@ -94,7 +94,7 @@ close3 : (c : Status) (v n k : ℕ) (a r f : Bool) → (c ≡ InProgress → v �
 close3 None v n k a r f h = refl
 close3 Pending v n k a r f h = sym (go (eqb v k) a r)
   where
-    go : (x a r : Bool) → closes3 (job3.ruleIf x (job3.ruleIf a rollback.Begin (job3.ruleIf r rollback.Aim rollback.Wait)) rollback.Wait) ≡ false
+    go : (x a r : Bool) → closes3 (cond x (cond a rollback.Begin (cond r rollback.Aim rollback.Wait)) rollback.Wait) ≡ false
     go true true r = refl
     go true false true = refl
     go true false false = refl
@@ -102,7 +102,7 @@ close3 Pending v n k a r f h = sym (go (eqb v k) a r)
 close3 InProgress v n k a r f h = go (eqb v k) refl (eqb v n) refl f
   where
     go : (x : Bool) → eqb v k ≡ x → (z : Bool) → eqb v n ≡ z → (f : Bool)
-        → z ≡ closes3 (job3.ruleIf x (job3.ruleIf f rollback.Full rollback.Land) (job3.ruleIf z rollback.Finish rollback.Wait))
+        → z ≡ closes3 (cond x (cond f rollback.Full rollback.Land) (cond z rollback.Finish rollback.Wait))
     go true p true q f = absurd (h refl (eqb-true v k p) (eqb-true v n q))
     go true p false q true = refl
     go true p false q false = refl
@@ -131,8 +131,8 @@ close2 InProgress a o m t e f h =
   where
     go : (b : Bool)
         → closes2
-        (job2.ruleIf b apply.Finish
-        (job2.ruleIf (t .next) (job2.ruleIf (t .undone) apply.Fail (job2.ruleIf (t .line) (job2.ruleIf (t .accepted) apply.Push apply.Fail) apply.NoLine)) apply.Wait))
+        (cond b apply.Finish
+        (cond (t .next) (cond (t .undone) apply.Fail (cond (t .line) (cond (t .accepted) apply.Push apply.Fail) apply.NoLine)) apply.Wait))
         ≡ b
     go true = refl
     go false =
@@ -160,7 +160,7 @@ close4 InProgress a o m t e f h =
   where
     go : (b : Bool)
         → closes4
-        (job4.ruleIf b return.Finish (job4.ruleIf (t .next) (job4.ruleIf (t .line) (job4.ruleIf (t .accepted) return.Push return.Rejected) return.NoLine) return.Wait))
+        (cond b return.Finish (cond (t .next) (cond (t .line) (cond (t .accepted) return.Push return.Rejected) return.NoLine) return.Wait))
         ≡ b
     go true = refl
     go false = no-close4 (t .next) _ return.Wait (no-close4 (t .line) _ return.NoLine (no-close4 (t .accepted) return.Push return.Rejected refl refl) refl) refl

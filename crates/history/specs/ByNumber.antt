@@ -3,14 +3,14 @@
 use Prim.Native.Nat.{ℕ, zero, suc, _≤_, _<_}
 use native.Mathlib.Omega.{arith}
 use mathlib.Core.List.{List, [], _∷_}
-use mathlib.Core.Bool.{Bool, _&&_}
+use mathlib.Core.Bool.{Bool, _&&_, cond}
 use mathlib.Core.Path.{_≡_, refl, sym, ap, _∙_}
 use lib.ListN.{length}
 use borrow.Author.Tests.{ne-eqb}
 use Rattle.kinds.specs.declared.Transaction.{Transaction}
 use Rattle.machine.specs.State.{entryOf}
 use Rattle.machine.specs.LiveList.{hops}
-use Rattle.history.specs.Demand3.{valueIf, sets, valueAt, highest, listIf, newestFirst, hopped}
+use Rattle.history.specs.Demand3.{sets, valueAt, highest, listIf, newestFirst, hopped}
 use Rattle.history.specs.Values.{look-sets}
 use Rattle.history.specs.Ops.{top, Falls, mem, mem-above, mem-first}
 use Rattle.history.specs.Invariant.{val, says}
@@ -41,17 +41,17 @@ highest-mem l (suc n) (k ∷ ks) f b p =
     by-eq (suc n) k (λ e. here e (highest-mem l n ks (f .1) (omega (arith, f .0)) p)) (λ e. under e (highest-mem l n (k ∷ ks) f (omega arith) p))
   where
     here : suc n ≡ k → val l ks p ≡ highest l (λ j. mem j ks) n p
-        → says (entryOf l k) p (val l ks p) ≡ valueIf (mem (suc n) (k ∷ ks) && sets (entryOf l (suc n)) p) (valueAt (entryOf l (suc n)) p) (highest l (λ j. mem j (k ∷ ks)) n p)
+        → says (entryOf l k) p (val l ks p) ≡ cond (mem (suc n) (k ∷ ks) && sets (entryOf l (suc n)) p) (valueAt (entryOf l (suc n)) p) (highest l (λ j. mem j (k ∷ ks)) n p)
     here e r =
         let d : val l ks p ≡ highest l (λ j. mem j (k ∷ ks)) n p = r ∙ highest-same l (λ j. mem j ks) (λ j. mem j (k ∷ ks)) n p (λ j x. mem-below k ks j (omega arith)) in
         ap (λ j. says (entryOf l j) p (val l ks p)) (sym e) ∙ look-sets (entryOf l (suc n)) p (val l ks p)
-        ∙ ap (valueIf (sets (entryOf l (suc n)) p) (valueAt (entryOf l (suc n)) p)) d
-        ∙ ap (λ t. valueIf (t && sets (entryOf l (suc n)) p) (valueAt (entryOf l (suc n)) p) (highest l (λ j. mem j (k ∷ ks)) n p)) (sym (ap (λ j. mem j (k ∷ ks)) e ∙ mem-first k ks))
+        ∙ ap (cond (sets (entryOf l (suc n)) p) (valueAt (entryOf l (suc n)) p)) d
+        ∙ ap (λ t. cond (t && sets (entryOf l (suc n)) p) (valueAt (entryOf l (suc n)) p) (highest l (λ j. mem j (k ∷ ks)) n p)) (sym (ap (λ j. mem j (k ∷ ks)) e ∙ mem-first k ks))
 
     under : (suc n ≡ k → ⊥) → val l (k ∷ ks) p ≡ highest l (λ j. mem j (k ∷ ks)) n p
-        → says (entryOf l k) p (val l ks p) ≡ valueIf (mem (suc n) (k ∷ ks) && sets (entryOf l (suc n)) p) (valueAt (entryOf l (suc n)) p) (highest l (λ j. mem j (k ∷ ks)) n p)
+        → says (entryOf l k) p (val l ks p) ≡ cond (mem (suc n) (k ∷ ks) && sets (entryOf l (suc n)) p) (valueAt (entryOf l (suc n)) p) (highest l (λ j. mem j (k ∷ ks)) n p)
     under e r =
-        r ∙ ap (λ t. valueIf (t && sets (entryOf l (suc n)) p) (valueAt (entryOf l (suc n)) p) (highest l (λ j. mem j (k ∷ ks)) n p)) (sym (mem-above (k ∷ ks) f (suc n) (omega arith)))
+        r ∙ ap (λ t. cond (t && sets (entryOf l (suc n)) p) (valueAt (entryOf l (suc n)) p) (highest l (λ j. mem j (k ∷ ks)) n p)) (sym (mem-above (k ∷ ks) f (suc n) (omega arith)))
 
 list-mem : (n : ℕ) (ks : List ℕ) → Falls ks → top ks ≤ n → ks ≡ newestFirst (λ k. mem k ks) n
 unfolding newestFirst Falls mem

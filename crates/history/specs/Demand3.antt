@@ -2,7 +2,7 @@
 -- the events that were given. The statuses in the log are not looked at. Proved in Reached. Assumes nothing.
 use Prim.Native.Nat.{ℕ, zero, suc, _<_}
 use mathlib.Core.List.{List, [], _∷_}
-use mathlib.Core.Bool.{Bool, true, false, not, _&&_, _||_}
+use mathlib.Core.Bool.{Bool, true, false, not, _&&_, _||_, cond}
 use mathlib.Core.Path.{_≡_}
 use lib.Dec.{eqb, ltb}
 use lib.ListN.{length, getD}
@@ -38,18 +38,14 @@ names t p k = ltb k (t .count) && eqb (getD (t .paths) k 0) p
 abbrev pub sets : Transaction → ℕ → Bool
 sets t p = names t p 3 || (names t p 2 || (names t p 1 || names t p 0))
 
-abbrev pub valueIf : Bool → ℕ → ℕ → ℕ
-valueIf true a b = a
-valueIf false a b = b
-
 abbrev pub valueAt : Transaction → ℕ → ℕ
 valueAt t p =
-    valueIf (names t p 3) (getD (t .values) 3 0) (valueIf (names t p 2) (getD (t .values) 2 0) (valueIf (names t p 1) (getD (t .values) 1 0) (getD (t .values) 0 0)))
+    cond (names t p 3) (getD (t .values) 3 0) (cond (names t p 2) (getD (t .values) 2 0) (cond (names t p 1) (getD (t .values) 1 0) (getD (t .values) 0 0)))
 
 -- ---- highest-numbered: of changes 1 to n, the value of the highest that f holds of and that sets p; absent where none does
 unfoldable pub highest : List Transaction → (ℕ → Bool) → ℕ → ℕ → ℕ
 highest l f zero p = 0
-highest l f (suc n) p = valueIf (f (suc n) && sets (entryOf l (suc n)) p) (valueAt (entryOf l (suc n)) p) (highest l f n p)
+highest l f (suc n) p = cond (f (suc n) && sets (entryOf l (suc n)) p) (valueAt (entryOf l (suc n)) p) (highest l f n p)
 
 -- the changes 1 to n that f holds of, newest first
 abbrev pub listIf : Bool → ℕ → List ℕ → List ℕ

@@ -2,7 +2,7 @@
 use Prim.Native.Nat.{ℕ, zero, suc, _≤_, _<_}
 use native.Mathlib.Omega.{arith}
 use mathlib.Core.List.{List, [], _∷_, _++_}
-use mathlib.Core.Bool.{Bool, true, false, not, _&&_, _||_}
+use mathlib.Core.Bool.{Bool, true, false, not, _&&_, _||_, cond}
 use mathlib.Core.Path.{_≡_, refl, sym, ap, _∙_, subst}
 use lib.Dec.{eqb, ltb, leb}
 use lib.ListN.{length}
@@ -18,7 +18,7 @@ use Rattle.machine.specs.Step.{step, run}
 use Rattle.machine.specs.Cases.{and-left, and-right, or-cases}
 use Rattle.machine.specs.ByCall.{by-call}
 use Rattle.history.specs.Demand3.{tells, told, completed, live}
-use Rattle.history.specs.Ops.{Op, push, pop, none, opsIf, opsOf, pushed, popped, told-change, told-rollback, top, tail, stack, newest, Rising, stack-falls, mem, mem-low, pushed-low, popped-pushed, standing, top-standing, opAt, opIf, first, first-rises, listIf, Sub, sub-pushed, sub-popped, first-sub, held, clash, crash, or-late, rest-rises}
+use Rattle.history.specs.Ops.{Op, push, pop, none, opsIf, opsOf, pushed, popped, told-change, told-rollback, top, tail, stack, newest, Rising, stack-falls, mem, mem-low, pushed-low, popped-pushed, standing, top-standing, opAt, first, first-rises, Sub, sub-pushed, sub-popped, first-sub, held, clash, crash, or-late, rest-rises}
 use Rattle.history.specs.Invariant.{complete, isStarted, changeTouched, Paired}
 use Rattle.history.specs.Frames.{by-eq}
 use Rattle.history.specs.Applies as applies
@@ -159,7 +159,7 @@ unfolding opAt
 opAt-pushed [] o k e = let z : _≡_ {A = ℕ} 0 1 = cc in absurd (omega arith)
 opAt-pushed (x ∷ xs) o k e = go (eqb o (suc (length xs))) e (opAt-pushed xs o k)
   where
-    go : (b : Bool) → opIf b x (opAt xs o) ≡ push k → (opAt xs o ≡ push k → pushed k xs ≡ true) → pushed k (x ∷ xs) ≡ true
+    go : (b : Bool) → cond b x (opAt xs o) ≡ push k → (opAt xs o ≡ push k → pushed k xs ≡ true) → pushed k (x ∷ xs) ≡ true
     go true f r = push-pushed x xs k f
     go false f r = more-pushed x xs k (r f)
 
@@ -169,8 +169,8 @@ unfolding opAt first
 pushed-first [] a o k e b = let z : _≡_ {A = ℕ} 0 1 = cc in absurd (omega arith)
 pushed-first (x ∷ xs) a o k e b = go (leb (suc (length xs)) a) refl (eqb o (suc (length xs))) refl e (λ f. pushed-first xs a o k f b)
   where
-    go : (c : Bool) → leb (suc (length xs)) a ≡ c → (d : Bool) → eqb o (suc (length xs)) ≡ d → opIf d x (opAt xs o) ≡ push k → (opAt xs o ≡ push k → pushed k (first xs a) ≡ true)
-        → pushed k (listIf c (x ∷ xs) (first xs a)) ≡ true
+    go : (c : Bool) → leb (suc (length xs)) a ≡ c → (d : Bool) → eqb o (suc (length xs)) ≡ d → cond d x (opAt xs o) ≡ push k → (opAt xs o ≡ push k → pushed k (first xs a) ≡ true)
+        → pushed k (cond c (x ∷ xs) (first xs a)) ≡ true
     go true p true q f r = push-pushed x xs k f
     go true p false q f r = more-pushed x xs k (opAt-pushed xs o k f)
     go false p true q f r = absurd (omega (arith, leb-false (suc (length xs)) a p, eqb-true o (suc (length xs)) q))
@@ -181,7 +181,7 @@ unfolding first
 first-popped [] a k e = e
 first-popped (x ∷ xs) a k e = go (leb (suc (length xs)) a) e (first-popped xs a k)
   where
-    go : (b : Bool) → popped k (listIf b (x ∷ xs) (first xs a)) ≡ true → (popped k (first xs a) ≡ true → popped k xs ≡ true) → popped k (x ∷ xs) ≡ true
+    go : (b : Bool) → popped k (cond b (x ∷ xs) (first xs a)) ≡ true → (popped k (first xs a) ≡ true → popped k xs ≡ true) → popped k (x ∷ xs) ≡ true
     go true e r = e
     go false e r = more-popped x xs k (r e)
 
@@ -257,9 +257,9 @@ unfolding first
 passed-behind [] a h i j e f = behind-popped [] h i j f
 passed-behind (x ∷ xs) a h i j e f = go (leb (suc (length xs)) a) e (passed-behind xs a (rest-rises x xs h) i j) (behind-before x xs a i j h f)
   where
-    go : (b : Bool) → popped i (listIf b (x ∷ xs) (first xs a)) ≡ true → (popped i (first xs a) ≡ true → behindOps xs i j ≡ true → popped j (first xs a) ≡ true)
+    go : (b : Bool) → popped i (cond b (x ∷ xs) (first xs a)) ≡ true → (popped i (first xs a) ≡ true → behindOps xs i j ≡ true → popped j (first xs a) ≡ true)
         → (popped i (first xs a) ≡ true → behindOps xs i j ≡ true)
-        → popped j (listIf b (x ∷ xs) (first xs a)) ≡ true
+        → popped j (cond b (x ∷ xs) (first xs a)) ≡ true
     go true e r w = behind-popped (x ∷ xs) h i j f
     go false e r w = r e (w e)
 

@@ -12,7 +12,6 @@ use Rattle.kinds.specs.declared.Event.{Event}
 use Rattle.kinds.specs.declared.Status.{Status}
 use Rattle.kinds.specs.declared.Status.the-variants.{None, Pending, InProgress, Complete, Aborted, Canceled, Failed}
 use Rattle.kinds.specs.Statuses.{codeOf}
-use Rattle.kinds.specs.Events.{event}
 use Rattle.rules.specs.ApplyRollback.{wasTried, isAborted}
 use Rattle.machine.specs.State.{entryOf, putEntry}
 use Rattle.machine.specs.Entries.{put-all, entry-put}

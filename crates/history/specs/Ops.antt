@@ -3,7 +3,7 @@
 use Prim.Native.Nat.{ℕ, zero, suc, _≤_, _<_}
 use native.Mathlib.Omega.{arith}
 use mathlib.Core.List.{List, [], _∷_}
-use mathlib.Core.Bool.{Bool, true, false, not, _&&_, _||_}
+use mathlib.Core.Bool.{Bool, true, false, not, _&&_, _||_, cond}
 use mathlib.Core.Path.{_≡_, refl, sym, ap, _∙_, subst}
 use lib.Dec.{eqb, leb}
 use lib.ListN.{length}
@@ -248,21 +248,13 @@ on-top [] k e b = absurd (omega arith)
 on-top (x ∷ xs) k e b = ap (λ y. y ∷ xs) e
 
 -- ---- the op with ordinal o, counted from 1, and the first a of them
-abbrev pub opIf : Bool → Op → Op → Op
-opIf true a b = a
-opIf false a b = b
-
-abbrev pub listIf : Bool → List Op → List Op → List Op
-listIf true a b = a
-listIf false a b = b
-
 unfoldable pub opAt : List Op → ℕ → Op
 opAt [] o = none
-opAt (x ∷ xs) o = opIf (eqb o (suc (length xs))) x (opAt xs o)
+opAt (x ∷ xs) o = cond (eqb o (suc (length xs))) x (opAt xs o)
 
 unfoldable pub first : List Op → ℕ → List Op
 first [] a = []
-first (x ∷ xs) a = listIf (leb (suc (length xs)) a) (x ∷ xs) (first xs a)
+first (x ∷ xs) a = cond (leb (suc (length xs)) a) (x ∷ xs) (first xs a)
 
 abbrev pub isNone : Op → Bool
 isNone (push k) = false
@@ -302,7 +294,7 @@ pub opAt-more : (ops : List Op) (x : Op) (o : ℕ) (y : Op) → isNone y ≡ fal
 unfolding opAt
 opAt-more ops x o y n e = go (eqb o (suc (length ops))) refl
   where
-    go : (b : Bool) → eqb o (suc (length ops)) ≡ b → opIf b x (opAt ops o) ≡ y
+    go : (b : Bool) → eqb o (suc (length ops)) ≡ b → cond b x (opAt ops o) ≡ y
     go true p = not-out ops o y n e (omega (arith, eqb-true o (suc (length ops)) p))
     go false p = e
 
@@ -320,10 +312,10 @@ unfolding first opAt
 first-next [] a x n e = clash (ap isNone e ∙ n)
 first-next (y ∷ ys) a x n e = go (first-next ys a x n) (eqb (suc a) (suc (length ys))) refl e (leb (suc (length ys)) (suc a)) refl
   where
-    go : (opAt ys (suc a) ≡ x → first ys (suc a) ≡ x ∷ first ys a) → (b : Bool) → eqb (suc a) (suc (length ys)) ≡ b → opIf b y (opAt ys (suc a)) ≡ x
+    go : (opAt ys (suc a) ≡ x → first ys (suc a) ≡ x ∷ first ys a) → (b : Bool) → eqb (suc a) (suc (length ys)) ≡ b → cond b y (opAt ys (suc a)) ≡ x
         → (c : Bool)
         → leb (suc (length ys)) (suc a) ≡ c
-        → listIf c (y ∷ ys) (first ys (suc a)) ≡ x ∷ listIf (leb (suc (length ys)) a) (y ∷ ys) (first ys a)
+        → cond c (y ∷ ys) (first ys (suc a)) ≡ x ∷ cond (leb (suc (length ys)) a) (y ∷ ys) (first ys a)
     go r true p e true q =
         simp (lt-leb (suc (length ys)) a (omega (arith, eqb-true (suc a) (suc (length ys)) p)), first-all ys a (omega (arith, eqb-true (suc a) (suc (length ys)) p)), e)
     go r true p e false q = absurd (omega (arith, eqb-true (suc a) (suc (length ys)) p, leb-false (suc (length ys)) (suc a) q))
@@ -341,7 +333,7 @@ unfolding first
 first-rises [] a h = h
 first-rises (x ∷ xs) a h = go (leb (suc (length xs)) a) (first-rises xs a (rest-rises x xs h))
   where
-    go : (b : Bool) → Rising (first xs a) → Rising (listIf b (x ∷ xs) (first xs a))
+    go : (b : Bool) → Rising (first xs a) → Rising (cond b (x ∷ xs) (first xs a))
     go true r = h
     go false r = r
 
@@ -356,7 +348,7 @@ unfolding first
 first-low [] a h = omega arith
 first-low (x ∷ xs) a h = go (leb (suc (length xs)) a) (first-low xs a (rest-rises x xs h))
   where
-    go : (b : Bool) → newest (first xs a) ≤ newest xs → newest (listIf b (x ∷ xs) (first xs a)) ≤ newest (x ∷ xs)
+    go : (b : Bool) → newest (first xs a) ≤ newest xs → newest (cond b (x ∷ xs) (first xs a)) ≤ newest (x ∷ xs)
     go true r = omega arith
     go false r = omega (arith, head-low x xs h)
 
@@ -392,7 +384,7 @@ unfolding first
 first-sub zs [] a s = s
 first-sub zs (x ∷ xs) a s = go (leb (suc (length xs)) a) s (first-sub zs xs a)
   where
-    go : (b : Bool) → Sub zs (listIf b (x ∷ xs) (first xs a)) → (Sub zs (first xs a) → Sub zs xs) → Sub zs (x ∷ xs)
+    go : (b : Bool) → Sub zs (cond b (x ∷ xs) (first xs a)) → (Sub zs (first xs a) → Sub zs xs) → Sub zs (x ∷ xs)
     go true s f = s
     go false s f = skip (f s)
 

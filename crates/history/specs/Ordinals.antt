@@ -3,7 +3,7 @@
 use Prim.Native.Nat.{ℕ, zero, suc, _+_, _≤_}
 use native.Mathlib.Omega.{arith}
 use mathlib.Core.List.{List, [], _∷_}
-use mathlib.Core.Bool.{Bool, true, false}
+use mathlib.Core.Bool.{Bool, true, false, cond}
 use mathlib.Core.Path.{_≡_, refl, sym, ap, _∙_}
 use lib.Dec.{eqb, leb}
 use lib.ListN.{length}
@@ -14,7 +14,7 @@ use Rattle.rules.specs.declared.Plan.{Plan}
 use Rattle.machine.specs.State.{State, entryOf, inLog, isMaster, lineOpenFor}
 use Rattle.machine.specs.WellFormed.{wellFormed}
 use Rattle.machine.specs.Settled.{settled}
-use Rattle.machine.specs.Calls.{Call, Outcome, work, unless, jobIf, job1, job2, job3, job4, planOf, restOf, present, workOk, decide}
+use Rattle.machine.specs.Calls.{Call, Outcome, work, unless, job1, job2, job3, job4, planOf, restOf, present, workOk, decide}
 use Rattle.machine.specs.Step.{outcome, step, run}
 use Rattle.machine.specs.Cases.{and-left, and-right, commit-change, commit-rollback, apply-change, apply-rollback}
 use Rattle.machine.specs.Kept.{formed, reached-well-formed, refusal-one}
@@ -73,7 +73,7 @@ module _ (s : State) (es : List Event) (r : Reached s es) where
         let c = r .inv .committed in
         omega (arith, bound, c .high, ap length (on-top (stack ops) i (sym (c .tip) ∙ n) p))
 
-    not-nine : (n : ℕ) (a b d ok : Bool) → Not9 (jobIf a (job1 s i ok) (jobIf b (job2 s n i ok) (jobIf d (job3 s i) (job4 s n i ok))))
+    not-nine : (n : ℕ) (a b d ok : Bool) → Not9 (cond a (job1 s i ok) (cond b (job2 s n i ok) (cond d (job3 s i) (job4 s n i ok))))
     not-nine n true b d ok =
         commit-change (entryOf (s .log) i) (s .committed .head) i Not9 (s .change) (restOf s) (present (s .committed .values) (entryOf (s .log) i)) ok
         (record {

@@ -15,7 +15,7 @@ use Rattle.kinds.specs.Numbers.{num, ord}
 use Rattle.kinds.specs.Statuses as statuses
 use Rattle.kinds.specs.Records.{withChange, withRollback}
 use Rattle.kinds.specs.Events.{noEvent, event}
-use Rattle.rules.specs.Heads.{aimed, passed}
+use Rattle.rules.specs.Heads.{aimed}
 use Rattle.rules.specs.Sides.{begun, committed, invalid, applyAt}
 use Rattle.rules.specs.ApplyRollback.{wasTried}
 use Rattle.rules.specs.declared.CommitChangeRule.the-variants as change
@@ -26,7 +26,7 @@ use Rattle.rules.specs.CommitChange as job1
 use Rattle.rules.specs.CommitRollback as job3
 use Rattle.rules.specs.ApplyChange as job2
 use Rattle.rules.specs.ApplyRollback as job4
-use Rattle.machine.specs.State.{State, freshPart, fresh, entryOf, putEntry, lineOpenFor}
+use Rattle.machine.specs.State.{State, freshPart, entryOf, putEntry, lineOpenFor}
 use Rattle.machine.specs.LiveList.{hops}
 use Rattle.machine.specs.LiveList as list
 use Rattle.machine.specs.Settled.{settled}

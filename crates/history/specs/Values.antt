@@ -1,7 +1,7 @@
 -- What pairs say of a path: laid over values, and put back by the values kept. Assumes nothing.
 use Prim.Native.Nat.{ℕ, _<_}
 use mathlib.Core.List.{List}
-use mathlib.Core.Bool.{Bool, true, false, _&&_, _||_}
+use mathlib.Core.Bool.{Bool, true, false, _&&_, _||_, cond}
 use mathlib.Core.Path.{_≡_, refl, sym, ap, _∙_}
 use lib.Dec.{eqb, ltb}
 use lib.ListN.{length, getD, set, length-set}
@@ -11,7 +11,7 @@ use Rattle.kinds.specs.declared.Transaction.{Transaction}
 use Rattle.machine.specs.Calls.{present, presentAt}
 use Rattle.machine.specs.Next.{laying, layingAt, over}
 use Rattle.machine.specs.Cases.{and-left, and-right}
-use Rattle.history.specs.Demand3.{valueIf, sets, valueAt}
+use Rattle.history.specs.Demand3.{sets, valueAt}
 
 -- place k, of the n used ones, names path p
 abbrev pub namesAt : List ℕ → ℕ → ℕ → ℕ → Bool
@@ -20,15 +20,15 @@ namesAt ps n p k = ltb k n && eqb (getD ps k 0) p
 -- what n pairs say of path p, or d where they are silent
 unfoldable pub look : List ℕ → ℕ → List ℕ → ℕ → ℕ → ℕ
 look ps n vs p d =
-    valueIf (namesAt ps n p 3) (getD vs 3 0)
-    (valueIf (namesAt ps n p 2) (getD vs 2 0) (valueIf (namesAt ps n p 1) (getD vs 1 0) (valueIf (namesAt ps n p 0) (getD vs 0 0) d)))
+    cond (namesAt ps n p 3) (getD vs 3 0)
+    (cond (namesAt ps n p 2) (getD vs 2 0) (cond (namesAt ps n p 1) (getD vs 1 0) (cond (namesAt ps n p 0) (getD vs 0 0) d)))
 
 module _ (p : ℕ) where
-  at-laying : (b : Bool) (l : List ℕ) (q v : ℕ) → p < length l → getD (laying b l q v) p 0 ≡ valueIf (b && eqb q p) v (getD l p 0)
+  at-laying : (b : Bool) (l : List ℕ) (q v : ℕ) → p < length l → getD (laying b l q v) p 0 ≡ cond (b && eqb q p) v (getD l p 0)
   at-laying false l q v h = refl
   at-laying true l q v h = go (eqb q p) refl
     where
-      go : (t : Bool) → eqb q p ≡ t → getD (set l q v) p 0 ≡ valueIf t v (getD l p 0)
+      go : (t : Bool) → eqb q p ≡ t → getD (set l q v) p 0 ≡ cond t v (getD l p 0)
       go true e = rw (eqb-true q p e) (getD-set-same l p v 0 h)
       go false e = getD-set-other l q p v 0 (λ x. eqb-false q p e (sym x))
 
@@ -46,18 +46,18 @@ module _ (p : ℕ) where
       let hb : p < length b = fits (ltb 1 n) a (getD ps 1 0) (getD vs 1 0) ha in
       let hc : p < length c = fits (ltb 2 n) b (getD ps 2 0) (getD vs 2 0) hb in
       at-laying (ltb 3 n) c (getD ps 3 0) (getD vs 3 0) hc
-      ∙ ap (valueIf (namesAt ps n p 3) (getD vs 3 0))
+      ∙ ap (cond (namesAt ps n p 3) (getD vs 3 0))
       (at-laying (ltb 2 n) b (getD ps 2 0) (getD vs 2 0) hb
-      ∙ ap (valueIf (namesAt ps n p 2) (getD vs 2 0))
-      (at-laying (ltb 1 n) a (getD ps 1 0) (getD vs 1 0) ha ∙ ap (valueIf (namesAt ps n p 1) (getD vs 1 0)) (at-laying (ltb 0 n) l (getD ps 0 0) (getD vs 0 0) h)))
+      ∙ ap (cond (namesAt ps n p 2) (getD vs 2 0))
+      (at-laying (ltb 1 n) a (getD ps 1 0) (getD vs 1 0) ha ∙ ap (cond (namesAt ps n p 1) (getD vs 1 0)) (at-laying (ltb 0 n) l (getD ps 0 0) (getD vs 0 0) h)))
 
 -- ---- what is kept puts back what stood there
 module _ (a b c d : Bool) (k0 k1 k2 k3 v0 v1 v2 v3 : ℕ) where
   abbrev kept : ℕ → ℕ
-  kept x = valueIf a k3 (valueIf b k2 (valueIf c k1 (valueIf d k0 x)))
+  kept x = cond a k3 (cond b k2 (cond c k1 (cond d k0 x)))
 
   abbrev laid : ℕ → ℕ
-  laid x = valueIf a v3 (valueIf b v2 (valueIf c v1 (valueIf d v0 x)))
+  laid x = cond a v3 (cond b v2 (cond c v1 (cond d v0 x)))
 
 restores : (a b c d : Bool) (k0 k1 k2 k3 v0 v1 v2 v3 x : ℕ) → (a ≡ true → k3 ≡ x) → (b ≡ true → k2 ≡ x) → (c ≡ true → k1 ≡ x) → (d ≡ true → k0 ≡ x)
     → kept a b c d k0 k1 k2 k3 v0 v1 v2 v3 (laid a b c d k0 k1 k2 k3 v0 v1 v2 v3 x) ≡ x
@@ -98,7 +98,7 @@ back-again ps n ks vs p d e =
     (getD vs 2 0) (getD vs 3 0) d e
 
 -- what a change says of a path: its value where it sets it
-pub look-sets : (t : Transaction) (p d : ℕ) → look (t .paths) (t .count) (t .values) p d ≡ valueIf (sets t p) (valueAt t p) d
+pub look-sets : (t : Transaction) (p d : ℕ) → look (t .paths) (t .count) (t .values) p d ≡ cond (sets t p) (valueAt t p) d
 unfolding look
 look-sets t p d = go (namesAt ps n p 3) (namesAt ps n p 2) (namesAt ps n p 1) (namesAt ps n p 0)
   where
@@ -112,8 +112,8 @@ look-sets t p d = go (namesAt ps n p 3) (namesAt ps n p 2) (namesAt ps n p 1) (n
     vs = t .values
 
     go : (a b c e : Bool)
-        → valueIf a (getD vs 3 0) (valueIf b (getD vs 2 0) (valueIf c (getD vs 1 0) (valueIf e (getD vs 0 0) d)))
-        ≡ valueIf (a || (b || (c || e))) (valueIf a (getD vs 3 0) (valueIf b (getD vs 2 0) (valueIf c (getD vs 1 0) (getD vs 0 0)))) d
+        → cond a (getD vs 3 0) (cond b (getD vs 2 0) (cond c (getD vs 1 0) (cond e (getD vs 0 0) d)))
+        ≡ cond (a || (b || (c || e))) (cond a (getD vs 3 0) (cond b (getD vs 2 0) (cond c (getD vs 1 0) (getD vs 0 0)))) d
     go true b c e = refl
     go false true c e = refl
     go false false true e = refl

@@ -1,4 +1,5 @@
 -- What a row of reads gives, and what a row of writes leaves, over variables. Assumes nothing.
+use mathlib.Core.Bool.{cond}
 use Prim.Native.Nat.{ℕ, zero, suc, _+_, _-_, _*_, _<_, _≤_}
 use mathlib.Core.Path.{_≡_, refl, ap, ap₂, sym, _∙_}
 use mathlib.Core.Logic.{inl}
@@ -23,7 +24,7 @@ use Rattle.machine.specs.State.{absent, never, nodeOf}
 use Rattle.machine.specs.Stores.{Table, ofApplied, targetValues}
 use Rattle.image.specs.Layout.{codeWidths, markWidths, tableWidths, nodeWidths, valuesAt}
 use Rattle.image.specs.Records.{toSide, toConnections, codes, marks, entryAt, putEntryAt, toNode, putNodeAt, connectionsOf, putConnections}
-use Rattle.image.specs.View.{tableOf, writeIf, write}
+use Rattle.image.specs.View.{tableOf, write}
 
 -- ---- an entry
 pub loaded : (l : List ℕ) (n : ℕ) (x y : Side) (f g h : ℕ) (i : Number) (p v r : List ℕ)
@@ -75,10 +76,10 @@ value-loaded l at p k x e h q = q ∙ ap (λ (j : ℕ). field l (at + 2 * j) 2) 
 pub value-none : (l : List ℕ) (at p k : ℕ) → k ≡ p → 32 ≤ k → 0 ≡ getD (fieldsAt l at tableWidths) p 0
 value-none l at p k e h = sym (List·getD-eq-default (fieldsAt l at tableWidths) 0 (omega (arith, length-fields tableWidths l at)))
 
-pub value-stored : (l m : List ℕ) (at p k v : ℕ) → k ≡ p → k < 32 → m ≡ putField l (at + 2 * k) 2 v → m ≡ writeIf (ltb p 32) (putField l (at + 2 * p) 2 v) l
+pub value-stored : (l m : List ℕ) (at p k v : ℕ) → k ≡ p → k < 32 → m ≡ putField l (at + 2 * k) 2 v → m ≡ cond (ltb p 32) (putField l (at + 2 * p) 2 v) l
 value-stored l m at p k v e h q = rw (lt-ltb p 32 (omega arith)) (q ∙ rw e)
 
-pub value-lost : (l : List ℕ) (at p k v : ℕ) → k ≡ p → 32 ≤ k → l ≡ writeIf (ltb p 32) (putField l (at + 2 * p) 2 v) l
+pub value-lost : (l : List ℕ) (at p k v : ℕ) → k ≡ p → 32 ≤ k → l ≡ cond (ltb p 32) (putField l (at + 2 * p) 2 v) l
 value-lost l at p k v e h = rw (le-ltb p 32 (omega arith))
 
 -- ---- connections stored

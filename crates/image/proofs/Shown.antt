@@ -2,7 +2,7 @@
 use Prim.Native.Nat.{ℕ, zero, suc, _+_, _-_, _*_, _≤_, _<_}
 use mathlib.Core.Path.{_≡_, refl, ap, sym, subst, _∙_}
 use mathlib.Core.Logic.{_⊎_, inl, inr, ⊎-elim}
-use mathlib.Core.Bool.{Bool, true, false}
+use mathlib.Core.Bool.{Bool, true, false, cond}
 use mathlib.Core.List.{List, [], _∷_, _++_}
 use native.Mathlib.Omega.{arith}
 use native.Mathlib.Numerals.{add-one}
@@ -25,7 +25,7 @@ use Rattle.machine.specs.State.{Part, Net, State, putEntry}
 use Rattle.machine.specs.Stores.{Table, ofCommitted, ofApplied, ofTarget, Store, grow, entry, change, committedHead, appliedHead, value, targetValues, configuration, mastership, connections, target, withCommitted, withApplied, withNet, afterValue, after, afters}
 use Rattle.image.specs.Layout.{entryWidths, headWidths, tableWidths, configurationWidths, mastershipWidths, targetWidths, connectionsWidths, placeOf, lengthAt, changeAt, committedAt, appliedAt, valuesAt, configurationAt, mastershipAt, targetAt, connectionsAt, imageLength}
 use Rattle.image.specs.Records.{toEntry, entryNumbers, entryAt, putEntryAt, logLength, changeOf, toHead, headNumbers, headAt, putHeadAt, toConfiguration, configurationNumbers, configurationOf, putConfiguration, toMastership, mastershipNumbers, mastershipOf, putMastership, toTarget, targetNumbers, targetOf, putTarget, toConnections, connectionsNumbers, eight, connectionsOf, putConnections}
-use Rattle.image.specs.View.{upTo, tableOf, partOf, netOf, view, writeIf, write, written}
+use Rattle.image.specs.View.{upTo, tableOf, partOf, netOf, view, write, written}
 use Rattle.image.proofs.UpTo.{upTo-set}
 use Rattle.image.proofs.Scanned.{view-length}
 use Rattle.image.proofs.Chain.{length-table}
@@ -270,7 +270,7 @@ module _ (l : List ℕ) (z : length l ≡ imageLength) (f : logLength l ≤ 128)
   unfolding write after
   shown-value b p v k = go (ltb p 32) refl
     where
-      go : (x : Bool) → ltb p 32 ≡ x → view (writeIf x (putField l (valuesAt b + 2 * p) 2 v) l) ≡ afterValue (view l) b p v
+      go : (x : Bool) → ltb p 32 ≡ x → view (cond x (putField l (valuesAt b + 2 * p) 2 v) l) ≡ afterValue (view l) b p v
       go true e = value-in b p v k (ltb-true p 32 e)
       go false e = value-out b p v (ltb-false p 32 e)
 
@@ -370,7 +370,7 @@ module _ (l : List ℕ) (z : length l ≡ imageLength) (f : logLength l ≤ 128)
   shown (target t) h = shown-target t h
 
   -- a store keeps the image's length
-  length-if : (x : Bool) (at v : ℕ) → length (writeIf x (putField l at 2 v) l) ≡ imageLength
+  length-if : (x : Bool) (at v : ℕ) → length (cond x (putField l at 2 v) l) ≡ imageLength
   length-if true at v = length-put 2 l at v ∙ z
   length-if false at v = z
 

@@ -1,7 +1,7 @@
 -- What each public function of this crate promises of its answer r, or of the image s′ that it leaves, and that no second
 -- outcome keeps the promise. Assumes nothing.
 use Prim.Native.Nat.{ℕ, _+_, _*_}
-use mathlib.Core.Bool.{Bool}
+use mathlib.Core.Bool.{Bool, cond}
 use mathlib.Core.List.{List}
 use mathlib.Core.Path.{_≡_}
 use lib.Dec.{ltb}
@@ -19,7 +19,7 @@ use Rattle.fields.specs.Field.{fieldsAt, putField}
 use Rattle.image.specs.Formed.{formed}
 use Rattle.image.specs.Layout.{tableWidths}
 use Rattle.image.specs.Records.{entryAt, putEntryAt, logLength, changeOf, headAt, putHeadAt, configurationOf, putConfiguration, mastershipOf, putMastership, targetOf, putTarget, connectionsOf, putConnections}
-use Rattle.image.specs.View.{write, writeIf, tableOf}
+use Rattle.image.specs.View.{write, tableOf}
 use Rattle.machine.specs.State.{nodeOf, absent}
 use Rattle.machine.specs.Stores.{grow, change, targetValues, ofApplied}
 
@@ -86,7 +86,7 @@ pub loads-value-only : (s : List ℕ) (at p r q : ℕ) → LoadsValue s at p r �
 loads-value-only s at p r q = one
 
 abbrev pub StoresValue : List ℕ → ℕ → ℕ → ℕ → List ℕ → Type 0
-StoresValue s at p v s′ = s′ ≡ writeIf (ltb p 32) (putField s (at + 2 * p) 2 v) s
+StoresValue s at p v s′ = s′ ≡ cond (ltb p 32) (putField s (at + 2 * p) 2 v) s
 
 pub stores-value-only : (s : List ℕ) (at p v : ℕ) (s′ s″ : List ℕ)
     → StoresValue s at p v s′ → StoresValue s at p v s″ → s′ ≡ s″

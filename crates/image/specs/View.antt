@@ -1,7 +1,7 @@
 -- The state that an image shows, and the image with a row of stores made in it. Assumes nothing.
 use Prim.Native.Nat.{ℕ, zero, suc, _+_, _*_}
 use mathlib.Core.List.{List, [], _∷_, _++_}
-use mathlib.Core.Bool.{Bool, true, false}
+use mathlib.Core.Bool.{cond}
 use lib.Dec.{ltb}
 use Rattle.kinds.specs.Numbers.{num}
 use Rattle.fields.specs.Field.{putField, fieldsAt, putFields}
@@ -43,17 +43,13 @@ view l =
     }
 
 -- ---- stores in an image
-abbrev pub writeIf : Bool → List ℕ → List ℕ → List ℕ
-writeIf true a b = a
-writeIf false a b = b
-
 unfoldable pub write : List ℕ → Store → List ℕ
 write l (grow t) = putField (putEntryAt l (logLength l + 1) t) lengthAt 2 (logLength l + 1)
 write l (entry i t) = putEntryAt l i t
 write l (change n) = putField l changeAt 2 (n .0)
 write l (committedHead h) = putHeadAt l committedAt h
 write l (appliedHead h) = putHeadAt l appliedAt h
-write l (value b p v) = writeIf (ltb p 32) (putField l (valuesAt b + 2 * p) 2 v) l
+write l (value b p v) = cond (ltb p 32) (putField l (valuesAt b + 2 * p) 2 v) l
 write l (targetValues vs) = putFields l (valuesAt ofTarget) tableWidths vs
 write l (configuration g) = putConfiguration l g
 write l (mastership m) = putMastership l m

@@ -1,6 +1,6 @@
 -- The statuses and the configuration's states, with the paper's numbers (paper: Numbers, The state). Assumes nothing.
 use Prim.Native.Nat.{ℕ}
-use mathlib.Core.Bool.{Bool, true, false}
+use mathlib.Core.Bool.{Bool, true, false, cond}
 use lib.Dec.{eqb}
 use Rattle.kinds.specs.declared.Status.{Status}
 use Rattle.kinds.specs.declared.Status.the-variants.{None, Pending, InProgress, Complete, Aborted, Canceled, Failed}
@@ -16,14 +16,10 @@ codeOf Aborted = 4
 codeOf Canceled = 5
 codeOf Failed = 6
 
-abbrev pub statusIf : Bool → Status → Status → Status
-statusIf true a b = a
-statusIf false a b = b
-
 unfoldable pub statusOf : ℕ → Status
 statusOf n =
-    statusIf (eqb n 0) None
-    (statusIf (eqb n 1) Pending (statusIf (eqb n 2) InProgress (statusIf (eqb n 3) Complete (statusIf (eqb n 4) Aborted (statusIf (eqb n 5) Canceled Failed)))))
+    cond (eqb n 0) None
+    (cond (eqb n 1) Pending (cond (eqb n 2) InProgress (cond (eqb n 3) Complete (cond (eqb n 4) Aborted (cond (eqb n 5) Canceled Failed)))))
 
 -- Done means 3 to 6
 abbrev pub done : Status → Bool
@@ -50,9 +46,5 @@ progressCode progress.Pending = 1
 progressCode progress.InProgress = 2
 progressCode progress.Complete = 3
 
-abbrev pub progressIf : Bool → Progress → Progress → Progress
-progressIf true a b = a
-progressIf false a b = b
-
 unfoldable pub progressOf : ℕ → Progress
-progressOf n = progressIf (eqb n 1) progress.Pending (progressIf (eqb n 2) progress.InProgress progress.Complete)
+progressOf n = cond (eqb n 1) progress.Pending (cond (eqb n 2) progress.InProgress progress.Complete)

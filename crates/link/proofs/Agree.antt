@@ -3,7 +3,7 @@
 use Prim.Native.Nat.{ℕ, zero, suc, _+_, _*_, _/_, _%_, _≤_, _<_}
 use mathlib.Core.Path.{_≡_, refl, ap, ap₂, sym, _∙_, subst}
 use mathlib.Core.Logic.{_⊎_, inl, inr, ⊎-elim}
-use mathlib.Core.Bool.{Bool, true, false}
+use mathlib.Core.Bool.{Bool, true, false, cond}
 use mathlib.Core.List.{List, [], _∷_}
 use native.Mathlib.Omega.{arith}
 use borrow.Author.Tests.{eqb-true, eqb-false, ltb-true, ltb-false}
@@ -19,7 +19,7 @@ use Rattle.machine.specs.Calls as calls
 use Rattle.machine.specs.Calls.{Pair, Call, Outcome, append, unless, validChange, appended, decide}
 use Rattle.image.specs.Layout.{entryWidths, headWidths, tableWidths, configurationWidths, mastershipWidths, targetWidths, connectionsWidths, placeOf, lengthAt, changeAt, committedAt, appliedAt, valuesAt, configurationAt, mastershipAt, targetAt, connectionsAt, imageLength}
 use Rattle.image.specs.Records.{entryNumbers, putEntryAt, logLength, headNumbers, putHeadAt, configurationNumbers, putConfiguration, mastershipNumbers, putMastership, targetNumbers, putTarget, connectionsNumbers, eight, putConnections}
-use Rattle.image.specs.View.{view, writeIf, write, written}
+use Rattle.image.specs.View.{view, write, written}
 use Rattle.image.specs.Formed.{formed}
 use Rattle.image.proofs.Scanned.{view-length, formed-length, formed-few}
 use Rattle.image.proofs.Shown.{Fits, FitsAll, grown, length-write, count-write}
@@ -88,7 +88,7 @@ puts-both (w ∷ ws) (x ∷ xs) l m at j z h =
 
 -- ---- any store
 module _ (l m : List ℕ) (z : length m ≡ length l) (n : logLength m ≡ logLength l) (j : ℕ) where
-  if-both : (b : Bool) (at v : ℕ) → getD m j 0 ≡ getD l j 0 → getD (writeIf b (putField m at 2 v) m) j 0 ≡ getD (writeIf b (putField l at 2 v) l) j 0
+  if-both : (b : Bool) (at v : ℕ) → getD m j 0 ≡ getD l j 0 → getD (cond b (putField m at 2 v) m) j 0 ≡ getD (cond b (putField l at 2 v) l) j 0
   if-both true at v h = put-both 2 l m at v j z (inr h)
   if-both false at v h = h
 

@@ -2,7 +2,7 @@
 use Prim.Native.Nat.{ℕ, _+_, _*_, _≤_, _<_}
 use mathlib.Core.Path.{_≡_, refl, ap, sym, _∙_, subst}
 use mathlib.Core.Logic.{inl, inr}
-use mathlib.Core.Bool.{Bool, true, false, _&&_}
+use mathlib.Core.Bool.{Bool, true, false, _&&_, cond}
 use mathlib.Core.List.{List, [], _∷_}
 use native.Mathlib.Omega.{arith}
 use borrow.Author.Tests.{eqb-true, eqb-false, le-leb, ltb-true, ltb-false}
@@ -22,7 +22,7 @@ use Rattle.machine.specs.Entries.{and-both}
 use Rattle.machine.specs.Stores.{Table, ofCommitted, ofApplied, ofTarget, Store, grow, entry, change, committedHead, appliedHead, value, targetValues, configuration, mastership, connections, target}
 use Rattle.image.specs.Layout.{entryWidths, headWidths, tableWidths, configurationWidths, mastershipWidths, targetWidths, connectionsWidths, placeOf, lengthAt, changeAt, committedAt, appliedAt, valuesAt, configurationAt, mastershipAt, targetAt, connectionsAt, imageLength}
 use Rattle.image.specs.Records.{flagCode, entryNumbers, putEntryAt, logLength, headNumbers, putHeadAt, configurationNumbers, putConfiguration, mastershipNumbers, putMastership, targetNumbers, putTarget, connectionsNumbers, eight, putConnections}
-use Rattle.image.specs.View.{write, writeIf, written}
+use Rattle.image.specs.View.{write, written}
 use Rattle.image.specs.Formed.{allUpTo, statusesOk, entryStatusesOk, flagsOk, codesOk}
 use Rattle.image.proofs.UpTo.{and-left, and-right, all-at, all-from}
 use Rattle.image.proofs.Kept.{Apart, statuses-kept, length-kept}
@@ -169,7 +169,7 @@ module _ (l : List ℕ) (z : length l ≡ imageLength) (f : logLength l ≤ 128)
   puts-codes ws xs at p q =
       let o : Outside l (putFields l at ws xs) at (at + total ws) = puts-outside ws xs l at in below l _ _ _ o c (same-statuses l _ _ _ o c p f) q
 
-  value-codes : (x : Bool) (b : Table) (p v : ℕ) → ltb p 32 ≡ x → Codes (writeIf x (putField l (valuesAt b + 2 * p) 2 v) l)
+  value-codes : (x : Bool) (b : Table) (p v : ℕ) → ltb p 32 ≡ x → Codes (cond x (putField l (valuesAt b + 2 * p) 2 v) l)
   value-codes true ofCommitted p v e = put-codes _ v (omega arith) (omega (arith, ltb-true p 32 e))
   value-codes true ofApplied p v e = put-codes _ v (omega arith) (omega (arith, ltb-true p 32 e))
   value-codes true ofTarget p v e = put-codes _ v (omega arith) (omega (arith, ltb-true p 32 e))

@@ -1,6 +1,6 @@
 -- Bytes stay bytes: whatever is stored in them. Assumes nothing.
 use Prim.Native.Nat.{ℕ, zero, suc, _+_, _*_, _/_, _%_, _<_}
-use mathlib.Core.Bool.{Bool, true, false}
+use mathlib.Core.Bool.{Bool, true, false, cond}
 use mathlib.Core.List.{List, [], _∷_}
 use native.Mathlib.Omega.{arith}
 use lib.Dec.{ltb}
@@ -11,7 +11,7 @@ use Rattle.machine.specs.Entries.{set-all}
 use Rattle.machine.specs.Stores.{Store, grow, entry, change, committedHead, appliedHead, value, targetValues, configuration, mastership, connections, target, ofTarget}
 use Rattle.image.specs.Layout.{entryWidths, headWidths, tableWidths, configurationWidths, mastershipWidths, targetWidths, connectionsWidths, placeOf, lengthAt, changeAt, committedAt, appliedAt, valuesAt, configurationAt, mastershipAt, targetAt, connectionsAt}
 use Rattle.image.specs.Records.{entryNumbers, putEntryAt, logLength, headNumbers, putHeadAt, configurationNumbers, putConfiguration, mastershipNumbers, putMastership, targetNumbers, putTarget, connectionsNumbers, eight, putConnections}
-use Rattle.image.specs.View.{writeIf, write, written}
+use Rattle.image.specs.View.{write, written}
 
 pub bytes-put : (w : ℕ) (l : List ℕ) (at x : ℕ) → Bytes l → Bytes (putField l at w x)
 unfolding putField
@@ -24,7 +24,7 @@ bytes-puts [] xs l at h = h
 bytes-puts (w ∷ ws) [] l at h = h
 bytes-puts (w ∷ ws) (x ∷ xs) l at h = bytes-puts ws xs (putField l at w x) (at + w) (bytes-put w l at x h)
 
-bytes-if : (b : Bool) (l m : List ℕ) → Bytes m → Bytes l → Bytes (writeIf b m l)
+bytes-if : (b : Bool) (l m : List ℕ) → Bytes m → Bytes l → Bytes (cond b m l)
 bytes-if true l m p q = p
 bytes-if false l m p q = q
 

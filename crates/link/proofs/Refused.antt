@@ -1,7 +1,7 @@
 -- A refusal stores nothing. Assumes nothing.
 use Prim.Native.Nat.{ℕ}
 use mathlib.Core.Path.{_≡_, refl, ap}
-use mathlib.Core.Bool.{Bool, true, false}
+use mathlib.Core.Bool.{Bool, true, false, cond}
 use mathlib.Core.List.{List, []}
 use lib.Dec.{eqb, ltb}
 use lib.ListN.{length}
@@ -30,7 +30,7 @@ use Rattle.machine.specs.State.{State, entryOf, inLog, isNode, nodeOf, isMaster
 use Rattle.machine.specs.Settled.{settled}
 use Rattle.machine.specs.Rows.{rowsBy, rowsOf}
 use Rattle.machine.specs.Calls as calls
-use Rattle.machine.specs.Calls.{Call, Outcome, append, start, stop, connect, disconnect, master, sync, work, unless, validChange, present, restOf, jobIf, planOf, commits, planned, workOk, decide}
+use Rattle.machine.specs.Calls.{Call, Outcome, append, start, stop, connect, disconnect, master, sync, work, unless, validChange, present, restOf, planOf, commits, planned, workOk, decide}
 use Rattle.image.specs.View.{view}
 use Rattle.image.specs.Formed.{formed}
 use Rattle.controller.specs.Claims.{outcomeOf}
@@ -93,7 +93,7 @@ module _ (s : State) where
   unfolding planOf
   plan-quiet n j i ok = go (eqb j 1) (eqb j 2) (eqb j 3)
     where
-      go : (a b c : Bool) → QuietPlan (jobIf a (calls.job1 s i ok) (jobIf b (calls.job2 s n i ok) (jobIf c (calls.job3 s i) (calls.job4 s n i ok))))
+      go : (a b c : Bool) → QuietPlan (cond a (calls.job1 s i ok) (cond b (calls.job2 s n i ok) (cond c (calls.job3 s i) (calls.job4 s n i ok))))
       go true b c =
           commit-change (entryOf (s .log) i) (s .committed .head) (num i) (nextOrdinal (s .committed .head .ordinal)) (present (s .committed .values) (entryOf (s .log) i))
           (job1.rule (entryOf (s .log) i .change .commit) (job1.tests (s .committed .head) (s .change) (restOf s) (num i) ok))

@@ -2,7 +2,7 @@
 -- log longer. Assumes nothing.
 use Prim.Native.Nat.{ℕ, zero, suc, _+_, _≤_, _<_}
 use mathlib.Core.Path.{_≡_, refl, sym, _∙_, subst}
-use mathlib.Core.Bool.{Bool, true, false, _&&_, _||_}
+use mathlib.Core.Bool.{Bool, true, false, _&&_, _||_, cond}
 use mathlib.Core.List.{List, [], _∷_, _++_, map}
 use native.Mathlib.Omega.{arith}
 use borrow.Author.Tests.{leb-true, leb-false, ltb-true}
@@ -50,7 +50,7 @@ use Rattle.machine.specs.WellFormed.{pairsOk}
 use Rattle.machine.specs.Entries.{set-all}
 use Rattle.machine.specs.Cases.{and-left, and-right, or-cases}
 use Rattle.machine.specs.Calls as calls
-use Rattle.machine.specs.Calls.{Pair, Call, Outcome, append, start, stop, connect, disconnect, master, sync, work, unless, validChange, valuesOk, pathOf, valueOf, appended, presentOne, present, jobIf, planOf, commits, workOk, copyRow, decide}
+use Rattle.machine.specs.Calls.{Pair, Call, Outcome, append, start, stop, connect, disconnect, master, sync, work, unless, validChange, valuesOk, pathOf, valueOf, appended, presentOne, present, planOf, commits, workOk, copyRow, decide}
 use Rattle.image.proofs.Sized.{Four, SizedEntry, SizedHead, SizedMastership, SizedTable, SizedConnections}
 use Rattle.image.proofs.Shown.{Fits, FitsAll, grown}
 use Rattle.link.proofs.Sizes.{Sizes, four}
@@ -262,7 +262,7 @@ start-small : (t : Target) → t .id < 4294967296 → outside.start t .target .i
 start-small t h = go (t .running) (isLast (t .id)) refl
   where
     go : (r l : Bool) → isLast (t .id) ≡ l
-        → outside.targetIf r (outside.targeted 7 t) (outside.targetIf l (outside.targeted 9 t) (outside.targeted 0 (record { id = t .id + 1; running = true }))) .target .id < 4294967296
+        → cond r (outside.targeted 7 t) (cond l (outside.targeted 9 t) (outside.targeted 0 (record { id = t .id + 1; running = true }))) .target .id < 4294967296
     go true l e = h
     go false true e = h
     go false false e = omega (arith, leb-false 4294967295 (t .id) e)
@@ -270,7 +270,7 @@ start-small t h = go (t .running) (isLast (t .id)) refl
 stop-small : (t : Target) → t .id < 4294967296 → outside.stop t .target .id < 4294967296
 stop-small t h = go (t .running)
   where
-    go : (r : Bool) → outside.targetIf r (outside.targeted 0 (record { id = t .id; running = false })) (outside.targeted 7 t) .target .id < 4294967296
+    go : (r : Bool) → cond r (outside.targeted 0 (record { id = t .id; running = false })) (outside.targeted 7 t) .target .id < 4294967296
     go true = h
     go false = h
 
@@ -278,8 +278,8 @@ connect-small : (x : Connection) (running : Bool) → x .id < 4294967296 → out
 connect-small x running h = go (x .connected) running (isLast (x .id)) refl
   where
     go : (c r l : Bool) → isLast (x .id) ≡ l
-        → outside.connectedIf c (outside.answered 7 x)
-        (outside.connectedIf r (outside.connectedIf l (outside.answered 9 x) (outside.answered 0 (record { id = x .id + 1; connected = true }))) (outside.answered 8 x)) .connection .id < 4294967296
+        → cond c (outside.answered 7 x)
+        (cond r (cond l (outside.answered 9 x) (outside.answered 0 (record { id = x .id + 1; connected = true }))) (outside.answered 8 x)) .connection .id < 4294967296
     go true r l e = h
     go false true true e = h
     go false true false e = omega (arith, leb-false 4294967295 (x .id) e)
@@ -288,7 +288,7 @@ connect-small x running h = go (x .connected) running (isLast (x .id)) refl
 disconnect-small : (x : Connection) → x .id < 4294967296 → outside.disconnect x .connection .id < 4294967296
 disconnect-small x h = go (x .connected)
   where
-    go : (c : Bool) → outside.connectedIf c (outside.answered 0 (outside.off x)) (outside.answered 7 x) .connection .id < 4294967296
+    go : (c : Bool) → cond c (outside.answered 0 (outside.off x)) (outside.answered 7 x) .connection .id < 4294967296
     go true = h
     go false = h
 
@@ -304,10 +304,10 @@ master-sized m n x k f i = go (x .connected && eqb (m .master) 0) (isLast (m .te
   where
     go : (z l b h : Bool)
         → SizedMastership
-        (outside.masteredIf z
-        (outside.masteredIf l (outside.mastered 9 m) (outside.mastered 0 (record { master = n; term = nextTerm (m .term); conn = x .id })))
-        (outside.masteredIf b
-        (outside.masteredIf h (outside.mastered 11 m) (outside.mastered 0 (record { master = 0; term = m .term; conn = m .conn })))
+        (cond z
+        (cond l (outside.mastered 9 m) (outside.mastered 0 (record { master = n; term = nextTerm (m .term); conn = x .id })))
+        (cond b
+        (cond h (outside.mastered 11 m) (outside.mastered 0 (record { master = 0; term = m .term; conn = m .conn })))
         (outside.mastered 11 m)) .mastership)
     go true true b h = f
     go true false b h = record { master = omega arith; term = term-small (m .term) (f .term); conn = i }
@@ -320,7 +320,7 @@ sync-small : (g : Configuration) (term : Term) (m r : Bool) → g .term .0 < 429
 sync-small g term m r h k = go m (ltb (g .term .0) (term .0)) (g .state) r
   where
     go : (m l : Bool) (p : Progress) (r : Bool)
-        → outside.synchronisedIf m (outside.synchronisedIf l (outside.synchroniseBy p g term r) (outside.synchronised 11 g false)) (outside.synchronised 10 g false) .configuration .term .0 < 4294967296
+        → cond m (cond l (outside.synchroniseBy p g term r) (outside.synchronised 11 g false)) (outside.synchronised 10 g false) .configuration .term .0 < 4294967296
     go false l p r = h
     go true false p r = h
     go true true progress.Pending r = h
@@ -406,7 +406,7 @@ module _ (s : State) (f : Sizes s) where
     unfolding planOf
     plan-roomy n j ok = go (eqb j 1) (eqb j 2) (eqb j 3)
       where
-        go : (a b c : Bool) → Roomy (jobIf a (calls.job1 s i ok) (jobIf b (calls.job2 s n i ok) (jobIf c (calls.job3 s i) (calls.job4 s n i ok))))
+        go : (a b c : Bool) → Roomy (cond a (calls.job1 s i ok) (cond b (calls.job2 s n i ok) (cond c (calls.job3 s i) (calls.job4 s n i ok))))
         go true b c = job1-roomy ok
         go false true c = job2-roomy n ok
         go false false true = job3-roomy

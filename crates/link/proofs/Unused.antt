@@ -2,7 +2,7 @@
 use Prim.Native.Nat.{ℕ, _+_, _*_, _≤_, _<_}
 use mathlib.Core.Path.{_≡_, refl, ap, ap₂, sym, _∙_, subst}
 use mathlib.Core.Logic.{inl, inr}
-use mathlib.Core.Bool.{Bool, true, false, _&&_}
+use mathlib.Core.Bool.{Bool, true, false, _&&_, cond}
 use mathlib.Core.List.{List, [], _∷_}
 use native.Mathlib.Omega.{arith}
 use lib.Dec.{eqb, ltb}
@@ -17,7 +17,7 @@ use Rattle.machine.specs.Stores.{Table, ofCommitted, ofApplied, ofTarget, Store
 use Rattle.machine.specs.Calls.{Pair, Call, Outcome, append, unless, validChange, appended, decide}
 use Rattle.image.specs.Layout.{entryWidths, headWidths, tableWidths, configurationWidths, mastershipWidths, targetWidths, connectionsWidths, placeOf, lengthAt, changeAt, committedAt, appliedAt, valuesAt, configurationAt, mastershipAt, targetAt, connectionsAt, imageLength}
 use Rattle.image.specs.Records.{entryAt, entryNumbers, putEntryAt, logLength, headNumbers, putHeadAt, configurationNumbers, putConfiguration, mastershipNumbers, putMastership, targetNumbers, putTarget, connectionsNumbers, eight, putConnections}
-use Rattle.image.specs.View.{upTo, view, writeIf, write, written}
+use Rattle.image.specs.View.{upTo, view, write, written}
 use Rattle.image.specs.Formed.{allUpTo, entryStatusesOk, codesOk, formed}
 use Rattle.image.proofs.UpTo.{all-same}
 use Rattle.image.proofs.Kept.{statuses-kept, length-kept, entries-kept, flags-kept}
@@ -68,7 +68,7 @@ module _ (n j : ℕ) (a : 36 * n ≤ j) (b : j < lengthAt) (l : List ℕ) where
   puts-past : (ws xs : List ℕ) (at : ℕ) → lengthAt ≤ at → getD (putFields l at ws xs) j 0 ≡ getD l j 0
   puts-past ws xs at h = puts-outside ws xs l at j (inl (omega arith))
 
-  value-past : (x : Bool) (at v : ℕ) → lengthAt ≤ at → getD (writeIf x (putField l at 2 v) l) j 0 ≡ getD l j 0
+  value-past : (x : Bool) (at v : ℕ) → lengthAt ≤ at → getD (cond x (putField l at 2 v) l) j 0 ≡ getD l j 0
   value-past true at v h = put-past at 2 v h
   value-past false at v h = refl
 

@@ -3,7 +3,7 @@
 use Prim.Native.Nat.{ℕ, suc, _+_, _≤_, _<_}
 use native.Mathlib.Omega.{arith}
 use mathlib.Core.List.{List, [], _∷_, _++_, map}
-use mathlib.Core.Bool.{Bool, true, false, _&&_}
+use mathlib.Core.Bool.{Bool, true, false, _&&_, cond}
 use mathlib.Core.Path.{_≡_, refl, sym, subst}
 use lib.Dec.{eqb, ltb, leb}
 use lib.ListN.{length}
@@ -20,7 +20,7 @@ use Rattle.machine.specs.State.{State, Net, absent, entryOf, inLog, isNo
 use Rattle.machine.specs.Stores.{targetValues, configuration, mastership, connections, target, withLog, withNet, after, afters}
 use Rattle.machine.specs.WellFormed.{wellFormed}
 use Rattle.machine.specs.Settled.{settled}
-use Rattle.machine.specs.Calls.{Pair, Call, Outcome, append, rollback, start, stop, connect, disconnect, master, sync, work, refused, unless, answers, validChange, appended, restOf, present, jobIf, job1, job2, job3, job4, planOf, commits, planned, workOk, copyRow, decide}
+use Rattle.machine.specs.Calls.{Pair, Call, Outcome, append, rollback, start, stop, connect, disconnect, master, sync, work, refused, unless, answers, validChange, appended, restOf, present, job1, job2, job3, job4, planOf, commits, planned, workOk, copyRow, decide}
 use Rattle.machine.specs.Step.{outcome, step}
 use Rattle.machine.specs.Next.{putting, performed, rows-performed, withConfiguration, withMastership, withConnections, withTarget}
 use Rattle.machine.specs.Cases.{and-left, and-right, CommitChange, commit-change, CommitRollback, commit-rollback, ApplyChange, apply-change, ApplyRollback, apply-rollback}
@@ -125,7 +125,7 @@ module _ (s : State) (P : Reply → State → Type 0) where
       where
         go : (r : Bool) → s .net .target .running ≡ r → (l : Bool)
             → (let t = s .net .target in
-            let x = outside.targetIf r (outside.targeted 7 t) (outside.targetIf l (outside.targeted 9 t) (outside.targeted 0 (record { id = t .id + 1; running = true }))) in
+            let x = cond r (outside.targeted 7 t) (cond l (outside.targeted 9 t) (outside.targeted 0 (record { id = t .id + 1; running = true }))) in
             Of (answers (x .answer) (target (x .target) ∷ [])))
         go true e l = refuses 7 (omega arith)
         go false e true = refuses 9 (omega arith)
@@ -137,7 +137,7 @@ module _ (s : State) (P : Reply → State → Type 0) where
       where
         go : (r : Bool)
             → (let t = s .net .target in
-            let x = outside.targetIf r (outside.targeted 0 (record { id = t .id; running = false })) (outside.targeted 7 t) in
+            let x = cond r (outside.targeted 0 (record { id = t .id; running = false })) (outside.targeted 7 t) in
             Of (answers (x .answer) (target (x .target) ∷ targetValues absent ∷ connections (map outside.off (s .net .connections)) ∷ [])))
         go true = k .stop
         go false = refuses 7 (omega arith)
@@ -148,8 +148,8 @@ module _ (s : State) (P : Reply → State → Type 0) where
       where
         go : isNode n ≡ true → (c r : Bool) → s .net .target .running ≡ r → (l : Bool)
             → (let y = nodeOf (s .net .connections) n in
-            let x = outside.connectedIf c (outside.answered 7 y)
-            (outside.connectedIf r (outside.connectedIf l (outside.answered 9 y) (outside.answered 0 (record { id = y .id + 1; connected = true }))) (outside.answered 8 y)) in
+            let x = cond c (outside.answered 7 y)
+            (cond r (cond l (outside.answered 9 y) (outside.answered 0 (record { id = y .id + 1; connected = true }))) (outside.answered 8 y)) in
             Of (answers (x .answer) (connections (putNode (s .net .connections) n (x .connection)) ∷ [])))
         go e true r f l = refuses 7 (omega arith)
         go e false true f true = refuses 9 (omega arith)
@@ -162,7 +162,7 @@ module _ (s : State) (P : Reply → State → Type 0) where
       where
         go : (c : Bool)
             → (let y = nodeOf (s .net .connections) n in
-            let x = outside.connectedIf c (outside.answered 0 (outside.off y)) (outside.answered 7 y) in
+            let x = cond c (outside.answered 0 (outside.off y)) (outside.answered 7 y) in
             Of (answers (x .answer) (connections (putNode (s .net .connections) n (x .connection)) ∷ [])))
         go true = k .disconnect n
         go false = refuses 7 (omega arith)
@@ -176,10 +176,10 @@ module _ (s : State) (P : Reply → State → Type 0) where
       where
         go : isNode n ≡ true → (z l : Bool) → isLast (s .net .mastership .term .0) ≡ l → (b h : Bool)
             → (let m = s .net .mastership in
-            let x = outside.masteredIf z
-            (outside.masteredIf l (outside.mastered 9 m) (outside.mastered 0 (record { master = n; term = nextTerm (m .term); conn = nodeOf (s .net .connections) n .id })))
-            (outside.masteredIf b
-            (outside.masteredIf h (outside.mastered 11 m) (outside.mastered 0 (record { master = 0; term = m .term; conn = m .conn })))
+            let x = cond z
+            (cond l (outside.mastered 9 m) (outside.mastered 0 (record { master = n; term = nextTerm (m .term); conn = nodeOf (s .net .connections) n .id })))
+            (cond b
+            (cond h (outside.mastered 11 m) (outside.mastered 0 (record { master = 0; term = m .term; conn = m .conn })))
             (outside.mastered 11 m)) in
             Of (answers (x .answer) (mastership (x .mastership) ∷ [])))
         go e true true f b h = refuses 9 (omega arith)
@@ -196,8 +196,8 @@ module _ (s : State) (P : Reply → State → Type 0) where
       where
         go : (m l : Bool) (p : Progress) (r : Bool)
             → (let g = s .net .configuration in
-            let x = outside.synchronisedIf m
-            (outside.synchronisedIf l (outside.synchroniseBy p g (s .net .mastership .term) r) (outside.synchronised 11 g false))
+            let x = cond m
+            (cond l (outside.synchroniseBy p g (s .net .mastership .term) r) (outside.synchronised 11 g false))
             (outside.synchronised 10 g false) in
             Of (answers (x .answer) (configuration (x .configuration) ∷ copyRow (x .copies) (s .applied .values))))
         go false l p r = refuses 10 (omega arith)
@@ -220,8 +220,8 @@ module _ (s : State) (P : Reply → State → Type 0) where
       where
         go : 1 ≤ i → i ≤ length (s .log) → (a b : Bool) → eqb j 2 ≡ b → (d : Bool) → eqb j 3 ≡ d
             → Does (Rattle.machine.specs.Calls.sideIf a d) i (eqb c 1)
-            (jobIf a (Rattle.machine.specs.Calls.job1 s i (eqb r 0))
-            (jobIf b (Rattle.machine.specs.Calls.job2 s n i (eqb r 0)) (jobIf d (Rattle.machine.specs.Calls.job3 s i) (Rattle.machine.specs.Calls.job4 s n i (eqb r 0)))))
+            (cond a (Rattle.machine.specs.Calls.job1 s i (eqb r 0))
+            (cond b (Rattle.machine.specs.Calls.job2 s n i (eqb r 0)) (cond d (Rattle.machine.specs.Calls.job3 s i) (Rattle.machine.specs.Calls.job4 s n i (eqb r 0)))))
         go p q true b x d y = commit-change _ _ i _ (s .change) (restOf s) _ (eqb r 0) (k .job1 i p q (eqb c 1))
         go p q false true x false y = apply-change _ _ i _ (settled s) (lineOpenFor (s .net) n) (eqb r 0) (k .job2 n i p q (eqb c 1))
         go p q false true x true y = absurd (omega (arith, eqb-true j 2 x, eqb-true j 3 y))

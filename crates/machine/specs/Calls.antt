@@ -1,15 +1,14 @@
 -- The calls, and what each decides: a reply, and a row of stores (paper: Refusal numbers, Calls from outside, The four
 -- jobs). A refusal's row is empty. Assumes nothing.
-use Prim.Native.Nat.{ℕ, _+_, _-_}
-use mathlib.Core.List.{List, [], _∷_, _++_, map}
-use mathlib.Core.Bool.{Bool, true, false, _&&_}
+use Prim.Native.Nat.{ℕ, _+_}
+use mathlib.Core.List.{List, [], _∷_, map}
+use mathlib.Core.Bool.{Bool, true, false, _&&_, cond}
 use lib.Dec.{eqb, ltb, leb}
-use lib.ListN.{length, getD, replicate}
+use lib.ListN.{length, getD}
 use Rattle.kinds.specs.declared.Transaction.{Transaction}
-use Rattle.kinds.specs.declared.Connection.{Connection}
 use Rattle.kinds.specs.declared.Reply.{Reply}
 use Rattle.kinds.specs.Numbers.{num}
-use Rattle.kinds.specs.Events.{noEvent, numbered, refusal}
+use Rattle.kinds.specs.Events.{numbered, refusal}
 use Rattle.rules.specs.declared.Plan.{Plan}
 use Rattle.rules.specs.Sides.{untouched, asked}
 use Rattle.rules.specs.AtRest.{atRest}
@@ -107,10 +106,6 @@ presentAt vs t k = presentOne (ltb k (t .count)) vs (getD (t .paths) k 0)
 unfoldable pub present : List ℕ → Transaction → List ℕ
 present vs t = presentAt vs t 0 ∷ presentAt vs t 1 ∷ presentAt vs t 2 ∷ presentAt vs t 3 ∷ []
 
-abbrev pub jobIf : Bool → Plan → Plan → Plan
-jobIf true a b = a
-jobIf false a b = b
-
 abbrev pub job1 : State → ℕ → Bool → Plan
 job1 s i ok =
     commitChange (entryOf (s .log) i) (s .committed .head) (s .change) (restOf s) (num i) ok (present (s .committed .values) (entryOf (s .log) i))
@@ -127,7 +122,7 @@ job4 s n i ok = applyRollback (entryOf (s .log) i) (s .applied .head) (settled s
 -- what job j of node n plans for number i
 unfoldable pub planOf : State → ℕ → ℕ → ℕ → Bool → Plan
 planOf s n j i ok =
-    jobIf (eqb j 1) (job1 s i ok) (jobIf (eqb j 2) (job2 s n i ok) (jobIf (eqb j 3) (job3 s i) (job4 s n i ok)))
+    cond (eqb j 1) (job1 s i ok) (cond (eqb j 2) (job2 s n i ok) (cond (eqb j 3) (job3 s i) (job4 s n i ok)))
 
 -- jobs 1 and 3 are of the commit side
 abbrev pub sideIf : Bool → Bool → Bool

@@ -3,7 +3,7 @@
 use Prim.Native.Nat.{ℕ, suc, _+_, _≤_, _<_}
 use native.Mathlib.Omega.{arith}
 use mathlib.Core.List.{List}
-use mathlib.Core.Bool.{Bool, true, false, _&&_, _||_}
+use mathlib.Core.Bool.{Bool, true, false, _&&_, _||_, cond}
 use mathlib.Core.Path.{_≡_, refl}
 use lib.Dec.{eqb, ltb, leb}
 use borrow.Author.Tests.{eqb-true, eqb-false, leb-true, leb-false}
@@ -199,7 +199,7 @@ module _ (t : Transaction) (h : Head) (i : ℕ) (P : Plan → Type 0) where
         go m Failed e false en a ea s es u p v ev d ed l el y = k .wait
 
         all : (m : Bool) → isComplete (t .change .commit) ≡ m
-            → P (job2.plans (job2.ruleIf m (job2.ruleBy (t .change .apply) (job2.tests t h settled (num i) line accepted)) apply.Wait) t h (num i))
+            → P (job2.plans (cond m (job2.ruleBy (t .change .apply) (job2.tests t h settled (num i) line accepted)) apply.Wait) t h (num i))
         all true m =
             go (complete-is _ m) (t .change .apply) refl _ refl _ refl settled refl (isComplete (t .rollback .commit))
             (isComplete (t .rollback .commit) || ltb (h .revision .0) (t .index .0)) _ refl _ refl line refl accepted
@@ -259,6 +259,6 @@ module _ (t : Transaction) (h : Head) (i : ℕ) (P : Plan → Type 0) where
         go m Failed e n en w ew b eb a ea s es d ed l el y = k .wait
 
         all : (m : Bool) → isComplete (t .rollback .commit) ≡ m
-            → P (job4.plans (job4.ruleIf m (job4.ruleBy (t .rollback .apply) (job4.tests t h settled line accepted)) return.Wait) t h (num i))
+            → P (job4.plans (cond m (job4.ruleBy (t .rollback .apply) (job4.tests t h settled line accepted)) return.Wait) t h (num i))
         all true m = go (complete-is _ m) (t .rollback .apply) refl _ refl _ refl _ refl _ refl settled refl _ refl line refl accepted
         all false m = k .wait

@@ -2,7 +2,7 @@
 -- do: 2 for what is out of range, 5 for a number outside the log. Assumes nothing.
 use Prim.Native.Nat.{ℕ, _-_}
 use mathlib.Core.List.{List, [], _∷_}
-use mathlib.Core.Bool.{Bool, true, false, _&&_}
+use mathlib.Core.Bool.{Bool, true, false, _&&_, cond}
 use lib.Dec.{eqb, ltb, leb}
 use lib.ListN.{length, getD}
 use Rattle.kinds.specs.declared.Transaction.{Transaction}
@@ -70,12 +70,8 @@ stateNumbers s =
 abbrev pub nodeNumbers : Connection → List ℕ
 nodeNumbers x = x .id ∷ flag (x .connected) ∷ []
 
-abbrev pub valuesIf : Bool → List ℕ → List ℕ → List ℕ
-valuesIf true a b = a
-valuesIf false a b = b
-
 abbrev pub tableNumbers : State → ℕ → List ℕ
-tableNumbers s b = valuesIf (eqb b 1) (s .committed .values) (valuesIf (eqb b 2) (s .applied .values) (s .net .values))
+tableNumbers s b = cond (eqb b 1) (s .committed .values) (cond (eqb b 2) (s .applied .values) (s .net .values))
 
 -- ---- what is answered (1 comes first, where the state is an image's)
 unfoldable pub read : State → Query → Answer

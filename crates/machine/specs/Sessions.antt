@@ -2,7 +2,7 @@
 -- line of it. Assumes nothing.
 use Prim.Native.Nat.{ℕ, zero, suc}
 use mathlib.Core.List.{List, [], _∷_, _++_}
-use mathlib.Core.Bool.{Bool, true, false, _&&_}
+use mathlib.Core.Bool.{Bool, true, _&&_, cond}
 use mathlib.Core.Path.{_≡_, refl}
 use lib.Dec.{eqb}
 use lib.ListN.{getD}
@@ -10,15 +10,15 @@ use Rattle.kinds.specs.declared.Transaction.{Transaction}
 use Rattle.kinds.specs.declared.Event.{Event}
 use Rattle.kinds.specs.declared.Reply.{Reply}
 use Rattle.kinds.specs.declared.Status.{Status}
-use Rattle.kinds.specs.declared.Status.the-variants.{None, Pending, InProgress, Complete, Aborted, Canceled, Failed}
+use Rattle.kinds.specs.declared.Status.the-variants.{InProgress, Complete, Aborted, Canceled, Failed}
 use Rattle.kinds.specs.Numbers.{num}
-use Rattle.kinds.specs.Statuses.{codeOf, statusIf}
+use Rattle.kinds.specs.Statuses.{codeOf}
 use Rattle.kinds.specs.Events.{event, numbered, refusal}
 use Rattle.machine.specs.State.{State, fresh, entryOf}
 use Rattle.machine.specs.Stores.{after, afters}
 use Rattle.machine.specs.Rows.{overlay, rowsOf}
 use Rattle.machine.specs.WellFormed.{allFrom, pairsOk, entryOk, headOk, wellFormed}
-use Rattle.machine.specs.Calls.{Pair, Call, append, rollback, start, stop, connect, disconnect, master, sync, work, valuesOk, present, planOf, decide}
+use Rattle.machine.specs.Calls.{Call, append, rollback, start, connect, master, sync, work, valuesOk, present, planOf, decide}
 use Rattle.machine.specs.Step.{outcome, step}
 
 -- a call with its whole reply; or what the state then shows
@@ -38,7 +38,7 @@ sameReply a b = eqb (a .answer) (b .answer) && sameEvent (a .event) (b .event)
 -- the status of a phase (1, 2) and a stage (1, 2)
 abbrev pub statusAt : ℕ → ℕ → Transaction → Status
 statusAt p g t =
-    statusIf (eqb p 1) (statusIf (eqb g 1) (t .change .commit) (t .change .apply)) (statusIf (eqb g 1) (t .rollback .commit) (t .rollback .apply))
+    cond (eqb p 1) (cond (eqb g 1) (t .change .commit) (t .change .apply)) (cond (eqb g 1) (t .rollback .commit) (t .rollback .apply))
 
 unfoldable pub agrees : State → List Line → Bool
 agrees s [] = true

@@ -1,10 +1,9 @@
 -- One call: refusal 1 first, then what is decided, and its stores made. And any calls from fresh. Assumes nothing.
 use mathlib.Core.List.{List, [], _∷_}
-use mathlib.Core.Bool.{Bool, true, false}
 use Rattle.kinds.specs.declared.Reply.{Reply}
 use Rattle.kinds.specs.declared.Event.{Event}
 use Rattle.machine.specs.State.{State, fresh}
-use Rattle.machine.specs.Stores.{Store, afters}
+use Rattle.machine.specs.Stores.{afters}
 use Rattle.machine.specs.WellFormed.{wellFormed}
 use Rattle.machine.specs.Calls.{Call, Outcome, unless, decide}
 

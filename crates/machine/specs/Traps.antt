@@ -1,22 +1,17 @@
 -- The paper's traps, shut out by theorems on the definitions (paper: Traps of this trade). The third, counting every Done
 -- apply as taken by the switch, is a matter of the history (crate history). Assumes nothing.
-use Prim.Native.Nat.{ℕ, _<_}
-use mathlib.Core.Bool.{Bool, true, false, _&&_, _||_}
+use Prim.Native.Nat.{ℕ}
+use mathlib.Core.Bool.{Bool, true, false}
 use mathlib.Core.Path.{_≡_, refl}
-use lib.Dec.{eqb}
-use Rattle.kinds.specs.declared.Transaction.{Transaction}
-use Rattle.kinds.specs.declared.Head.{Head}
-use Rattle.kinds.specs.declared.Number.{Number}
 use Rattle.kinds.specs.declared.Status.{Status}
-use Rattle.kinds.specs.declared.Status.the-variants.{None, Pending, InProgress, Complete, Aborted, Canceled, Failed}
+use Rattle.kinds.specs.declared.Status.the-variants.{InProgress, Complete}
 use Rattle.kinds.specs.Numbers.{num, ord}
-use Rattle.kinds.specs.Statuses.{isComplete}
 use Rattle.rules.specs.AtRest.{atRest}
-use Rattle.rules.specs.ApplyChange.{tests, rule, plans, applyChange}
+use Rattle.rules.specs.ApplyChange.{rule}
 use Rattle.rules.specs.declared.ApplyChangeTests.{ApplyChangeTests}
 use Rattle.rules.specs.declared.ApplyChangeRule.{ApplyChangeRule}
 use Rattle.rules.specs.declared.ApplyChangeRule.the-variants.{Begin, Aim, Abort, Close, Finish, Fail, Push, NoLine, Wait}
-use Rattle.machine.specs.State.{Net, lineOpenFor, isMaster, nodeOf}
+use Rattle.machine.specs.State.{Net, lineOpenFor, isMaster}
 
 -- 2 is rolled back (its r.commit is Done) and the rollback of 1 has begun: target 0 is below index 2, and it is no rest
 pub rest-is-not-below : (c : Status) → atRest (record { index = num 2; target = num 0; revision = num 1; ordinal = ord 3 }) c Complete ≡ false

@@ -1,7 +1,6 @@
 -- Job 2, apply change: which rule holds, and its plan. Fields are of Applied; o is c.ordinal (paper: Job 2).
 -- Assumes nothing.
-use Prim.Native.Nat.{ℕ}
-use mathlib.Core.Bool.{Bool, true, false, _&&_, _||_}
+use mathlib.Core.Bool.{Bool, false, _&&_, _||_, cond}
 use lib.Dec.{eqb, ltb, leb}
 use Rattle.kinds.specs.declared.Transaction.{Transaction}
 use Rattle.kinds.specs.declared.Head.{Head}
@@ -21,10 +20,6 @@ use Rattle.rules.specs.declared.Lay.the-variants.{Nothing, Values}
 use Rattle.rules.specs.Plans.{refuse, entryOnly, headOnly, headThenEntry, entryThenHead}
 use Rattle.rules.specs.Sides.{applyAt}
 use Rattle.rules.specs.Heads.{aimed, landed, closed}
-
-abbrev pub ruleIf : Bool → ApplyChangeRule → ApplyChangeRule → ApplyChangeRule
-ruleIf true a b = a
-ruleIf false a b = b
 
 -- "o ≥ 1 and ordinal = o": the push has landed
 abbrev pub reached : Ordinal → Ordinal → Bool
@@ -48,25 +43,25 @@ tests t h settled i line accepted =
     }
 
 abbrev pub pendingRule : ApplyChangeTests → ApplyChangeRule
-pendingRule a = ruleIf (a .next) (ruleIf (a .aimed) Begin (ruleIf (a .settled) (ruleIf (a .passed) Abort (ruleIf (a .level) Aim Wait)) Wait)) Wait
+pendingRule a = cond (a .next) (cond (a .aimed) Begin (cond (a .settled) (cond (a .passed) Abort (cond (a .level) Aim Wait)) Wait)) Wait
 
 -- a begun change ends Failed, never Aborted
 abbrev pub begunRule : ApplyChangeTests → ApplyChangeRule
-begunRule a = ruleIf (a .landed) Finish (ruleIf (a .next) (ruleIf (a .undone) Fail (ruleIf (a .line) (ruleIf (a .accepted) Push Fail) NoLine)) Wait)
+begunRule a = cond (a .landed) Finish (cond (a .next) (cond (a .undone) Fail (cond (a .line) (cond (a .accepted) Push Fail) NoLine)) Wait)
 
 -- by c.apply
 abbrev pub ruleBy : Status → ApplyChangeTests → ApplyChangeRule
 ruleBy Pending a = pendingRule a
 ruleBy InProgress a = begunRule a
-ruleBy Aborted a = ruleIf (a .next) Close Wait
-ruleBy Failed a = ruleIf (a .next) Close Wait
+ruleBy Aborted a = cond (a .next) Close Wait
+ruleBy Failed a = cond (a .next) Close Wait
 ruleBy None a = Wait
 ruleBy Complete a = Wait
 ruleBy Canceled a = Wait
 
 -- job 2 begins only if c.commit is Complete
 abbrev pub rule : Status → ApplyChangeTests → ApplyChangeRule
-rule s a = ruleIf (a .committed) (ruleBy s a) Wait
+rule s a = cond (a .committed) (ruleBy s a) Wait
 
 abbrev pub plans : ApplyChangeRule → Transaction → Head → Number → Plan
 plans Begin t h i = entryOnly (withChange t (applyAt (t .change) InProgress)) h

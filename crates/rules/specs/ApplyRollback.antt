@@ -1,7 +1,6 @@
 -- Job 4, apply rollback: which rule holds, and its plan. Fields are of Applied; o is r.ordinal (paper: Job 4).
 -- Assumes nothing.
-use Prim.Native.Nat.{ℕ}
-use mathlib.Core.Bool.{Bool, true, false}
+use mathlib.Core.Bool.{Bool, true, false, cond}
 use lib.Dec.{eqb}
 use Rattle.kinds.specs.declared.Transaction.{Transaction}
 use Rattle.kinds.specs.declared.Head.{Head}
@@ -21,10 +20,6 @@ use Rattle.rules.specs.Plans.{refuse, entryOnly, headOnly, headThenEntry
 use Rattle.rules.specs.Sides.{applyAt}
 use Rattle.rules.specs.Heads.{aimed, landed, closed}
 use Rattle.rules.specs.ApplyChange.{reached}
-
-abbrev pub ruleIf : Bool → ApplyRollbackRule → ApplyRollbackRule → ApplyRollbackRule
-ruleIf true a b = a
-ruleIf false a b = b
 
 -- c.apply Complete or Failed: the change's push was tried
 abbrev pub wasTried : Status → Bool
@@ -61,18 +56,18 @@ tests t h settled line accepted =
 
 abbrev pub pendingRule : ApplyRollbackTests → ApplyRollbackRule
 pendingRule a =
-    ruleIf (a .next)
-    (ruleIf (a .tried) (ruleIf (a .aimed) Begin (ruleIf (a .settled) Aim Wait)) (ruleIf (a .aborted) (ruleIf (a .settled) Cancel Wait) Wait))
+    cond (a .next)
+    (cond (a .tried) (cond (a .aimed) Begin (cond (a .settled) Aim Wait)) (cond (a .aborted) (cond (a .settled) Cancel Wait) Wait))
     Wait
 
 abbrev pub begunRule : ApplyRollbackTests → ApplyRollbackRule
-begunRule a = ruleIf (a .landed) Finish (ruleIf (a .next) (ruleIf (a .line) (ruleIf (a .accepted) Push Rejected) NoLine) Wait)
+begunRule a = cond (a .landed) Finish (cond (a .next) (cond (a .line) (cond (a .accepted) Push Rejected) NoLine) Wait)
 
 -- by r.apply
 abbrev pub ruleBy : Status → ApplyRollbackTests → ApplyRollbackRule
 ruleBy Pending a = pendingRule a
 ruleBy InProgress a = begunRule a
-ruleBy Canceled a = ruleIf (a .next) Close Wait
+ruleBy Canceled a = cond (a .next) Close Wait
 ruleBy None a = Wait
 ruleBy Complete a = Wait
 ruleBy Aborted a = Wait
@@ -80,7 +75,7 @@ ruleBy Failed a = Wait
 
 -- job 4 begins only if r.commit is Complete
 abbrev pub rule : Status → ApplyRollbackTests → ApplyRollbackRule
-rule s a = ruleIf (a .committed) (ruleBy s a) Wait
+rule s a = cond (a .committed) (ruleBy s a) Wait
 
 abbrev pub plans : ApplyRollbackRule → Transaction → Head → Number → Plan
 plans Begin t h i = entryOnly (withRollback t (applyAt (t .rollback) InProgress)) h

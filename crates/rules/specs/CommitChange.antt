@@ -1,7 +1,7 @@
 -- Job 1, commit change: which rule holds, and its plan. Fields are of Committed (paper: Job 1). Assumes nothing.
 use Prim.Native.Nat.{ℕ}
 use mathlib.Core.List.{List}
-use mathlib.Core.Bool.{Bool, true, false}
+use mathlib.Core.Bool.{Bool, true, false, cond}
 use lib.Dec.{eqb}
 use Rattle.kinds.specs.declared.Transaction.{Transaction}
 use Rattle.kinds.specs.declared.Head.{Head}
@@ -21,10 +21,6 @@ use Rattle.rules.specs.Plans.{refuse, entryOnly, headOnly, headThenEntry
 use Rattle.rules.specs.Sides.{begun, committed, invalid}
 use Rattle.rules.specs.Heads.{aimed, landed, passed}
 
-abbrev pub ruleIf : Bool → CommitChangeRule → CommitChangeRule → CommitChangeRule
-ruleIf true a b = a
-ruleIf false a b = b
-
 -- ready: change = i − 1; aimed: target = i; landed: change = i
 abbrev pub tests : Head → Number → Bool → Number → Bool → CommitTests
 tests h change rest i accepted =
@@ -39,9 +35,9 @@ tests h change rest i accepted =
 
 -- by c.commit
 abbrev pub rule : Status → CommitTests → CommitChangeRule
-rule Pending a = ruleIf (a .ready) (ruleIf (a .aimed) Begin (ruleIf (a .rest) Aim Wait)) Wait
-rule InProgress a = ruleIf (a .ready) (ruleIf (a .accepted) (ruleIf (a .full) Full Land) Reject) (ruleIf (a .landed) Finish Wait)
-rule Failed a = ruleIf (a .ready) Close Wait
+rule Pending a = cond (a .ready) (cond (a .aimed) Begin (cond (a .rest) Aim Wait)) Wait
+rule InProgress a = cond (a .ready) (cond (a .accepted) (cond (a .full) Full Land) Reject) (cond (a .landed) Finish Wait)
+rule Failed a = cond (a .ready) Close Wait
 rule None a = Wait
 rule Complete a = Wait
 rule Aborted a = Wait

@@ -1,6 +1,5 @@
 -- Job 3, commit rollback: which rule holds, and its plan. Fields are of Committed (paper: Job 3). Assumes nothing.
-use Prim.Native.Nat.{ℕ}
-use mathlib.Core.Bool.{Bool, true, false}
+use mathlib.Core.Bool.{Bool, true, false, cond}
 use lib.Dec.{eqb}
 use Rattle.kinds.specs.declared.Transaction.{Transaction}
 use Rattle.kinds.specs.declared.Head.{Head}
@@ -20,10 +19,6 @@ use Rattle.rules.specs.Plans.{refuse, entryOnly, headThenEntry}
 use Rattle.rules.specs.Sides.{begun, committed}
 use Rattle.rules.specs.Heads.{aimed, landed}
 
-abbrev pub ruleIf : Bool → CommitRollbackRule → CommitRollbackRule → CommitRollbackRule
-ruleIf true a b = a
-ruleIf false a b = b
-
 -- ready: revision = i; aimed: target = r.index; landed: revision = r.index. The outcome is not looked at
 abbrev pub tests : Head → Number → Bool → Number → CommitTests
 tests h index rest i =
@@ -38,8 +33,8 @@ tests h index rest i =
 
 -- by r.commit
 abbrev pub rule : Status → CommitTests → CommitRollbackRule
-rule Pending a = ruleIf (a .ready) (ruleIf (a .aimed) Begin (ruleIf (a .rest) Aim Wait)) Wait
-rule InProgress a = ruleIf (a .ready) (ruleIf (a .full) Full Land) (ruleIf (a .landed) Finish Wait)
+rule Pending a = cond (a .ready) (cond (a .aimed) Begin (cond (a .rest) Aim Wait)) Wait
+rule InProgress a = cond (a .ready) (cond (a .full) Full Land) (cond (a .landed) Finish Wait)
 rule None a = Wait
 rule Complete a = Wait
 rule Aborted a = Wait

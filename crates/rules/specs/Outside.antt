@@ -1,7 +1,7 @@
 -- The calls from outside, each on the few records that it reads (paper: Calls from outside). Append and the tables of
 -- nodes and values are in the crate machine. Assumes nothing.
 use Prim.Native.Nat.{ℕ, _+_}
-use mathlib.Core.Bool.{Bool, true, false, _&&_}
+use mathlib.Core.Bool.{Bool, true, false, _&&_, cond}
 use lib.Dec.{eqb, ltb}
 use Rattle.kinds.specs.declared.Transaction.{Transaction}
 use Rattle.kinds.specs.declared.Configuration.{Configuration}
@@ -38,26 +38,18 @@ rolledBack t =
     }
 
 -- ---- start and stop: the target. Stop also clears its values and disconnects every node
-abbrev pub targetIf : Bool → Targeted → Targeted → Targeted
-targetIf true a b = a
-targetIf false a b = b
-
 abbrev pub targeted : ℕ → Target → Targeted
 targeted a t = record { answer = a; target = t }
 
 abbrev pub start : Target → Targeted
 start t =
-    targetIf (t .running) (targeted 7 t)
-    (targetIf (isLast (t .id)) (targeted 9 t) (targeted 0 (record { id = t .id + 1; running = true })))
+    cond (t .running) (targeted 7 t)
+    (cond (isLast (t .id)) (targeted 9 t) (targeted 0 (record { id = t .id + 1; running = true })))
 
 abbrev pub stop : Target → Targeted
-stop t = targetIf (t .running) (targeted 0 (record { id = t .id; running = false })) (targeted 7 t)
+stop t = cond (t .running) (targeted 0 (record { id = t .id; running = false })) (targeted 7 t)
 
 -- ---- connect and disconnect: one node's connection
-abbrev pub connectedIf : Bool → Connected → Connected → Connected
-connectedIf true a b = a
-connectedIf false a b = b
-
 abbrev pub answered : ℕ → Connection → Connected
 answered a x = record { answer = a; connection = x }
 
@@ -67,19 +59,15 @@ off x = record { id = x .id; connected = false }
 
 abbrev pub connect : Connection → Bool → Connected
 connect x running =
-    connectedIf (x .connected) (answered 7 x)
-    (connectedIf running
-    (connectedIf (isLast (x .id)) (answered 9 x) (answered 0 (record { id = x .id + 1; connected = true })))
+    cond (x .connected) (answered 7 x)
+    (cond running
+    (cond (isLast (x .id)) (answered 9 x) (answered 0 (record { id = x .id + 1; connected = true })))
     (answered 8 x))
 
 abbrev pub disconnect : Connection → Connected
-disconnect x = connectedIf (x .connected) (answered 0 (off x)) (answered 7 x)
+disconnect x = cond (x .connected) (answered 0 (off x)) (answered 7 x)
 
 -- ---- mastership of node n, whose connection is x
-abbrev pub masteredIf : Bool → Mastered → Mastered → Mastered
-masteredIf true a b = a
-masteredIf false a b = b
-
 abbrev pub mastered : ℕ → Mastership → Mastered
 mastered a m = record { answer = a; mastership = m }
 
@@ -87,17 +75,13 @@ mastered a m = record { answer = a; mastership = m }
 -- n master, and not connected or its id differs from conn (order 1): no master and the rest kept; else 11
 abbrev pub master : Mastership → ℕ → Connection → Mastered
 master m n x =
-    masteredIf (x .connected && eqb (m .master) 0)
-    (masteredIf (isLast (m .term .0)) (mastered 9 m) (mastered 0 (record { master = n; term = nextTerm (m .term); conn = x .id })))
-    (masteredIf (eqb (m .master) n)
-    (masteredIf (x .connected && eqb (x .id) (m .conn)) (mastered 11 m) (mastered 0 (record { master = 0; term = m .term; conn = m .conn })))
+    cond (x .connected && eqb (m .master) 0)
+    (cond (isLast (m .term .0)) (mastered 9 m) (mastered 0 (record { master = n; term = nextTerm (m .term); conn = x .id })))
+    (cond (eqb (m .master) n)
+    (cond (x .connected && eqb (x .id) (m .conn)) (mastered 11 m) (mastered 0 (record { master = 0; term = m .term; conn = m .conn })))
     (mastered 11 m))
 
 -- ---- synchronise by a node: whether it is master, and whether it reaches the target
-abbrev pub synchronisedIf : Bool → Synchronised → Synchronised → Synchronised
-synchronisedIf true a b = a
-synchronisedIf false a b = b
-
 -- `copies`: the target's values become the applied values
 abbrev pub synchronised : ℕ → Configuration → Bool → Synchronised
 synchronised a g b = record { answer = a; configuration = g; copies = b }
@@ -106,12 +90,12 @@ synchronised a g b = record { answer = a; configuration = g; copies = b }
 abbrev pub synchroniseBy : Progress → Configuration → Term → Bool → Synchronised
 synchroniseBy Pending g term reaches = synchronised 0 (record { state = InProgress; term = g .term }) false
 synchroniseBy Complete g term reaches = synchronised 0 (record { state = InProgress; term = g .term }) false
-synchroniseBy InProgress g term reaches = synchronisedIf reaches (synchronised 0 (record { state = Complete; term = term }) true) (synchronised 12 g false)
+synchroniseBy InProgress g term reaches = cond reaches (synchronised 0 (record { state = Complete; term = term }) true) (synchronised 12 g false)
 
 abbrev pub synchronise : Configuration → Term → Bool → Bool → Synchronised
 synchronise g term isMaster reaches =
-    synchronisedIf isMaster
-    (synchronisedIf (ltb (g .term .0) (term .0)) (synchroniseBy (g .state) g term reaches) (synchronised 11 g false))
+    cond isMaster
+    (cond (ltb (g .term .0) (term .0)) (synchroniseBy (g .state) g term reaches) (synchronised 11 g false))
     (synchronised 10 g false)
 
 -- ---- the line

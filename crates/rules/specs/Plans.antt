@@ -2,14 +2,14 @@
 -- (paper: The four jobs). What a store lays over values is said here too; the cut is applied where a plan becomes rows
 -- of stores (crate machine, Rows). Assumes nothing.
 use Prim.Native.Nat.{ℕ}
-use mathlib.Core.Bool.{Bool, true, false}
+use mathlib.Core.Bool.{Bool, false}
 use Rattle.kinds.specs.declared.Transaction.{Transaction}
 use Rattle.kinds.specs.declared.Head.{Head}
 use Rattle.kinds.specs.declared.Event.{Event}
 use Rattle.kinds.specs.Events.{noEvent}
 use Rattle.rules.specs.declared.Plan.{Plan}
 use Rattle.rules.specs.declared.Lay.{Lay}
-use Rattle.rules.specs.declared.Lay.the-variants.{Nothing, Values, Kept}
+use Rattle.rules.specs.declared.Lay.the-variants.{Nothing}
 use Rattle.rules.specs.declared.Order.the-variants.{Neither, EntryOnly, HeadOnly, EntryThenHead, HeadThenEntry}
 
 -- a refusal stores nothing
