@@ -15,6 +15,7 @@ use Rattle.kinds.specs.declared.Connection.{Connection}
 use Rattle.kinds.specs.declared.Mastership.{Mastership}
 use Rattle.kinds.specs.declared.Target.{Target}
 use Rattle.kinds.specs.declared.Configuration.{Configuration}
+use Rattle.kinds.specs.declared.Status.{Status}
 use Rattle.kinds.specs.declared.Status.the-variants.{None, Pending, InProgress, Complete, Aborted, Canceled, Failed}
 use Rattle.kinds.specs.Numbers.{num}
 use Rattle.kinds.specs.Statuses.{done, statusOf}
@@ -24,7 +25,9 @@ use Rattle.rules.specs.AtRest.{atRest}
 use Rattle.rules.specs.CommitChange.{commitChange}
 use Rattle.rules.specs.CommitRollback.{commitRollback}
 use Rattle.rules.specs.ApplyChange.{applyChange}
+use Rattle.rules.specs.ApplyChange as change
 use Rattle.rules.specs.ApplyRollback.{applyRollback}
+use Rattle.rules.specs.ApplyRollback as rollback
 use Rattle.rules.specs.Outside.{lineOpen}
 use Rattle.machine.specs.State.{State, entryOf, nodeOf, lineOpenFor}
 use Rattle.machine.specs.Settled.{entrySettled, settled}
@@ -36,7 +39,7 @@ use Rattle.image.specs.View.{tableOf, view}
 use Rattle.image.specs.Formed.{allUpTo, formed}
 use Rattle.image.proofs.UpTo.{entry-upTo, all-same, all-entries}
 use Rattle.image.proofs.Scanned.{view-length, formed-length, formed-few, formed-state}
-use Rattle.controller.specs.Claims.{Entry, entrySettledAt}
+use Rattle.controller.specs.Claims.{Entry, entrySettledAt, settledFor}
 
 -- ---- a well-formed image
 module _ (l : List ℕ) (w : formed l ≡ true) where
@@ -136,6 +139,32 @@ settled-all l o n r e z m q =
     q ∙ ap (allUpTo (entrySettledAt l o)) m ∙ all-same (entrySettledAt l o) (λ k. entrySettled o k (entryAt l k)) (logLength l) (λ k a b. settled-at l o k)
     ∙ sym (all-entries (entrySettled o) (entryAt l) (logLength l)) ∙ rw (← e, ne-eqb o 0 z)
 
+-- where a side's apply is not Pending, its rules decide the same whether the applied side is settled or not
+module _ (t : Transaction) (h : Head) (s : State) (i : Number) (line ok : Bool) where
+  change-asks : applyChange t h (settledFor (t .change .apply) s) i line ok ≡ applyChange t h (settled s) i line ok
+  change-asks = go (t .change .apply)
+    where
+      go : (a : Status) → change.plans (change.rule a (change.tests t h (settledFor a s) i line ok)) t h i ≡ change.plans (change.rule a (change.tests t h (settled s) i line ok)) t h i
+      go Pending = refl
+      go None = refl
+      go InProgress = refl
+      go Complete = refl
+      go Aborted = refl
+      go Canceled = refl
+      go Failed = refl
+
+  rollback-asks : applyRollback t h (settledFor (t .rollback .apply) s) i line ok ≡ applyRollback t h (settled s) i line ok
+  rollback-asks = go (t .rollback .apply)
+    where
+      go : (a : Status) → rollback.plans (rollback.rule a (rollback.tests t h (settledFor a s) line ok)) t h i ≡ rollback.plans (rollback.rule a (rollback.tests t h (settled s) line ok)) t h i
+      go Pending = refl
+      go None = refl
+      go InProgress = refl
+      go Complete = refl
+      go Aborted = refl
+      go Canceled = refl
+      go Failed = refl
+
 -- ---- the line
 pub line-shown : (l : List ℕ) (n : ℕ) (x : Connection) (m : Mastership) (t : Target) (g : Configuration) (r : Bool)
     → x ≡ nodeOf (connectionsOf l) n → m ≡ mastershipOf l → t ≡ targetOf l → g ≡ configurationOf l → r ≡ lineOpen n x m t g → r ≡ lineOpenFor (view l .net) n
@@ -170,20 +199,20 @@ module _ (l : List ℕ) (i : ℕ) (w : Entry l i) (t : Transaction) (e : t ≡ e
       ep ∙ ap₂ (λ (x : Transaction) (y : Head). commitRollback x y q k) z eh
       ∙ ap₂ (λ (x : Bool) (y : Number). commitRollback (entryOf (view l .log) i) (headAt l 4612) x y) eq f
 
-  module _ (n : ℕ) (q o ok : Bool) (eh : h ≡ headAt l 4686) (eq : q ≡ settled (view l)) (eo : o ≡ lineOpenFor (view l .net) n) where
-    pub job2-shown : p ≡ applyChange t h q k o ok → p ≡ job2 (view l) n i ok
+  module _ (n : ℕ) (q o ok : Bool) (eh : h ≡ headAt l 4686) (eo : o ≡ lineOpenFor (view l .net) n) where
+    pub job2-shown : q ≡ settledFor (t .change .apply) (view l) → p ≡ applyChange t h q k o ok → p ≡ job2 (view l) n i ok
     unfolding view
-    job2-shown ep =
-        ep ∙ ap₂ (λ (x : Transaction) (y : Head). applyChange x y q k o ok) z eh
-        ∙ ap₂ (λ (x : Bool) (y : Number). applyChange (entryOf (view l .log) i) (headAt l 4686) x y o ok) eq f
-        ∙ ap (λ (x : Bool). applyChange (entryOf (view l .log) i) (headAt l 4686) (settled (view l)) (num i) x ok) eo
+    job2-shown eq ep =
+        ep ∙ ap (λ (x : Bool). applyChange t h x k o ok) eq ∙ change-asks t h (view l) k o ok
+        ∙ ap₂ (λ (x : Transaction) (y : Head). applyChange x y (settled (view l)) k o ok) z eh
+        ∙ ap₂ (λ (x : Number) (y : Bool). applyChange (entryOf (view l .log) i) (headAt l 4686) (settled (view l)) x y ok) f eo
 
-    pub job4-shown : p ≡ applyRollback t h q k o ok → p ≡ job4 (view l) n i ok
+    pub job4-shown : q ≡ settledFor (t .rollback .apply) (view l) → p ≡ applyRollback t h q k o ok → p ≡ job4 (view l) n i ok
     unfolding view
-    job4-shown ep =
-        ep ∙ ap₂ (λ (x : Transaction) (y : Head). applyRollback x y q k o ok) z eh
-        ∙ ap₂ (λ (x : Bool) (y : Number). applyRollback (entryOf (view l .log) i) (headAt l 4686) x y o ok) eq f
-        ∙ ap (λ (x : Bool). applyRollback (entryOf (view l .log) i) (headAt l 4686) (settled (view l)) (num i) x ok) eo
+    job4-shown eq ep =
+        ep ∙ ap (λ (x : Bool). applyRollback t h x k o ok) eq ∙ rollback-asks t h (view l) k o ok
+        ∙ ap₂ (λ (x : Transaction) (y : Head). applyRollback x y (settled (view l)) k o ok) z eh
+        ∙ ap₂ (λ (x : Number) (y : Bool). applyRollback (entryOf (view l .log) i) (headAt l 4686) (settled (view l)) x y ok) f eo
 
 module _ (s : State) (n j i : ℕ) (ok : Bool) (p : Plan) where
   pub plan-1 : j ≡ 1 → p ≡ job1 s i ok → p ≡ planOf s n j i ok

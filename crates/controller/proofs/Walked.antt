@@ -7,7 +7,7 @@ use mathlib.Core.List.{List, [], _∷_, _++_}
 use native.Mathlib.Nat.{le-of-suc-le-suc, not-suc-le-zero, add-zero, zero-add}
 use native.Mathlib.Numerals.{add-one}
 use native.Mathlib.Omega.{arith}
-use borrow.Author.Tests.{le-leb, lt-leb}
+use borrow.Author.Tests.{leb-true, le-leb}
 use lib.Dec.{leb}
 use lib.ListN.{length, take, drop, set, length-set, take-append-drop}
 use Rattle.kinds.specs.declared.Transaction.{Transaction}
@@ -21,7 +21,7 @@ use Rattle.image.specs.Formed.{formed}
 use Rattle.image.proofs.Scanned.{view-length}
 use Rattle.controller.specs.declared.walking.Listed.{Listed}
 use Rattle.controller.specs.Claims.{Entry}
-use Rattle.controller.specs.Live.{unless, listing, listingOf, Lists, ListsLive, liveFrom, Chained, Placed}
+use Rattle.controller.specs.Live.{unless, listing, listingOf, Lists, ListsLive, liveFrom, Chained, Placed, Put}
 use Rattle.controller.proofs.Decided.{entry-of, formed-view}
 
 -- ---- hops, in a well-formed state
@@ -47,9 +47,26 @@ module _ (s : State) (f : kept.Formed s) where
       ap (λ (l : List ℕ). suc v ∷ l) (same v (entryOf (s .log) (suc v) .index .0) (entryOf (s .log) (suc v) .index .0) (omega arith) (omega arith) (omega arith))
 
 -- ---- from 0 there is nothing
-pub live-none : (s : State) (v : ℕ) → v ≡ 0 → liveFrom s v ≡ []
+live-none : (s : State) (v : ℕ) → v ≡ 0 → liveFrom s v ≡ []
 unfolding liveFrom hops
 live-none s v e = ap (liveFrom s) e
+
+pub counted-none : (s : State) (v : ℕ) → v ≡ 0 → 0 ≡ length (liveFrom s v)
+counted-none s v e = sym (ap length (live-none s v e))
+
+-- ---- a list is at most as long as the number that it is from is great
+few-hops : (k : ℕ) (l : List Transaction) (v : ℕ) → length (hops k l v) ≤ k
+unfolding hops
+few-hops zero l v = omega arith
+few-hops (suc k) l zero = omega arith
+few-hops (suc k) l (suc v) = let h = few-hops k l (entryOf l (suc v) .index .0) in omega arith
+
+pub live-short : (s : State) (v : ℕ) → length (liveFrom s v) ≤ v
+unfolding liveFrom
+live-short s v = few-hops v (s .log) v
+
+pub room-enough : (s : State) (v m : ℕ) → v ≤ m → true ≡ leb (length (liveFrom s v)) m
+room-enough s v m h = let k = live-short s v in sym (le-leb (length (liveFrom s v)) m (omega arith))
 
 -- ---- an entry's hop
 pub hop-is : (l : List ℕ) (v : ℕ) → Entry l v → (t : Transaction) (i : ℕ) → t ≡ entryAt l v → i ≡ t .index .0
@@ -71,8 +88,8 @@ module _ (l : List ℕ) (v : ℕ) (c : Chained l v) (n : v ≡ 0 → ⊥) where
     live-more =
         more (view l) (formed-view l (c .formed)) v n (let k = c .last in omega (arith, view-length l)) ∙ ap (λ (x : ℕ). v ∷ liveFrom (view l) x) (sym (h .0))
 
-    pub counted : (k : ℕ) → (k ≡ length (liveFrom (view l) i)) × (k ≤ i) → (k + 1 ≡ length (liveFrom (view l) v)) × (k + 1 ≤ v)
-    counted k p = (ap (λ (x : ℕ). x + 1) (p .0) ∙ add-one _ ∙ sym (ap length live-more), omega arith)
+    pub counted : (k : ℕ) → k ≡ length (liveFrom (view l) i) → k + 1 ≡ length (liveFrom (view l) v)
+    counted k p = ap (λ (x : ℕ). x + 1) p ∙ add-one _ ∙ sym (ap length live-more)
 
     pub room-here : (at m : ℕ) → at + length (liveFrom (view l) v) ≤ m → at < m
     room-here at m r = omega (arith, ap length live-more)
@@ -103,10 +120,6 @@ put-more xs f v l h =
     from-suc : (a b : ℕ) → suc (a + b) ≡ a + suc b
     from-suc a b = omega arith
 
--- the room with a list at a place
-abbrev pub Put : List ℕ → ℕ → List ℕ → List ℕ
-Put m at v = take at m ++ (v ++ drop (at + length v) m)
-
 pub walked-none : (s : State) (v : ℕ) (m : List ℕ) (at : ℕ) → v ≡ 0 → m ≡ Put m at (liveFrom s v)
 walked-none s v m at e =
     sym (ap (Put m at) (live-none s v e) ∙ ap (λ (k : ℕ). take at m ++ drop k m) (add-zero at) ∙ take-append-drop at m)
@@ -132,24 +145,27 @@ module _ (l : List ℕ) (w : formed l ≡ true) (d : Head) (v : ℕ) (ed : d ≡
   unfolding liveFrom
   live-is = ap (λ (x : ℕ). hops x (view l .log) x) from-revision
 
-  module _ (m : List ℕ) (n : ℕ) (en : n ≡ length (liveFrom (view l) v)) where
-    pub starts : n ≤ length m → Placed l v 0 (length m)
-    starts h = record { chained = revision-chained; room = omega arith }
+  module _ (m : List ℕ) (b : Bool) (eb : b ≡ leb (length (liveFrom (view l) v)) (length m)) where
+    pub starts : b ≡ true → Placed l v 0 (length m)
+    starts h = let k = leb-true (length (liveFrom (view l) v)) (length m) (sym eb ∙ h) in record { chained = revision-chained; room = omega arith }
 
-    pub listed : (r : Listed) (m′ : List ℕ) → n ≤ length m → m′ ≡ Put m 0 (liveFrom (view l) v) → r ≡ record { answer = 0; length = n } → ListsLive l m r m′
-    listed r m′ h q p =
-        let k : n ≡ length (live (view l)) = en ∙ ap length live-is in
-        let b : leb (length (live (view l))) (length m) ≡ true = le-leb (length (live (view l))) (length m) (omega arith) in (
-          p ∙ ap (λ (x : ℕ). record { answer = 0; length = x }) k ∙ ap (λ (x : Bool). unless 14 m x (listing (live (view l)) m) .listed) (sym b),
-          q ∙ ap (Put m 0) live-is ∙ ap (λ (x : ℕ). live (view l) ++ drop x m) (zero-add (length (live (view l))))
-              ∙ ap (λ (x : Bool). unless 14 m x (listing (live (view l)) m) .room) (sym b),
-        )
+    room-is : leb (length (live (view l))) (length m) ≡ b
+    room-is = ap (λ (x : List ℕ). leb (length x) (length m)) (sym live-is) ∙ sym eb
 
-    pub not-listed : (r : Listed) → length m < n → r ≡ record { answer = 14; length = 0 } → ListsLive l m r m
-    not-listed r h p =
-        let k : n ≡ length (live (view l)) = en ∙ ap length live-is in
-        let b : leb (length (live (view l))) (length m) ≡ false = lt-leb (length (live (view l))) (length m) (omega arith) in
-        (p ∙ ap (λ (x : Bool). unless 14 m x (listing (live (view l)) m) .listed) (sym b), ap (λ (x : Bool). unless 14 m x (listing (live (view l)) m) .room) (sym b))
+    pub listed : (n : ℕ) (r : Listed) (m′ : List ℕ) → b ≡ true → (n ≡ length (liveFrom (view l) v)) × (m′ ≡ Put m 0 (liveFrom (view l) v))
+        → r ≡ record { answer = 0; length = n } → ListsLive l m r m′
+    listed n r m′ h q p = (
+      p ∙ ap (λ (x : ℕ). record { answer = 0; length = x }) (q .0 ∙ ap length live-is)
+          ∙ ap (λ (x : Bool). unless 14 m x (listing (live (view l)) m) .listed) (sym (room-is ∙ h)),
+      q .1 ∙ ap (Put m 0) live-is ∙ ap (λ (x : ℕ). live (view l) ++ drop x m) (zero-add (length (live (view l))))
+          ∙ ap (λ (x : Bool). unless 14 m x (listing (live (view l)) m) .room) (sym (room-is ∙ h)),
+    )
+
+    pub not-listed : (r : Listed) → b ≡ false → r ≡ record { answer = 14; length = 0 } → ListsLive l m r m
+    not-listed r h p = (
+      p ∙ ap (λ (x : Bool). unless 14 m x (listing (live (view l)) m) .listed) (sym (room-is ∙ h)),
+      ap (λ (x : Bool). unless 14 m x (listing (live (view l)) m) .room) (sym (room-is ∙ h)),
+    )
 
 -- ---- refusal 1 comes first
 module _ (l m : List ℕ) (b : Bool) (r : Listed) (eb : b ≡ formed l) where

@@ -5,6 +5,10 @@ use mathlib.Core.Bool.{Bool, true, not, _&&_, _||_}
 use mathlib.Core.List.{List}
 use lib.Dec.{eqb, leb}
 use Rattle.kinds.specs.declared.Reply.{Reply}
+use Rattle.kinds.specs.declared.Status.{Status}
+use Rattle.kinds.specs.declared.Status.the-variants.{None, Pending, InProgress, Complete, Aborted, Canceled, Failed}
+use Rattle.machine.specs.State.{State}
+use Rattle.machine.specs.Settled.{settled}
 use Rattle.machine.specs.Calls.{Outcome, Call, unless, decide}
 use Rattle.fields.specs.Field.{field}
 use Rattle.image.specs.Layout.{placeOf}
@@ -37,3 +41,13 @@ sideSettledAt l o apply at = not (eqb (field l at 4) o) || leb 3 (field l apply 
 
 unfoldable pub entrySettledAt : List ℕ → ℕ → ℕ → Bool
 entrySettledAt l o n = sideSettledAt l o (placeOf n + 1) (placeOf n + 8) && sideSettledAt l o (placeOf n + 3) (placeOf n + 12)
+
+-- asked of a side whose apply is Pending; at any other status the rules do not look at it
+abbrev pub settledFor : Status → State → Bool
+settledFor Pending s = settled s
+settledFor None s = true
+settledFor InProgress s = true
+settledFor Complete s = true
+settledFor Aborted s = true
+settledFor Canceled s = true
+settledFor Failed s = true

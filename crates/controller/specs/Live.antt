@@ -4,7 +4,7 @@ use mathlib.Core.Path.{_≡_}
 use mathlib.Core.Bool.{Bool, true, false}
 use mathlib.Core.List.{List, _++_}
 use lib.Dec.{leb}
-use lib.ListN.{length, drop}
+use lib.ListN.{length, take, drop}
 use Rattle.machine.specs.State.{State}
 use Rattle.machine.specs.LiveList.{hops, live}
 use Rattle.image.specs.Records.{logLength}
@@ -57,3 +57,7 @@ pub record Chained (l : List ℕ) (v : ℕ) : Type 0 where
 pub record Placed (l : List ℕ) (v at n : ℕ) : Type 0 where
   pub chained : Chained l v
   pub room : at + length (liveFrom (view l) v) ≤ n
+
+-- the room with a list at a place
+abbrev pub Put : List ℕ → ℕ → List ℕ → List ℕ
+Put m at v = take at m ++ (v ++ drop (at + length v) m)

@@ -12,7 +12,7 @@ ghost use Rattle.image.specs.Records.{entryAt, logLength};
 ghost use Rattle.image.specs.View.{view};
 ghost use Rattle.image.specs.Formed.{formed, allUpTo};
 ghost use Rattle.fields.specs.Field.{fieldsAt};
-ghost use Rattle.controller.specs.Claims.{Entry, sideSettledAt, entrySettledAt};
+ghost use Rattle.controller.specs.Claims.{Entry, sideSettledAt, entrySettledAt, settledFor};
 use fields::get1;
 use fields::get4;
 use image::load_change;
@@ -25,6 +25,7 @@ use image::load_target;
 use image::load_value;
 use image::log_length;
 use kinds::Number;
+use kinds::Status;
 use kinds::Transaction;
 use rules::Plan;
 use rules::apply_change;
@@ -127,6 +128,22 @@ fn settled(s: &[u8]) -> bool
     entries_settled(s, o, n as usize)
 }
 
+// The same where a side's apply is Pending: the rules ask it at no other status, and then no entry is looked at.
+fn settled_for(s: &[u8], apply: Status) -> bool
+    requires { ⌜ formed (now s) ≡ true ⌝ }
+    ensures { λ r. ⌜ r ≡ settledFor apply (view (now (s .entry))) ⌝ }
+{
+    match apply {
+        Status::Pending => settled(s),
+        Status::None => true,
+        Status::InProgress => true,
+        Status::Complete => true,
+        Status::Aborted => true,
+        Status::Canceled => true,
+        Status::Failed => true,
+    }
+}
+
 // Whether the line is open for a node.
 fn line(s: &[u8], node: u8) -> bool
     requires { ⌜ (formed (now s) ≡ true) × ((1 ≤ node) × (node ≤ 8)) ⌝ }
@@ -157,7 +174,9 @@ fn job2(s: &[u8], node: u8, number: u16, accepted: bool) -> Plan
 {
     let t = load_entry(s, number);
     let h = load_head(s, 4686);
-    let quiet = settled(s);
+    let x = t.change;
+    let apply = x.apply;
+    let quiet = settled_for(s, apply);
     let open = line(s, node);
     apply_change(t, h, quiet, Number::of(number), open, accepted)
 }
@@ -178,7 +197,9 @@ fn job4(s: &[u8], node: u8, number: u16, accepted: bool) -> Plan
 {
     let t = load_entry(s, number);
     let h = load_head(s, 4686);
-    let quiet = settled(s);
+    let y = t.rollback;
+    let apply = y.apply;
+    let quiet = settled_for(s, apply);
     let open = line(s, node);
     apply_rollback(t, h, quiet, Number::of(number), open, accepted)
 }

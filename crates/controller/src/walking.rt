@@ -1,14 +1,14 @@
 // The live list: a recursive walk from the committed revision; each hop goes to r.index until 0.
 ghost use mathlib.Core.Path.{_≡_};
 ghost use mathlib.Core.Bool.{true};
-ghost use mathlib.Core.List.{_++_};
-ghost use Prim.Native.Nat.{_+_, _≤_, _<_};
-ghost use lib.ListN.{length, take, drop};
+ghost use Prim.Native.Nat.{_<_};
+ghost use lib.Dec.{leb};
+ghost use lib.ListN.{length};
 ghost use Rattle.machine.specs.State.{entryOf};
 ghost use Rattle.image.specs.View.{view};
 ghost use Rattle.image.specs.Formed.{formed};
 ghost use Rattle.controller.specs.Claims.{Entry};
-ghost use Rattle.controller.specs.Live.{Lists, ListsLive, liveFrom, Chained, Placed};
+ghost use Rattle.controller.specs.Live.{Lists, ListsLive, liveFrom, Chained, Placed, Put};
 use image::load_entry;
 use image::load_head;
 use image::well_formed;
@@ -32,7 +32,7 @@ fn hop(s: &[u8], v: u16) -> u16
 // How many hops there are from v to 0.
 fn count(s: &[u8], v: u16) -> u16
     requires { ⌜ Chained (now s) v ⌝ }
-    ensures { λ r. ⌜ (r ≡ length (liveFrom (view (now (s .entry))) v)) × (r ≤ v) ⌝ }
+    ensures { λ r. ⌜ r ≡ length (liveFrom (view (now (s .entry))) v) ⌝ }
 {
     if v == 0 {
         return 0;
@@ -41,17 +41,29 @@ fn count(s: &[u8], v: u16) -> u16
     count(s, next) + 1
 }
 
-// Writes the list from v on, at a place and after it.
-fn walk(s: &[u8], v: u16, room: &mut [u16], at: usize)
+// Whether the list from v has room: it has at most v numbers, so it is counted only where there is less space.
+fn has_room(s: &[u8], v: u16, space: usize) -> bool
+    requires { ⌜ Chained (now s) v ⌝ }
+    ensures { λ r. ⌜ r ≡ leb (length (liveFrom (view (now (s .entry))) v)) space ⌝ }
+{
+    if v as usize <= space {
+        return true;
+    }
+    let n = count(s, v);
+    n as usize <= space
+}
+
+// Writes the list from v on, at a place and after it, and answers its length.
+fn walk(s: &[u8], v: u16, room: &mut [u16], at: usize) -> u16
     requires { ⌜ Placed (now s) v at (length (now room)) ⌝ }
-    ensures { λ _. ⌜ now (room .exit) ≡ take at (now (room .entry)) ++ (liveFrom (view (now (s .entry))) v ++ drop (at + length (liveFrom (view (now (s .entry))) v)) (now (room .entry))) ⌝ }
+    ensures { λ r. ⌜ (r ≡ length (liveFrom (view (now (s .entry))) v)) × (now (room .exit) ≡ Put (now (room .entry)) at (liveFrom (view (now (s .entry))) v)) ⌝ }
 {
     if v == 0 {
-        return;
+        return 0;
     }
     let next = hop(s, v);
     room[at] = v;
-    walk(s, next, room, at + 1);
+    walk(s, next, room, at + 1) + 1
 }
 
 fn list(s: &[u8], room: &mut [u16]) -> Listed
@@ -60,9 +72,8 @@ fn list(s: &[u8], room: &mut [u16]) -> Listed
 {
     let h = load_head(s, 4612);
     let v = h.revision.get();
-    let n = count(s, v);
-    if n as usize <= room.len() {
-        walk(s, v, room, 0);
+    if has_room(s, v, room.len()) {
+        let n = walk(s, v, room, 0);
         return Listed {
             answer: 0,
             length: n,

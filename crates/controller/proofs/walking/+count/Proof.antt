@@ -1,9 +1,7 @@
 -- `count` meets its contract: the measure is the number, which falls at each call. Assumes nothing.
-use mathlib.Core.Path.{sym, ap}
 use native.Mathlib.Omega.{arith}
-use lib.ListN.{length}
 use Rattle.image.specs.View.{view}
-use Rattle.controller.proofs.Walked.{live-none, as-entry, lower, counted}
+use Rattle.controller.proofs.Walked.{counted-none, live-short, as-entry, lower, counted}
 use Prim.Native.Nat.{ℕ, _<_}
 use borrow.Fn.Kinds.{In}
 use borrow.Fn.PlainCycle.{Measures, is, falls, and}
@@ -29,7 +27,7 @@ count-returns : (t : ℕ) → count-lts.Need-returns (
   count-below t,
   count.Post,
 ) (count-at t) count.Post
-count-returns t c = (sym (ap length (live-none (view (c .before .before .args .s .now)) (c .before .before .args .v) (c .if1 .taken))), omega arith)
+count-returns t c = counted-none (view (c .before .before .args .s .now)) (c .before .before .args .v) (c .if1 .taken)
 
 count-hop-requires : (t : ℕ) → count-lts.Need-hop-requires (
   hop-reads.Asked,
@@ -53,7 +51,7 @@ count-add-result : (t : ℕ) → count-lts.Need-add-result (
   count-below t,
   count.Post,
 ) (count-at t) count.Post
-count-add-result t c = omega (arith, c .count .ensures .1, c .before .hop .ensures .1)
+count-add-result t c = let h = live-short (view (c .before .before .before .before .args .s .now)) (c .before .hop .result) in omega (arith, c .count .ensures, c .before .hop .ensures .1)
 
 count-returns-2 : (t : ℕ) → count-lts.Need-returns-2 (
   hop-reads.Asked,

@@ -3,7 +3,7 @@ use mathlib.Core.Path.{_∙_}
 use native.Mathlib.Omega.{arith}
 use lib.ListN.{length-set}
 use Rattle.image.specs.View.{view}
-use Rattle.controller.proofs.Walked.{as-entry, room-here, placed, walked-none, walked-more}
+use Rattle.controller.proofs.Walked.{counted-none, live-short, as-entry, counted, room-here, placed, walked-none, walked-more}
 use Prim.Native.Nat.{ℕ, _<_}
 use borrow.Fn.Kinds.{In}
 use borrow.Fn.PlainCycle.{Measures, is, falls, and}
@@ -29,7 +29,7 @@ walk-returns : (t : ℕ) → walk-lts.Need-returns (
   walk-below t,
   walk.Post,
 ) (walk-at t) walk.Post
-walk-returns t c = walked-none (view (c .before .before .before .args .s .now)) (c .before .before .before .args .v) (c .before .before .before .args .room .now) (c .before .before .before .args .at) (c .if1 .taken)
+walk-returns t c = (counted-none (view (c .before .before .before .args .s .now)) (c .before .before .before .args .v) (c .if1 .taken), walked-none (view (c .before .before .before .args .s .now)) (c .before .before .before .args .v) (c .before .before .before .args .room .now) (c .before .before .before .args .at) (c .if1 .taken))
 
 walk-hop-requires : (t : ℕ) → walk-lts.Need-hop-requires (
   hop-reads.Asked,
@@ -71,6 +71,14 @@ walk-walk-requires : (t : ℕ) → walk-lts.Need-walk-requires (
 ) (walk-at t) walk.Post
 walk-walk-requires t c κs = (omega (arith, c .before .hop .ensures .1, c .before .before .before .before .before .pre .0), placed _ _ (c .before .before .before .before .before .pre .1 .chained) (c .before .before .if1 .left) _ (c .before .hop .ensures) (c .before .before .before .before .before .args .at) (c .before .before .before .before .before .args .room .now) (c .before .before .before .before .before .pre .1 .room))
 
+walk-add-result : (t : ℕ) → walk-lts.Need-add-result (
+  hop-reads.Asked,
+  hop-reads.Learnt,
+  walk-below t,
+  walk.Post,
+) (walk-at t) walk.Post
+walk-add-result t c = let h = live-short (view (c .before .before .before .before .before .before .before .before .args .s .now)) (c .before .before .before .before .hop .result) in omega (arith, c .before .before .walk .ensures .0, c .before .before .before .before .hop .ensures .1)
+
 walk-same-length : (t : ℕ) → walk-lts.Need-same-length (
   hop-reads.Asked,
   hop-reads.Learnt,
@@ -85,7 +93,7 @@ walk-returns-2 : (t : ℕ) → walk-lts.Need-returns-2 (
   walk-below t,
   walk.Post,
 ) (walk-at t) walk.Post
-walk-returns-2 t c = walked-more _ _ (c .before .before .before .before .before .before .before .before .pre .1 .chained) (c .before .before .before .before .before .if1 .left) _ (c .before .before .before .before .hop .ensures) (c .before .before .before .before .before .before .before .before .args .room .now) _ (c .before .before .before .before .before .before .before .before .args .at) (c .before .before .before .before .before .before .before .before .pre .1 .room) (c .before .before .walk .ensures)
+walk-returns-2 t c = (counted _ _ (c .before .before .before .before .before .before .before .before .pre .1 .chained) (c .before .before .before .before .before .if1 .left) _ (c .before .before .before .before .hop .ensures) _ (c .before .before .walk .ensures .0), walked-more _ _ (c .before .before .before .before .before .before .before .before .pre .1 .chained) (c .before .before .before .before .before .if1 .left) _ (c .before .before .before .before .hop .ensures) (c .before .before .before .before .before .before .before .before .args .room .now) _ (c .before .before .before .before .before .before .before .before .args .at) (c .before .before .before .before .before .before .before .before .pre .1 .room) (c .before .before .walk .ensures .1))
 
 pub +walk-spec : {M : Type 1} → statement M
 +walk-spec = close μ-walk λ t. walk-lts.spec (
@@ -102,5 +110,6 @@ pub +walk-spec : {M : Type 1} → statement M
     (walk-slice-write-room t)
     (walk-add-walk t)
     (walk-walk-requires t)
+    (walk-add-result t)
     (walk-same-length t)
     (walk-returns-2 t)

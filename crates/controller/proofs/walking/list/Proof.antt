@@ -13,23 +13,20 @@ load-head-requires c κs = let h = size _ (c .before .before .pre) in omega arit
 get-requires : tie.Need-get-requires
 get-requires c κs = search needs
 
-count-requires : tie.Need-count-requires
-count-requires c κs = revision-chained _ (c .before .before .before .before .pre) _ _ (c .before .load-head .ensures) (c .get .ensures)
-
-cast-if1 : tie.Need-cast-if1
-cast-if1 c = search needs
+has-room-requires : tie.Need-has-room-requires
+has-room-requires c κs = revision-chained _ (c .before .before .before .before .pre) _ _ (c .before .load-head .ensures) (c .get .ensures)
 
 walk-requires : tie.Need-walk-requires
-walk-requires c κs = starts _ (c .before .before .before .before .before .before .before .pre) _ _ (c .before .before .before .before .load-head .ensures) (c .before .before .before .get .ensures) (c .before .before .before .before .before .before .before .args .room .now) _ (c .before .before .count .ensures .0) (c .before .if1 .taken)
+walk-requires c κs = starts _ (c .before .before .before .before .before .before .before .pre) _ _ (c .before .before .before .before .load-head .ensures) (c .before .before .before .get .ensures) (c .before .before .before .before .before .before .before .args .room .now) _ (c .before .before .has-room .ensures) (c .before .if1 .taken)
 
 same-length : tie.Need-same-length
 same-length c = search needs
 
 returns : tie.Need-returns
-returns c = listed _ (c .before .before .before .before .before .before .before .before .before .before .pre) _ _ (c .before .before .before .before .before .before .before .load-head .ensures) (c .before .before .before .before .before .before .get .ensures) (c .before .before .before .before .before .before .before .before .before .before .args .room .now) _ (c .before .before .before .before .before .count .ensures .0) _ _ (c .before .before .before .before .if1 .taken) (c .before .before .walk .ensures) refl
+returns c = listed _ (c .before .before .before .before .before .before .before .before .before .before .pre) _ _ (c .before .before .before .before .before .before .before .load-head .ensures) (c .before .before .before .before .before .before .get .ensures) (c .before .before .before .before .before .before .before .before .before .before .args .room .now) _ (c .before .before .before .before .before .has-room .ensures) _ _ _ (c .before .before .before .before .if1 .taken) (c .before .before .walk .ensures) refl
 
 returns-2 : tie.Need-returns-2
-returns-2 c = not-listed _ (c .before .before .before .before .before .before .pre) _ _ (c .before .before .before .load-head .ensures) (c .before .before .get .ensures) (c .before .before .before .before .before .before .args .room .now) _ (c .before .count .ensures .0) _ (c .if1 .left) refl
+returns-2 c = not-listed _ (c .before .before .before .before .before .before .pre) _ _ (c .before .before .before .load-head .ensures) (c .before .before .get .ensures) (c .before .before .before .before .before .before .args .room .now) _ (c .before .has-room .ensures) _ (c .if1 .left) refl
 
 pub list-spec : {M : Type 1} → statement M
 list-spec =
@@ -37,8 +34,7 @@ list-spec =
     (tie.spec
     load-head-requires
     get-requires
-    count-requires
-    cast-if1
+    has-room-requires
     walk-requires
     same-length
     returns
