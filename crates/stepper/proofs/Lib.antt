@@ -1,3 +1,4 @@
 pub mod Answered
 pub mod Joint
 pub mod Waiting
+pub mod Fed

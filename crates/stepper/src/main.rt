@@ -8,6 +8,7 @@ ghost use Rattle.controller.specs.Bytes.{appendOf};
 ghost use Rattle.controller.specs.Claims.{Claims};
 ghost use Rattle.stepper.specs.Answers.{Answers};
 ghost use Rattle.stepper.specs.Ended.{MakesRoom, Ends};
+ghost use Rattle.stepper.specs.Fed.{Takes, Feeds};
 use kinds::Reply;
 use libc::STDIN_FILENO;
 use libc::STDOUT_FILENO;
@@ -95,7 +96,9 @@ fn end_line(image: &mut [u8], out: &mut [u8], s: Session) -> usize
     at + n
 }
 
-fn take_byte(image: &mut [u8], out: &mut [u8], s: Session, b: u8) -> Session {
+fn take_byte(image: &mut [u8], out: &mut [u8], s: Session, b: u8) -> Session
+    ensures { λ r. ⌜ Takes (now (image .entry)) (now (out .entry)) s b r (now (image .exit)) (now (out .exit)) ⌝ }
+{
     if b == b'\n' {
         let used = end_line(image, out, s);
         let line = lines::fresh();
@@ -114,7 +117,9 @@ fn take_byte(image: &mut [u8], out: &mut [u8], s: Session, b: u8) -> Session {
 }
 
 // The bytes of one read.
-fn feed(image: &mut [u8], out: &mut [u8], s: Session, block: &[u8]) -> Session {
+fn feed(image: &mut [u8], out: &mut [u8], s: Session, block: &[u8]) -> Session
+    ensures { λ r. ⌜ Feeds (now (image .entry)) (now (out .entry)) s (now (block .entry)) r (now (image .exit)) (now (out .exit)) ⌝ }
+{
     let mut session = s;
     let mut i = 0;
     while i < block.len() {

@@ -1,7 +1,10 @@
--- `feed` is safe and ends: both lent slices keep their lengths. Assumes nothing.
+-- `feed` takes the bytes of a block one by one; both lent slices keep their lengths. Assumes nothing.
 use Prim.Native.Nat.{_-_, _≤_}
-use mathlib.Core.Path.{_≡_}
-use lib.ListN.{length}
+use mathlib.Core.Path.{_≡_, refl}
+use native.Mathlib.Omega.{arith}
+use lib.ListN.{length, take}
+use Rattle.stepper.specs.Fed.{Feeds, none}
+use Rattle.stepper.proofs.Fed.{fed-more, fed-all}
 use borrow.Author.Needs.{needs}
 use Rattle.stepper.proofs.feed.Statement.{statement}
 use Rattle.stepper.proofs.feed.Tie as tie
@@ -10,14 +13,14 @@ use Rattle.stepper.proofs.feed.Lts as lts
 use Rattle.stepper.proofs.take_byte.Reads as take-byte-reads
 
 abbrev Inv-loop : tie.InvT-loop
-Inv-loop image₀ out₀ block session₀ i₀ image out session i = (i ≤ length block) × (length image ≡ length image₀) × (length out ≡ length out₀)
+Inv-loop image₀ out₀ block session₀ i₀ image out session i = (i ≤ length block) × Feeds image₀ out₀ session₀ (take i block) session image out × (length image ≡ length image₀) × (length out ≡ length out₀)
 
 abbrev μ-loop : tie.MeasureT-loop
 μ-loop image₀ out₀ block session₀ i₀ image out session i = length block - i
 
 -- src/main.rt:88:5
 loop-holds : tie.Need-loop-holds Inv-loop μ-loop
-loop-holds c = search needs
+loop-holds c = (omega arith, none, refl, refl)
 
 -- src/main.rt:89:50
 shared-slice-read-take-byte : tie.Need-shared-slice-read-take-byte Inv-loop μ-loop
@@ -37,7 +40,7 @@ loop-less c = search needs
 
 -- src/main.rt:88:5
 loop-again : tie.Need-loop-again Inv-loop μ-loop
-loop-again c = search needs
+loop-again c = (omega (arith, c .before .before .before .before .before .before .before .before .loop-test .taken), fed-more _ _ _ _ (c .before .before .before .before .before .before .before .before .before .loop .i) _ _ _ _ _ _ (c .before .before .before .before .before .before .before .before .loop-test .taken) (c .before .before .before .before .before .before .before .before .before .loop .inv .1) (c .before .before .before .before .take-byte .ensures), search needs, search needs)
 
 -- src/main.rt:85:1
 same-length : tie.Need-same-length Inv-loop μ-loop
@@ -49,7 +52,7 @@ same-length-2 c = search needs
 
 -- src/main.rt:85:1
 returns : tie.Need-returns Inv-loop μ-loop
-returns c = search needs
+returns c = fed-all _ _ _ _ (c .before .loop .i) _ _ _ (c .loop-test .left) (c .before .loop .inv .1)
 
 pub feed-spec : {M : Type 1} → statement M
 feed-spec =
