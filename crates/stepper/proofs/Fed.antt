@@ -1,22 +1,25 @@
 -- Bytes taken one by one make the lines that the grammar speaks of. Assumes nothing.
 use Prim.Native.Nat.{ℕ, _+_, _≤_, _<_}
 use mathlib.Core.Path.{_≡_, refl, ap, sym, subst, _∙_}
-use mathlib.Core.Bool.{Bool, true, false, not, _&&_}
+use mathlib.Core.Bool.{Bool, true, false, not}
 use mathlib.Core.List.{List, [], _∷_, _++_, foldl}
 use native.Mathlib.Numerals.{add-one}
 use borrow.Author.Tests.{eq-eqb, ne-eqb}
 use lib.Dec.{eqb}
 use lib.ListN.{length, take, getD}
 use lib.Seq.{take-all, take-suc}
+use Rattle.kinds.specs.declared.Reply.{Reply}
+use Rattle.kinds.specs.Events.{refusal}
 use Rattle.machine.specs.Calls.{Call}
 use Rattle.lines.specs.declared.reading.Reader.{Reader}
 use Rattle.lines.specs.Grammar.{Says}
 use Rattle.lines.specs.Reading.{fresh, pushed, finished, said}
+use Rattle.lines.specs.Replies.{replyLine}
 use Rattle.lines.proofs.Steps.{and-left, and-right}
 use Rattle.stepper.specs.declared.Session.{Session}
-use Rattle.stepper.specs.Ended.{Ends}
-use Rattle.stepper.specs.Fed.{TakesIf, Takes, Feeds, none, next, unbroken, Replied}
-use Rattle.stepper.proofs.Joint.{answers-said}
+use Rattle.stepper.specs.Ended.{waiting, Ends}
+use Rattle.stepper.specs.Fed.{TakesIf, Takes, Feeds, none, next, EndsLast, unbroken, Replied}
+use Rattle.stepper.proofs.Joint.{answers-said, refuses-unsaid}
 use Rattle.stepper.proofs.Waiting.{waits-behind}
 
 -- ---- one byte
@@ -29,6 +32,15 @@ pub other :
     (l out : List ℕ) (s : Session) (b : ℕ) (f : Reader) → (b ≡ 10 → ⊥) → f ≡ pushed (s .line) b →
     Takes l out s b (record { line = f; begun = true; used = s .used }) l out
 other l out s b f e h = rw (ne-eqb b 10 e) (ap (λ (x : Reader). record { line = x; begun = true; used = s .used }) h, refl, refl)
+
+-- ---- the input's end
+pub last-line :
+    (l out : List ℕ) (s : Session) (end : ℕ) (m after : List ℕ) → s .begun ≡ true → Ends l (finished (s .line)) out (s .used) end m after →
+    EndsLast l out s end m after
+last-line l out s end m after e x = rw e x
+
+pub no-line : (l out : List ℕ) (s : Session) → s .begun ≡ false → EndsLast l out s (s .used) l out
+no-line l out s e = rw e (refl, refl, refl)
 
 -- ---- a byte more
 feeds-more :
@@ -82,3 +94,14 @@ module _ (t l out : List ℕ) (s q : Session) (m after : List ℕ) (e : unbroken
         claims = answers-said t l (y .reply) m (y .answers) c x;
         waits = waits-behind l (said t) out (s .used) (q .used) m after y;
       }
+
+  -- where it says none, the line of refusal 2 does, and every byte of the image is what it had been
+  pub line-refused :
+      ((c : Call) → Says t c → ⊥) →
+      (96 ≤ length out → take (q .used) after ≡ take (waiting (length out) (s .used)) out ++ replyLine (refusal 2)) × (m ≡ l)
+  line-refused n =
+      let y = line-ended .0 in
+      let z = refuses-unsaid t l (y .reply) m (y .answers) n in (
+        λ h. waits-behind l (said t) out (s .used) (q .used) m after y h ∙ ap (λ (r : Reply). take (waiting (length out) (s .used)) out ++ replyLine r) (z .0),
+        z .1,
+      )

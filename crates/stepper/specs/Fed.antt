@@ -26,6 +26,14 @@ pub data Feeds : List ℕ → List ℕ → Session → List ℕ → Session → 
   none : {l out : List ℕ} {s : Session} → Feeds l out s [] s l out
   next : {l out k a m after bs : List ℕ} {s r q : Session} (b : ℕ) → Takes l out s b r k a → Feeds k a r bs q m after → Feeds l out s (b ∷ bs) q m after
 
+-- at the input's end: a line that has a byte ends, with no newline; else nothing changes
+abbrev pub EndsLastIf : Bool → List ℕ → List ℕ → Session → ℕ → List ℕ → List ℕ → Type 0
+EndsLastIf true l out s end m after = Ends l (finished (s .line)) out (s .used) end m after
+EndsLastIf false l out s end m after = (end ≡ s .used) × (m ≡ l) × (after ≡ out)
+
+abbrev pub EndsLast : List ℕ → List ℕ → Session → ℕ → List ℕ → List ℕ → Type 0
+EndsLast l out s end m after = EndsLastIf (s .begun) l out s end m after
+
 -- bytes with no newline among them
 unfoldable pub unbroken : List ℕ → Bool
 unbroken [] = true

@@ -8,7 +8,7 @@ ghost use Rattle.controller.specs.Bytes.{appendOf};
 ghost use Rattle.controller.specs.Claims.{Claims};
 ghost use Rattle.stepper.specs.Answers.{Answers};
 ghost use Rattle.stepper.specs.Ended.{MakesRoom, Ends};
-ghost use Rattle.stepper.specs.Fed.{Takes, Feeds};
+ghost use Rattle.stepper.specs.Fed.{Takes, Feeds, EndsLast};
 use kinds::Reply;
 use libc::STDIN_FILENO;
 use libc::STDOUT_FILENO;
@@ -175,7 +175,9 @@ fn read_all(image: &mut [u8], out: &mut [u8]) -> Session {
 }
 
 // The last line, if it has no newline; answers how many bytes wait.
-fn end_last(image: &mut [u8], out: &mut [u8], s: Session) -> usize {
+fn end_last(image: &mut [u8], out: &mut [u8], s: Session) -> usize
+    ensures { λ r. ⌜ EndsLast (now (image .entry)) (now (out .entry)) s r (now (image .exit)) (now (out .exit)) ⌝ }
+{
     if s.begun {
         return end_line(image, out, s);
     }
