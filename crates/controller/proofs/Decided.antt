@@ -32,7 +32,7 @@ use Rattle.rules.specs.Outside.{lineOpen}
 use Rattle.machine.specs.State.{State, entryOf, nodeOf, lineOpenFor}
 use Rattle.machine.specs.Settled.{entrySettled, settled}
 use Rattle.machine.specs.Calls.{restOf, presentOne, present, job1, job2, job3, job4, planOf}
-use Rattle.machine.specs.Kept as kept
+use Rattle.machine.proofs.Kept as kept
 use Rattle.image.specs.Layout.{tableWidths, imageLength}
 use Rattle.image.specs.Records.{entryAt, logLength, changeOf, headAt, configurationOf, mastershipOf, targetOf, connectionsOf}
 use Rattle.image.specs.View.{tableOf, view}

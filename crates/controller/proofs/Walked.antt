@@ -14,7 +14,7 @@ use Rattle.kinds.specs.declared.Transaction.{Transaction}
 use Rattle.kinds.specs.declared.Head.{Head}
 use Rattle.machine.specs.State.{State, entryOf}
 use Rattle.machine.specs.LiveList.{hops, live}
-use Rattle.machine.specs.Kept as kept
+use Rattle.machine.proofs.Kept as kept
 use Rattle.image.specs.Records.{entryAt, headAt}
 use Rattle.image.specs.View.{view}
 use Rattle.image.specs.Formed.{formed}

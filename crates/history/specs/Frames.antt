@@ -12,7 +12,7 @@ use Rattle.kinds.specs.declared.Status.{Status}
 use Rattle.kinds.specs.declared.Status.the-variants.{None, Pending, InProgress, Complete, Aborted, Canceled, Failed}
 use Rattle.kinds.specs.Statuses.{isComplete}
 use Rattle.machine.specs.State.{entryOf, putEntry}
-use Rattle.machine.specs.Entries.{put-all}
+use Rattle.machine.proofs.Entries.{put-all}
 use Rattle.history.specs.Ops.{Op, push, pop, none, top, tail, stack, newest, Rising, Falls, stack-low, stack-falls, clash}
 use Rattle.history.specs.Invariant.{val, Link, Linked, isGoing, complete, Paired}
 

@@ -3,16 +3,6 @@ pub mod Values
 pub mod Ops
 pub mod Invariant
 pub mod Frames
-pub mod Commits
-pub mod Applies
-pub mod Line
-pub mod Jobs
-pub mod ByNumber
-pub mod Reached
-pub mod Ordinals
 pub mod Marks
-pub mod Marked
 pub mod Audit
-pub mod Audited
 pub mod Guarantees
-pub mod Guaranteed

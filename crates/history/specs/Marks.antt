@@ -14,7 +14,7 @@ use Rattle.kinds.specs.declared.Status.the-variants.{None, Pending, InProgress,
 use Rattle.kinds.specs.Statuses.{codeOf}
 use Rattle.rules.specs.ApplyRollback.{wasTried, isAborted}
 use Rattle.machine.specs.State.{entryOf, putEntry}
-use Rattle.machine.specs.Entries.{put-all, entry-put}
+use Rattle.machine.proofs.Entries.{put-all, entry-put}
 use Rattle.history.specs.Demand3.{tells, told}
 use Rattle.history.specs.Ops.{Op, popped}
 use Rattle.history.specs.Frames.{by-eq}

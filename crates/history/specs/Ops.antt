@@ -11,7 +11,7 @@ use borrow.Author.Tests.{eqb-true, eqb-false, eq-eqb, ne-eqb, leb-true, leb-fals
 use Rattle.kinds.specs.declared.Event.{Event}
 use Rattle.kinds.specs.declared.Status.{Status}
 use Rattle.kinds.specs.Statuses.{codeOf}
-use Rattle.machine.specs.Cases.{and-left, or-cases}
+use Rattle.machine.proofs.Cases.{and-left, or-cases}
 use Rattle.history.specs.Demand3.{told}
 
 pub clash : {A : Type 0} → true ≡ false → A

@@ -9,8 +9,8 @@ use lib.Seq.{getD-set-same, getD-set-other}
 use borrow.Author.Tests.{eqb-true, eqb-false}
 use Rattle.kinds.specs.declared.Transaction.{Transaction}
 use Rattle.machine.specs.Calls.{present, presentAt}
-use Rattle.machine.specs.Next.{laying, layingAt, over}
-use Rattle.machine.specs.Cases.{and-left, and-right}
+use Rattle.machine.proofs.Next.{laying, layingAt, over}
+use Rattle.machine.proofs.Cases.{and-left, and-right}
 use Rattle.history.specs.Demand3.{sets, valueAt}
 
 -- place k, of the n used ones, names path p

@@ -18,7 +18,7 @@ use Rattle.machine.specs.State.{never}
 use Rattle.fields.specs.Field.{field, putField, fieldsAt, putFields, total}
 use Rattle.fields.proofs.Laws.{Outside, put-outside}
 use Rattle.fields.proofs.Runs.{Fit, puts-outside, puts-same, fields-kept}
-use Rattle.machine.specs.Entries.{and-both}
+use Rattle.machine.proofs.Entries.{and-both}
 use Rattle.machine.specs.Stores.{Table, ofCommitted, ofApplied, ofTarget, Store, grow, entry, change, committedHead, appliedHead, value, targetValues, configuration, mastership, connections, target}
 use Rattle.image.specs.Layout.{entryWidths, headWidths, tableWidths, configurationWidths, mastershipWidths, targetWidths, connectionsWidths, placeOf, lengthAt, changeAt, committedAt, appliedAt, valuesAt, configurationAt, mastershipAt, targetAt, connectionsAt, imageLength}
 use Rattle.image.specs.Records.{flagCode, entryNumbers, putEntryAt, logLength, headNumbers, putHeadAt, configurationNumbers, putConfiguration, mastershipNumbers, putMastership, targetNumbers, putTarget, connectionsNumbers, eight, putConnections}

@@ -7,7 +7,7 @@ use lib.Dec.{ltb}
 use lib.ListN.{set}
 use Rattle.fields.specs.Field.{putField, putFields}
 use Rattle.fields.proofs.Laws.{Bytes}
-use Rattle.machine.specs.Entries.{set-all}
+use Rattle.machine.proofs.Entries.{set-all}
 use Rattle.machine.specs.Stores.{Store, grow, entry, change, committedHead, appliedHead, value, targetValues, configuration, mastership, connections, target, ofTarget}
 use Rattle.image.specs.Layout.{entryWidths, headWidths, tableWidths, configurationWidths, mastershipWidths, targetWidths, connectionsWidths, placeOf, lengthAt, changeAt, committedAt, appliedAt, valuesAt, configurationAt, mastershipAt, targetAt, connectionsAt}
 use Rattle.image.specs.Records.{entryNumbers, putEntryAt, logLength, headNumbers, putHeadAt, configurationNumbers, putConfiguration, mastershipNumbers, putMastership, targetNumbers, putTarget, connectionsNumbers, eight, putConnections}

@@ -13,10 +13,10 @@ use Rattle.kinds.specs.Events.{refusal}
 use Rattle.fields.proofs.Laws.{Bytes}
 use Rattle.machine.specs.State.{State, fresh}
 use Rattle.machine.specs.WellFormed.{wellFormed}
-use Rattle.machine.specs.Entries.{and-both}
+use Rattle.machine.proofs.Entries.{and-both}
 use Rattle.machine.specs.Calls.{Call, Outcome, decide}
 use Rattle.machine.specs.Step.{outcome, step, run}
-use Rattle.machine.specs.Kept.{step-keeps-well-formed}
+use Rattle.machine.proofs.Kept.{step-keeps-well-formed}
 use Rattle.image.specs.Layout.{imageLength}
 use Rattle.image.specs.Records.{logLength}
 use Rattle.image.specs.View.{view, written}

@@ -47,8 +47,8 @@ use Rattle.machine.specs.Stores.{Table, ofCommitted, ofApplied, ofTarget, Store
 use Rattle.machine.specs.Stores as store
 use Rattle.machine.specs.Rows.{layOne, layAt, overlay, laid, entryRow, changeRow, headRow, thenRow, rowsBy, rowsOf}
 use Rattle.machine.specs.WellFormed.{pairsOk}
-use Rattle.machine.specs.Entries.{set-all}
-use Rattle.machine.specs.Cases.{and-left, and-right, or-cases}
+use Rattle.machine.proofs.Entries.{set-all}
+use Rattle.machine.proofs.Cases.{and-left, and-right, or-cases}
 use Rattle.machine.specs.Calls as calls
 use Rattle.machine.specs.Calls.{Pair, Call, Outcome, append, start, stop, connect, disconnect, master, sync, work, unless, validChange, valuesOk, pathOf, valueOf, appended, presentOne, present, planOf, commits, workOk, copyRow, decide}
 use Rattle.image.proofs.Sized.{Four, SizedEntry, SizedHead, SizedMastership, SizedTable, SizedConnections}

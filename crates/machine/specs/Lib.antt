@@ -7,11 +7,4 @@ pub mod LiveList
 pub mod Reads
 pub mod Calls
 pub mod Step
-pub mod Next
-pub mod Cases
-pub mod ByCall
-pub mod Entries
-pub mod Kept
 pub mod Sessions
-pub mod Traps
-pub mod Reconnected

@@ -34,11 +34,11 @@ use Rattle.history.specs.Demand3.{completed, live}
 use Rattle.history.specs.Ops.{told-change, told-rollback, crash}
 use Rattle.history.specs.Invariant.{isGoing, complete, Paired}
 use Rattle.history.specs.Frames.{paired, going-complete}
-use Rattle.history.specs.Commits.{tip-back, some-back}
-use Rattle.history.specs.Reached.{Reached, reached}
-use Rattle.history.specs.ByNumber.{list-same}
+use Rattle.history.proofs.Commits.{tip-back, some-back}
+use Rattle.history.proofs.Reached.{Reached, reached}
+use Rattle.history.proofs.ByNumber.{list-same}
 use Rattle.history.specs.Marks.{isFailed, isCanceled, neverBegun}
-use Rattle.history.specs.Marked.{Marked, marked}
+use Rattle.history.proofs.Marked.{Marked, marked}
 use Rattle.history.specs.Audit.{closes1, closes2, closes3, closes4, Shown, landed, took, undid, holds, Audited}
 
 landed-complete : (c : Status) (a o : ℕ) → complete c a o ≡ landed c a o

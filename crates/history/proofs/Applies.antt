@@ -19,9 +19,9 @@ use Rattle.rules.specs.Heads.{aimed, landed, closed}
 use Rattle.rules.specs.Sides.{applyAt}
 use Rattle.rules.specs.ApplyRollback.{wasTried, isAborted}
 use Rattle.machine.specs.State.{Part, blank, entryOf, putEntry}
-use Rattle.machine.specs.Next.{over}
-use Rattle.machine.specs.Cases.{and-left}
-use Rattle.machine.specs.Entries.{put-all, add-all, length-over}
+use Rattle.machine.proofs.Next.{over}
+use Rattle.machine.proofs.Cases.{and-left}
+use Rattle.machine.proofs.Entries.{put-all, add-all, length-over}
 use Rattle.history.specs.Values.{at-over, back-again}
 use Rattle.history.specs.Ops.{Op, push, pop, none, pushed, popped, top, tail, stack, newest, Rising, Falls, stack-low, stack-falls, mem, opAt, opAt-in, first, first-next, first-more, first-rises, first-low, Sub, keep, skip, without, without-none, held, holding, clash, crash, mem-first}
 use Rattle.history.specs.Invariant.{val, Link, Linked, says, returns, isGoing, complete, Numbered, isEnded, isStarted, changeTouched, rollbackTouched, applyView, ApplyEntry, Still, Quiet, Calm, Fell, led, Applied}

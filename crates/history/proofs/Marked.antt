@@ -33,17 +33,17 @@ use Rattle.machine.specs.State.{State, blank, entryOf, putEntry, lineOpenFor}
 use Rattle.machine.specs.Calls.{Call, Pair, appended, restOf, present}
 use Rattle.machine.specs.Settled.{settled}
 use Rattle.machine.specs.Step.{step, run}
-use Rattle.machine.specs.Next.{putting}
-use Rattle.machine.specs.Cases.{and-left}
-use Rattle.machine.specs.Entries.{put-all, add-all, none-all, entry-put, length-put}
-use Rattle.machine.specs.ByCall.{Does, Calls, by-call}
+use Rattle.machine.proofs.Next.{putting}
+use Rattle.machine.proofs.Cases.{and-left}
+use Rattle.machine.proofs.Entries.{put-all, add-all, none-all, entry-put, length-put}
+use Rattle.machine.proofs.ByCall.{Does, Calls, by-call}
 use Rattle.history.specs.Demand3.{tells, told}
 use Rattle.history.specs.Ops.{Op, push, pop, opsOf, popped, tail, first, first-more, clash, crash}
 use Rattle.history.specs.Invariant.{Invariant}
 use Rattle.history.specs.Frames.{by-eq, paired}
-use Rattle.history.specs.Applies as applies
-use Rattle.history.specs.Jobs as jobs
-use Rattle.history.specs.Reached.{reached}
+use Rattle.history.proofs.Applies as applies
+use Rattle.history.proofs.Jobs as jobs
+use Rattle.history.proofs.Reached.{reached}
 use Rattle.history.specs.Marks.{isFailed, isCanceled, isPending, neverBegun, Mark, other-stage, other-number, put-marks, alike}
 
 abbrev pub Marked : List Transaction → Head → List Event → Type 0

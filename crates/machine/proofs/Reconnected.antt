@@ -17,9 +17,9 @@ use Rattle.machine.specs.Rows.{overlay, rowsOf}
 use Rattle.machine.specs.WellFormed.{allFrom, pairsOk, entryOk, headOk, wellFormed}
 use Rattle.machine.specs.Calls.{connect, disconnect, master, sync, work, valuesOk, present, planOf, decide}
 use Rattle.machine.specs.Step.{outcome, step}
-use Rattle.machine.specs.Next.{withMastership}
-use Rattle.machine.specs.Cases.{and-left}
-use Rattle.machine.specs.Kept.{step-keeps-well-formed}
+use Rattle.machine.proofs.Next.{withMastership}
+use Rattle.machine.proofs.Cases.{and-left}
+use Rattle.machine.proofs.Kept.{step-keeps-well-formed}
 use Rattle.machine.specs.Sessions.{Line, reads, agrees, accepts, refuses, adds, does, opened, commitsChange}
 
 -- node n is master and connected, and its id differs from conn

@@ -37,10 +37,10 @@ use Rattle.machine.specs.Stores.{withLog, withNet}
 use Rattle.machine.specs.WellFormed.{allFrom, pairsOk, entryOk, headOk, sizesOk, headsOk, wellFormed}
 use Rattle.machine.specs.Calls.{Pair, Call, validChange, appended, pathOf, valuesOk, present}
 use Rattle.machine.specs.Step.{step, run}
-use Rattle.machine.specs.Next.{putting, changeIf, heading, performedBy}
-use Rattle.machine.specs.Cases.{and-left, and-right}
-use Rattle.machine.specs.Entries.{put-all, add-all, length-put, length-add, entry-add, all-true, true-all, and-both, length-laid}
-use Rattle.machine.specs.ByCall.{Calls, by-call, syncing, synced}
+use Rattle.machine.proofs.Next.{putting, changeIf, heading, performedBy}
+use Rattle.machine.proofs.Cases.{and-left, and-right}
+use Rattle.machine.proofs.Entries.{put-all, add-all, length-put, length-add, entry-add, all-true, true-all, and-both, length-laid}
+use Rattle.machine.proofs.ByCall.{Calls, by-call, syncing, synced}
 
 -- ---- a refusal changes nothing, and 1 is for a state that is not well-formed
 pub record Answered (s : State) (r : Reply) (next : State) : Type 0 where

@@ -22,9 +22,9 @@ use Rattle.rules.specs.Sides.{begun, committed, invalid}
 use Rattle.rules.specs.Outside.{rolledBack}
 use Rattle.rules.specs.AtRest.{atRest}
 use Rattle.machine.specs.State.{Part, entryOf, putEntry}
-use Rattle.machine.specs.Next.{over}
-use Rattle.machine.specs.Cases.{and-left, and-right, or-cases}
-use Rattle.machine.specs.Entries.{put-all, add-all, length-put, length-add, length-over}
+use Rattle.machine.proofs.Next.{over}
+use Rattle.machine.proofs.Cases.{and-left, and-right, or-cases}
+use Rattle.machine.proofs.Entries.{put-all, add-all, length-put, length-add, length-over}
 use Rattle.history.specs.Values.{at-over}
 use Rattle.history.specs.Ops.{Op, push, pop, pushed, popped, top, tail, stack, newest, Rising, Falls, stack-low, stack-falls, pushed-above, popped-above, on-top, opAt-last, clash}
 use Rattle.history.specs.Invariant.{val, Linked, says, returns, isGoing, complete, commitView, CommitEntry, Committed, isEnded}

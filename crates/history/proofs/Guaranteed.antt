@@ -15,17 +15,17 @@ use Rattle.kinds.specs.Statuses.{codeOf}
 use Rattle.machine.specs.State.{State, entryOf}
 use Rattle.machine.specs.Calls.{Call}
 use Rattle.machine.specs.Step.{step, run}
-use Rattle.machine.specs.Cases.{and-left, and-right, or-cases}
-use Rattle.machine.specs.ByCall.{by-call}
+use Rattle.machine.proofs.Cases.{and-left, and-right, or-cases}
+use Rattle.machine.proofs.ByCall.{by-call}
 use Rattle.history.specs.Demand3.{tells, told, completed, live}
 use Rattle.history.specs.Ops.{Op, push, pop, none, opsIf, opsOf, pushed, popped, told-change, told-rollback, top, tail, stack, newest, Rising, stack-falls, mem, mem-low, pushed-low, popped-pushed, standing, top-standing, opAt, first, first-rises, Sub, sub-pushed, sub-popped, first-sub, held, clash, crash, or-late, rest-rises}
 use Rattle.history.specs.Invariant.{complete, isStarted, changeTouched, Paired}
 use Rattle.history.specs.Frames.{by-eq}
-use Rattle.history.specs.Applies as applies
-use Rattle.history.specs.Jobs as jobs
-use Rattle.history.specs.Reached.{Reached, reached, live-committed, live-applied}
+use Rattle.history.proofs.Applies as applies
+use Rattle.history.proofs.Jobs as jobs
+use Rattle.history.proofs.Reached.{Reached, reached, live-committed, live-applied}
 use Rattle.history.specs.Marks.{isFailed, isCanceled}
-use Rattle.history.specs.Marked.{Marked, marked}
+use Rattle.history.proofs.Marked.{Marked, marked}
 use Rattle.history.specs.Guarantees.{Always, behind, Then}
 
 -- ---- the op that an event adds

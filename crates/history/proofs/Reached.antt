@@ -32,17 +32,17 @@ use Rattle.machine.specs.LiveList as list
 use Rattle.machine.specs.Settled.{settled}
 use Rattle.machine.specs.Calls.{Call, restOf, present}
 use Rattle.machine.specs.Step.{step, run}
-use Rattle.machine.specs.Entries.{none-all, length-put, entry-put}
-use Rattle.machine.specs.ByCall.{Does, Calls, by-call}
+use Rattle.machine.proofs.Entries.{none-all, length-put, entry-put}
+use Rattle.machine.proofs.ByCall.{Does, Calls, by-call}
 use Rattle.history.specs.Demand3.{live, hopped, Demand3}
 use Rattle.history.specs.Ops.{Op, push, opsOf, pushed, popped, told-change, told-rollback, top, tail, stack, newest, Rising, Falls, stack-low, stack-falls, mem, standing, first, first-rises, done, held, holding, clash, crash}
 use Rattle.history.specs.Invariant.{val, Linked, Sides, Numbered, CommitEntry, commitView, Committed, ApplyEntry, applyView, Calm, Quiet, Fell, Applied, Invariant, isEnded}
 use Rattle.history.specs.Frames.{stack-linked, not-going}
-use Rattle.history.specs.Commits.{tip-back}
-use Rattle.history.specs.Applies.{held-falls, held-low}
-use Rattle.history.specs.Line.{start-wired, stop-wired, connect-wired, disconnect-wired, elect-wired, resign-wired, syncing-wired, synced-wired, open-holds, fresh-wired}
-use Rattle.history.specs.Jobs as jobs
-use Rattle.history.specs.ByNumber.{val-highest, list-newest, hops-list, hopped-list}
+use Rattle.history.proofs.Commits.{tip-back}
+use Rattle.history.proofs.Applies.{held-falls, held-low}
+use Rattle.history.proofs.Line.{start-wired, stop-wired, connect-wired, disconnect-wired, elect-wired, resign-wired, syncing-wired, synced-wired, open-holds, fresh-wired}
+use Rattle.history.proofs.Jobs as jobs
+use Rattle.history.proofs.ByNumber.{val-highest, list-newest, hops-list, hopped-list}
 
 -- the state s after the events es; bad are the changes passed, not taken and not rolled back, newest first
 pub record Reached (s : State) (es : List Event) : Type 0 where

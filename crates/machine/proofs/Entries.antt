@@ -13,8 +13,8 @@ use Rattle.rules.specs.declared.Lay.{Lay}
 use Rattle.rules.specs.declared.Lay.the-variants.{Nothing, Values, Kept}
 use Rattle.machine.specs.State.{blank, entryOf, putEntry}
 use Rattle.machine.specs.WellFormed.{allFrom}
-use Rattle.machine.specs.Next.{laying, over, laidOver}
-use Rattle.machine.specs.Cases.{and-left, and-right}
+use Rattle.machine.proofs.Next.{laying, over, laidOver}
+use Rattle.machine.proofs.Cases.{and-left, and-right}
 
 -- ---- what holds of every element, and of the new one, holds of every element after it is stored
 pub set-all : {A : Type 0} (P : ℕ → A → Type 0) (l : List A) (i : ℕ) (a d : A) → ((k : ℕ) → P k (getD l k d)) → P i a → (k : ℕ) → P k (getD (set l i a) k d)

@@ -27,16 +27,16 @@ use Rattle.machine.specs.Stores.{withLog, withNet, withTargetValues}
 use Rattle.machine.specs.WellFormed.{allEntries}
 use Rattle.machine.specs.Settled.{sideSettled, entrySettled, settled}
 use Rattle.machine.specs.Calls.{Pair, appended, restOf, present}
-use Rattle.machine.specs.Next.{over, putting}
-use Rattle.machine.specs.Cases.{and-left, and-right, or-cases}
-use Rattle.machine.specs.Entries.{put-all, add-all, all-true}
+use Rattle.machine.proofs.Next.{over, putting}
+use Rattle.machine.proofs.Cases.{and-left, and-right, or-cases}
+use Rattle.machine.proofs.Entries.{put-all, add-all, all-true}
 use Rattle.history.specs.Values.{present-restores}
 use Rattle.history.specs.Ops.{Op, push, pop, popped-low, tail, newest, opAt-some, opAt-more, clash, crash}
 use Rattle.history.specs.Invariant.{isGoing, complete, Sides, Numbered, commitView, Committed, isEnded, isStarted, changeTouched, rollbackTouched, applyView, ChangeEntry, RollbackEntry, ApplyEntry, Still, Quiet, Applied, Wired, Invariant}
 use Rattle.history.specs.Frames.{Same, not-going, complete-no, paired, going-complete}
-use Rattle.history.specs.Commits as commits
-use Rattle.history.specs.Applies as applies
-use Rattle.history.specs.Line.{push-wired}
+use Rattle.history.proofs.Commits as commits
+use Rattle.history.proofs.Applies as applies
+use Rattle.history.proofs.Line.{push-wired}
 
 -- ---- settled
 side-still : (a : ℕ) (x : Side) → sideSettled a x ≡ true → x .apply ≡ InProgress → x .ordinal .0 ≡ a → ⊥

@@ -15,9 +15,9 @@ use Rattle.kinds.specs.declared.Progress.the-variants.{Pending, InProgress, Com
 use Rattle.rules.specs.Outside.{off, reaches, isSynchronised}
 use Rattle.machine.specs.State.{Net, absent, never, freshNet, nodeOf, putNode, lineOpenFor}
 use Rattle.machine.specs.Stores.{withTargetValues}
-use Rattle.machine.specs.Cases.{and-left, and-right}
-use Rattle.machine.specs.Entries.{set-all}
-use Rattle.machine.specs.ByCall.{started, stopped, connected, disconnected, elected, resigned, syncing, synced}
+use Rattle.machine.proofs.Cases.{and-left, and-right}
+use Rattle.machine.proofs.Entries.{set-all}
+use Rattle.machine.proofs.ByCall.{started, stopped, connected, disconnected, elected, resigned, syncing, synced}
 use Rattle.history.specs.Ops.{clash, crash}
 use Rattle.history.specs.Invariant.{Open, Node, Wired}
 

@@ -16,10 +16,10 @@ use Rattle.machine.specs.WellFormed.{wellFormed}
 use Rattle.machine.specs.Settled.{settled}
 use Rattle.machine.specs.Calls.{Call, Outcome, work, unless, job1, job2, job3, job4, planOf, restOf, present, workOk, decide}
 use Rattle.machine.specs.Step.{outcome, step, run}
-use Rattle.machine.specs.Cases.{and-left, and-right, commit-change, commit-rollback, apply-change, apply-rollback}
-use Rattle.machine.specs.Kept.{formed, reached-well-formed, refusal-one}
+use Rattle.machine.proofs.Cases.{and-left, and-right, commit-change, commit-rollback, apply-change, apply-rollback}
+use Rattle.machine.proofs.Kept.{formed, reached-well-formed, refusal-one}
 use Rattle.history.specs.Ops.{Op, push, pop, none, opsOf, stack, newest, Rising, on-top, opAt-in, clash}
-use Rattle.history.specs.Reached.{Reached, reached}
+use Rattle.history.proofs.Reached.{Reached, reached}
 
 -- ---- at most two for each change: its commit, and its rollback's, which takes it off the stack
 few : (o : List Op) → Rising o → length o + length (stack o) ≤ newest o + newest o

@@ -22,8 +22,8 @@ use Rattle.machine.specs.WellFormed.{wellFormed}
 use Rattle.machine.specs.Settled.{settled}
 use Rattle.machine.specs.Calls.{Pair, Call, Outcome, append, rollback, start, stop, connect, disconnect, master, sync, work, refused, unless, answers, validChange, appended, restOf, present, job1, job2, job3, job4, planOf, commits, planned, workOk, copyRow, decide}
 use Rattle.machine.specs.Step.{outcome, step}
-use Rattle.machine.specs.Next.{putting, performed, rows-performed, withConfiguration, withMastership, withConnections, withTarget}
-use Rattle.machine.specs.Cases.{and-left, and-right, CommitChange, commit-change, CommitRollback, commit-rollback, ApplyChange, apply-change, ApplyRollback, apply-rollback}
+use Rattle.machine.proofs.Next.{putting, performed, rows-performed, withConfiguration, withMastership, withConnections, withTarget}
+use Rattle.machine.proofs.Cases.{and-left, and-right, CommitChange, commit-change, CommitRollback, commit-rollback, ApplyChange, apply-change, ApplyRollback, apply-rollback}
 
 -- ---- the nodes' side after its calls
 module _ (w : Net) where

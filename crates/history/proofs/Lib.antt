@@ -1,0 +1,10 @@
+pub mod Commits
+pub mod Applies
+pub mod Line
+pub mod Jobs
+pub mod ByNumber
+pub mod Reached
+pub mod Ordinals
+pub mod Marked
+pub mod Audited
+pub mod Guaranteed
