@@ -6,7 +6,7 @@ use mathlib.Core.List.{List, [], _∷_, _++_}
 use mathlib.Core.Bool.{Bool, true, false, _||_, cond}
 use mathlib.Core.Path.{_≡_, refl, sym, ap, _∙_, subst}
 use lib.Dec.{eqb, leb}
-use lib.ListN.{length, getD, List·getD-eq-default}
+use lib.ListN.{length, getD}
 use borrow.Author.Tests.{eqb-true, eqb-false, eq-eqb}
 use Rattle.kinds.specs.declared.Transaction.{Transaction}
 use Rattle.kinds.specs.declared.Head.{Head}
@@ -18,17 +18,17 @@ use Rattle.kinds.specs.Records.{withChange, withRollback}
 use Rattle.rules.specs.Heads.{aimed, landed, closed}
 use Rattle.rules.specs.Sides.{applyAt}
 use Rattle.rules.specs.ApplyRollback.{wasTried, isAborted}
-use Rattle.machine.specs.State.{Part, blank, entryOf, putEntry}
+use Rattle.machine.specs.State.{Part, Log, blank, entryOf, putEntry, grown, last}
 use Rattle.machine.proofs.Next.{over}
 use Rattle.machine.proofs.Cases.{and-left}
-use Rattle.machine.proofs.Entries.{put-all, add-all, length-over}
+use Rattle.machine.proofs.Entries.{put-all, add-all, entry-past, length-over}
 use Rattle.history.specs.Values.{at-over, back-again}
 use Rattle.history.specs.Ops.{Op, push, pop, none, pushed, popped, top, tail, stack, newest, Rising, Falls, stack-low, stack-falls, mem, opAt, opAt-in, first, first-next, first-more, first-rises, first-low, Sub, keep, skip, without, without-none, held, holding, clash, crash, mem-first}
-use Rattle.history.specs.Invariant.{val, Link, Linked, says, returns, isGoing, complete, Numbered, isEnded, isStarted, changeTouched, rollbackTouched, applyView, ApplyEntry, Still, Quiet, Calm, Fell, led, Applied}
+use Rattle.history.specs.Invariant.{val, Link, Linked, says, returns, isGoing, complete, Numbered, isEnded, isStarted, changeTouched, rollbackTouched, applyView, ApplyEntry, Still, Quiet, Calm, Fell, led, Applied, wasPushed}
 use Rattle.history.specs.Frames.{Same, same, val-same, put-same, LinkedStack, stack-linked, not-going, complete-no, complete-same, by-eq}
 
 -- ---- lists
-first-linked : (l : List Transaction) (xs : List Op) (a : ℕ) → Rising xs → Linked l xs → Linked l (first xs a)
+first-linked : (l : Log) (xs : List Op) (a : ℕ) → Rising xs → Linked l xs → Linked l (first xs a)
 unfolding first Linked Rising
 first-linked l [] a r h = h
 first-linked l (push k ∷ xs) a r h = go (leb (suc (length xs)) a) (first-linked l xs a (r .1) (h .1))
@@ -66,7 +66,7 @@ falls-tail : (k : ℕ) (ks : List ℕ) → Falls (k ∷ ks) → Falls ks
 unfolding Falls
 falls-tail k ks f = f .1
 
-link-top : (l : List Transaction) (k : ℕ) (ks : List ℕ) → LinkedStack l (k ∷ ks) → Link l k ks
+link-top : (l : Log) (k : ℕ) (ks : List ℕ) → LinkedStack l (k ∷ ks) → Link l k ks
 unfolding LinkedStack
 link-top l k ks s = s .0
 
@@ -106,7 +106,7 @@ ended-touched Aborted e = refl
 ended-touched Canceled e = e
 ended-touched Failed e = refl
 
-fell-same : (l m : List Transaction) → ((k : ℕ) → isEnded (entryOf l k .change .apply) ≡ true → entryOf m k .change .apply ≡ entryOf l k .change .apply)
+fell-same : (l m : Log) → ((k : ℕ) → isEnded (entryOf l k .change .apply) ≡ true → entryOf m k .change .apply ≡ entryOf l k .change .apply)
     → (ks : List ℕ)
     → Fell l ks
     → Fell m ks
@@ -115,13 +115,13 @@ fell-same l m h [] f = tt
 fell-same l m h (k ∷ ks) f = (ap isEnded (h k (f .0)) ∙ f .0, (λ e. f .1 (sym (h k (f .0)) ∙ e)), fell-same l m h ks (f .2))
 
 -- the apply side, with what it needs of the commit side
-pub record ApplySide (l : List Transaction) (part : Part) (ops acts : List Op) (bad : List ℕ) : Type 0 where
+pub record ApplySide (l : Log) (part : Part) (ops acts : List Op) (bad : List ℕ) : Type 0 where
   pub rising : Rising ops
   pub linked : Linked l ops
   pub numbered : (k : ℕ) → Numbered ops k (entryOf l k .change .ordinal .0) (entryOf l k .rollback .ordinal .0)
   pub applied : Applied l part ops acts bad
 
-module _ {l : List Transaction} {part : Part} {ops acts : List Op} {bad : List ℕ} (side : ApplySide l part ops acts bad) where
+module _ {l : Log} {part : Part} {ops acts : List Op} {bad : List ℕ} (side : ApplySide l part ops acts bad) where
   abbrev inv : Applied l part ops acts bad
   inv = side .applied
 
@@ -318,13 +318,13 @@ module _ {l : List Transaction} {part : Part} {ops acts : List Op} {bad : List �
       }
 
   -- ---- an entry with nothing begun is appended
-  pub append-applied : (t : Transaction) → newest ops ≤ length l → t .change .apply ≡ Pending → t .rollback .apply ≡ None → Applied (l ++ (t ∷ [])) part ops acts bad
+  pub append-applied : (t : Transaction) → newest ops ≤ last l → t .change .apply ≡ Pending → t .rollback .apply ≡ None → Applied (grown l t) part ops acts bad
   append-applied t b d r =
-      let m = l ++ (t ∷ []) in
-      let n = suc (length l) in
-      let s : (k : ℕ) → k ≤ length l → Same (entryOf l k) (entryOf m k) = add-all (λ k u. k ≤ length l → Same (entryOf l k) u) l t (λ k x. same (entryOf l k)) (λ x. absurd (omega arith)) in
+      let m = grown l t in
+      let n = suc (last l) in
+      let s : (k : ℕ) → k ≤ last l → Same (entryOf l k) (entryOf m k) = add-all (λ k u. k ≤ last l → Same (entryOf l k) u) l t (λ k x. same (entryOf l k)) (λ x. absurd (omega arith)) in
       let w : Quiet l at → Quiet m at = λ y. add-all (λ k z. Still at (applyView z)) l t y (record { change = λ x. not-going Pending refl (sym d ∙ x); rollback = λ x. not-going None refl (sym r ∙ x) }) in
-      let o : getD l (length l) blank ≡ blank = List·getD-eq-default l blank (omega arith) in
+      let o : entryOf l n ≡ blank = entry-past l in
       record {
         entries = add-all (λ k z. ApplyEntry at (hd .target .0) acts k (applyView z)) l t (inv .entries) (record {
           change = record {
@@ -337,7 +337,7 @@ module _ {l : List Transaction} {part : Part} {ops acts : List Op} {bad : List �
             aim = λ x. not-going None refl (sym r ∙ x);
             returned = inv .entries n .rollback .returned ∙ ap (λ u. complete (u .rollback .apply) at (u .rollback .ordinal .0)) o ∙ sym (ap (λ c. complete c at (t .rollback .ordinal .0)) r);
           };
-          tried = λ x. not-going None refl (sym r ∙ x);
+          tried = λ x. clash (sym x ∙ ap wasPushed r);
           spared = λ x. clash (ap rollbackTouched (sym x ∙ r));
         });
         calm = add-all (λ k z. Calm (Quiet m at) at (applyView z)) l t
@@ -350,7 +350,7 @@ module _ {l : List Transaction} {part : Part} {ops acts : List Op} {bad : List �
             (add-all (λ k z. isEnded (entryOf l k .change .apply) ≡ true → z .change .apply ≡ entryOf l k .change .apply) l t (λ k y. refl)
             (λ y. crash (sym (ap (λ u. isEnded (u .change .apply)) o) ∙ y))) bad (inv .fell);
         tip = inv .tip;
-        holds = λ p x. inv .holds p x ∙ sym (val-same l m (length l) s (held acts) held-falls (omega (arith, held-low)) p);
+        holds = λ p x. inv .holds p x ∙ sym (val-same l m (last l) s (held acts) held-falls (omega (arith, held-low)) p);
         room = inv .room;
         aimed = λ x. let y = inv .aimed x in record { there = y .there; reach = y .reach; quiet = w (y .quiet) };
         clear = inv .clear;
@@ -364,7 +364,7 @@ module _ {l : List Transaction} {part : Part} {ops acts : List Op} {bad : List �
       → (changeTouched x ≡ true → entryOf l i .change .ordinal .0 ≤ suc at)
       → (isStarted x ≡ true → entryOf l i .change .ordinal .0 ≡ suc at → hd .target .0 ≡ i)
       → pushed i acts ≡ complete x at (entryOf l i .change .ordinal .0)
-      → (entryOf l i .rollback .apply ≡ InProgress → wasTried x ≡ true)
+      → (wasPushed (entryOf l i .rollback .apply) ≡ true → wasTried x ≡ true)
       → (entryOf l i .rollback .apply ≡ Canceled → x ≡ Aborted)
       → Applied (putEntry l i (withChange (entryOf l i) (applyAt (entryOf l i .change) x))) part ops acts bad
   set-change i x f u c b g t r s =
@@ -386,7 +386,7 @@ module _ {l : List Transaction} {part : Part} {ops acts : List Op} {bad : List �
       → (rollbackTouched x ≡ true → entryOf l i .rollback .ordinal .0 ≤ suc at)
       → (x ≡ InProgress → entryOf l i .rollback .ordinal .0 ≡ suc at → hd .target .0 ≡ entryOf l i .index .0)
       → popped i acts ≡ complete x at (entryOf l i .rollback .ordinal .0)
-      → (x ≡ InProgress → wasTried (entryOf l i .change .apply) ≡ true)
+      → (wasPushed x ≡ true → wasTried (entryOf l i .change .apply) ≡ true)
       → (x ≡ Canceled → entryOf l i .change .apply ≡ Aborted)
       → Applied (putEntry l i (withRollback (entryOf l i) (applyAt (entryOf l i .rollback) x))) part ops acts bad
   set-rollback i x u c b g t r s =
@@ -460,7 +460,7 @@ module _ {l : List Transaction} {part : Part} {ops acts : List Op} {bad : List �
       let x = inv .entries i in
       set-rollback i Canceled (λ y. not-going Canceled refl) (λ w y z. w q) (λ y. omega arith) (not-going Canceled refl)
       (x .rollback .returned ∙ ap (λ c. complete c at (entryOf l i .rollback .ordinal .0)) e)
-      (not-going Canceled refl)
+      (λ y. crash y)
       (λ y. t)
 
   pub finish-rollback : (i : ℕ) → entryOf l i .rollback .apply ≡ InProgress → at ≡ entryOf l i .rollback .ordinal .0
@@ -469,7 +469,7 @@ module _ {l : List Transaction} {part : Part} {ops acts : List Op} {bad : List �
       let x = inv .entries i in
       set-rollback i Complete (λ y. not-going Complete refl) (λ w y z. clash (sym y)) (λ y. clash (sym y)) (not-going Complete refl)
       (x .rollback .returned ∙ ap (λ c. complete c at (entryOf l i .rollback .ordinal .0)) e ∙ eq-eqb at (entryOf l i .rollback .ordinal .0) o)
-      (not-going Complete refl)
+      (λ y. x .tried (ap wasPushed e))
       (λ y. clash (ap isComplete y))
 
   -- ---- the ordinal passes the next op, and the target is where it leads
@@ -585,7 +585,7 @@ module _ {l : List Transaction} {part : Part} {ops acts : List Op} {bad : List �
       ∙ ap (λ c. complete c at (entryOf l i .change .ordinal .0)) e)
 
 -- ---- the ordinal passes the rollback of i
-module _ {l : List Transaction} {part : Part} {ops acts : List Op} where
+module _ {l : Log} {part : Part} {ops acts : List Op} where
   -- Canceled: the change was Aborted
   pub close-rollback : (bad : List ℕ) (side : ApplySide l part ops acts bad) (i : ℕ) → entryOf l i .rollback .apply ≡ Canceled
       → entryOf l i .rollback .ordinal .0 ≡ suc (part .head .ordinal .0)
@@ -666,7 +666,7 @@ module _ {l : List Transaction} {part : Part} {ops acts : List Op} where
       let u : b ≡ i = ap top w in
       let x : isEnded (entryOf l i .change .apply) ≡ true = rw u at (side .applied .fell .0) in
       let y : entryOf l i .change .apply ≡ Failed → bs ≡ [] = rw u at (side .applied .fell .1) in
-      let z : bs ≡ [] = y (failed-is (entryOf l i .change .apply) (side .applied .entries i .tried e) x) in
+      let z : bs ≡ [] = y (failed-is (entryOf l i .change .apply) (side .applied .entries i .tried (ap wasPushed e)) x) in
       let k : Link l i (bs ++ held acts) = pop-link side i o in
       let j : Link l i (held acts) = rw z at k in
       let g : Falls (i ∷ (bs ++ held acts)) = pop-falls side i o in
@@ -676,7 +676,7 @@ module _ {l : List Transaction} {part : Part} {ops acts : List Op} where
       (λ p q. ap (returns (entryOf l i) p) (side .applied .holds p q) ∙ back-again (entryOf l i .paths) (entryOf l i .count) (entryOf l i .kept) (entryOf l i .values) p (val l (held acts) p) (j .keeps p q))
 
 -- ---- one commit more
-pub extend : {l : List Transaction} {part : Part} {ops acts : List Op} {bad : List ℕ} → ApplySide l part ops acts bad → (x : Op)
+pub extend : {l : Log} {part : Part} {ops acts : List Op} {bad : List ℕ} → ApplySide l part ops acts bad → (x : Op)
     → ((k : ℕ) → x ≡ push k → newest ops < k)
     → Applied l part (x ∷ ops) acts bad
 unfolding opAt

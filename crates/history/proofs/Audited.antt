@@ -1,18 +1,17 @@
 -- What the log shows holds in every reached state (Audit says what is shown). Assumes nothing.
-use Prim.Native.Nat.{ℕ, _+_, _≤_}
+use Prim.Native.Nat.{ℕ, suc, _+_, _≤_, _<_}
 use native.Mathlib.Omega.{arith}
 use mathlib.Core.List.{List}
 use mathlib.Core.Bool.{Bool, true, false, not, _&&_, _||_, cond}
-use mathlib.Core.Path.{_≡_, refl, sym, ap, ap₂, _∙_}
-use lib.Dec.{eqb, leb}
-use lib.ListN.{length}
-use borrow.Author.Tests.{eqb-true, le-leb}
+use mathlib.Core.Path.{_≡_, refl, sym, ap, ap₂, _∙_, subst}
+use lib.Dec.{eqb, ltb, leb}
+use borrow.Author.Tests.{eqb-true, le-leb, leb-false, ltb-true}
 use Rattle.kinds.specs.declared.Transaction.{Transaction}
 use Rattle.kinds.specs.declared.Event.{Event}
 use Rattle.kinds.specs.declared.Status.{Status}
 use Rattle.kinds.specs.declared.Status.the-variants.{None, Pending, InProgress, Complete, Aborted, Canceled, Failed}
 use Rattle.kinds.specs.Numbers.{num, follows, isFull}
-use Rattle.kinds.specs.Statuses.{isComplete}
+use Rattle.kinds.specs.Statuses.{isComplete, isFailed}
 use Rattle.rules.specs.declared.CommitChangeRule.the-variants as change
 use Rattle.rules.specs.declared.CommitRollbackRule.the-variants as rollback
 use Rattle.rules.specs.declared.ApplyChangeRule.{ApplyChangeRule}
@@ -26,18 +25,22 @@ use Rattle.rules.specs.CommitRollback as job3
 use Rattle.rules.specs.ApplyChange as job2
 use Rattle.rules.specs.ApplyRollback as job4
 use Rattle.rules.specs.ApplyRollback.{isAborted}
-use Rattle.machine.specs.State.{State, entryOf, lineOpenFor}
+use Rattle.machine.specs.State.{State, entryOf, last, lineOpenFor}
 use Rattle.machine.specs.Settled.{settled}
-use Rattle.machine.specs.Calls.{Call, restOf}
+use Rattle.machine.specs.Calls.{Call}
+use Rattle.machine.specs.Rest.{restOf}
 use Rattle.machine.specs.Step.{run}
-use Rattle.history.specs.Demand3.{completed, live}
-use Rattle.history.specs.Ops.{told-change, told-rollback, crash}
-use Rattle.history.specs.Invariant.{isGoing, complete, Paired}
+use Rattle.history.specs.Demand3.{completed, live, kept}
+use Rattle.history.specs.Ops.{opsOf, told-change, told-rollback, first, crash}
+use Rattle.history.specs.Invariant.{isGoing, complete, Paired, Sides}
 use Rattle.history.specs.Frames.{paired, going-complete}
 use Rattle.history.proofs.Commits.{tip-back, some-back}
-use Rattle.history.proofs.Reached.{Reached, reached}
+use Rattle.machine.proofs.Entries.{entry-folded}
+use Rattle.history.specs.Whole.{whole, shownLog, shown, Front}
+use Rattle.history.proofs.Follow.{entry-seen}
+use Rattle.history.proofs.Reached.{Reached, folded}
 use Rattle.history.proofs.ByNumber.{list-same}
-use Rattle.history.specs.Marks.{isFailed, isCanceled, neverBegun}
+use Rattle.history.specs.Marks.{isCanceled, neverBegun, Mark}
 use Rattle.history.proofs.Marked.{Marked, marked}
 use Rattle.history.specs.Audit.{closes1, closes2, closes3, closes4, Shown, landed, took, undid, holds, Audited}
 
@@ -173,21 +176,38 @@ close4 Failed a o m t e f h = sym (no-close4 (t .committed) return.Wait return.W
 none-landed : (c : Status) (a o : ℕ) → isComplete c ≡ false → isGoing c ≡ false → complete c a o ≡ false
 none-landed c a o e f = rw (e, f) refl
 
-module _ (s : State) (es : List Event) (r : Reached s es) (marks : Marked (s .log) (s .applied .head) es) where
+-- ---- the whole s, its first b folded away
+module _ (s : State) (es : List Event) (r : Reached s es) (marks : Marked (s .log) (s .applied .head) es) (b : ℕ) (vs : List ℕ) (f : Front (s .log) b vs) where
+  -- what is known of entry k
+  record Known (k : ℕ) (t : Transaction) : Type 0 where
+    did1 : completed es 1 1 k ≡ complete (t .change .commit) (s .change .0) k
+    did2 : completed es 1 2 k ≡ complete (t .change .apply) (s .applied .head .ordinal .0) (t .change .ordinal .0)
+    undid1 : completed es 2 1 k ≡ complete (t .rollback .commit) (s .committed .head .revision .0) (t .index .0)
+    undid2 : completed es 2 2 k ≡ complete (t .rollback .apply) (s .applied .head .ordinal .0) (t .rollback .ordinal .0)
+    sides : Sides t
+    mark : Mark (s .applied .head .ordinal .0) (s .applied .head .target .0) (first (opsOf Complete 1 es) (s .applied .head .ordinal .0)) es k t
+    back : t .rollback .commit ≡ InProgress → s .committed .head .revision .0 ≡ k → t .index .0 < k
+
+  known : (k : ℕ) → Known k (entryOf (s .log) k)
+  known k =
+      record {
+        did1 = told-change Complete es 1 k ∙ r .inv .committed .entries k .done;
+        did2 = told-change Complete es 2 k ∙ r .inv .applied .entries k .change .taken;
+        undid1 = told-rollback Complete es 1 k ∙ r .inv .committed .entries k .undone;
+        undid2 = told-rollback Complete es 2 k ∙ r .inv .applied .entries k .rollback .returned;
+        sides = r .inv .sides k;
+        mark = marks k;
+        back = λ e x. tip-back (r .inv .committed) k (sym x) (omega (arith, some-back (s .log) k (ap isGoing e)));
+      }
+
+  abbrev kn : State
+  kn = shown s b vs
+
   abbrev en : ℕ → Transaction
-  en k = entryOf (s .log) k
+  en k = entryOf (shownLog (s .log) b vs) k
 
-  did1 : (k : ℕ) → completed es 1 1 k ≡ complete (en k .change .commit) (s .change .0) k
-  did1 k = told-change Complete es 1 k ∙ r .inv .committed .entries k .done
-
-  did2 : (k : ℕ) → completed es 1 2 k ≡ complete (en k .change .apply) (s .applied .head .ordinal .0) (en k .change .ordinal .0)
-  did2 k = told-change Complete es 2 k ∙ r .inv .applied .entries k .change .taken
-
-  undid1 : (k : ℕ) → completed es 2 1 k ≡ complete (en k .rollback .commit) (s .committed .head .revision .0) (en k .index .0)
-  undid1 k = told-rollback Complete es 1 k ∙ r .inv .committed .entries k .undone
-
-  undid2 : (k : ℕ) → completed es 2 2 k ≡ complete (en k .rollback .apply) (s .applied .head .ordinal .0) (en k .rollback .ordinal .0)
-  undid2 k = told-rollback Complete es 2 k ∙ r .inv .applied .entries k .rollback .returned
+  seen : (k : ℕ) → b < k → Known k (en k)
+  seen k p = subst (Known k) (sym (entry-seen s b vs f k p)) (known k)
 
   -- an apply in progress was committed, and has an ordinal
   going : (c x : Status) (o : ℕ) → Paired c x o → x ≡ InProgress → (isComplete c ≡ true) × (1 ≤ o)
@@ -220,42 +240,53 @@ module _ (s : State) (es : List Event) (r : Reached s es) (marks : Marked (s .lo
   failed Canceled e = crash e
   failed Failed e = (refl, refl)
 
-  shows : (k : ℕ) → Shown s es k
-  shows k =
-      let m = marks k in
+  shows : (k : ℕ) → b < k → Shown kn es k
+  shows k p =
+      let x = seen k p in
+      let m = x .mark in
       record {
-        committed = λ ok. did1 k ∙ close1 (en k .change .commit) (s .change .0) k (eqb (s .committed .head .target .0) k) (restOf s) ok (isFull (s .committed .head .ordinal .0));
-        applied = λ n ok. did2 k ∙ close2 (en k .change .apply) (s .applied .head .ordinal .0) (en k .change .ordinal .0) (isComplete (en k .change .commit)) (job2.tests (en k) (s .applied .head) (settled s) (num k) (lineOpenFor (s .net) n) ok) refl refl (going (en k .change .commit) (en k .change .apply) (en k .change .ordinal .0) (r .inv .sides k .change));
-        rolledBack = undid1 k ∙ close3 (en k .rollback .commit) (s .committed .head .revision .0) (en k .index .0) k (eqb (s .committed .head .target .0) (en k .index .0)) (restOf s) (isFull (s .committed .head .ordinal .0))
-            (λ e x y. omega (arith, tip-back (r .inv .committed) k (sym x) (some-back (s .log) k (ap isGoing e))));
-        returned = λ n ok. undid2 k ∙ close4 (en k .rollback .apply) (s .applied .head .ordinal .0) (en k .rollback .ordinal .0) (isComplete (en k .rollback .commit)) (job4.tests (en k) (s .applied .head) (settled s) (lineOpenFor (s .net) n) ok) refl refl (going (en k .rollback .commit) (en k .rollback .apply) (en k .rollback .ordinal .0) (r .inv .sides k .rollback));
+        committed = λ ok. x .did1 ∙ close1 (en k .change .commit) (s .change .0) k (eqb (s .committed .head .target .0) k) (restOf kn) ok (isFull (s .committed .head .ordinal .0));
+        applied = λ n ok. x .did2 ∙ close2 (en k .change .apply) (s .applied .head .ordinal .0) (en k .change .ordinal .0) (isComplete (en k .change .commit)) (job2.tests (en k) (s .applied .head) (settled kn) (num k) (lineOpenFor (s .net) n) ok) refl refl (going (en k .change .commit) (en k .change .apply) (en k .change .ordinal .0) (x .sides .change));
+        rolledBack = x .undid1 ∙ close3 (en k .rollback .commit) (s .committed .head .revision .0) (en k .index .0) k (eqb (s .committed .head .target .0) (en k .index .0)) (restOf kn) (isFull (s .committed .head .ordinal .0))
+            (λ e y z. omega (arith, x .back e y));
+        returned = λ n ok. x .undid2 ∙ close4 (en k .rollback .apply) (s .applied .head .ordinal .0) (en k .rollback .ordinal .0) (isComplete (en k .rollback .commit)) (job4.tests (en k) (s .applied .head) (settled kn) (lineOpenFor (s .net) n) ok) refl refl (going (en k .rollback .commit) (en k .rollback .apply) (en k .rollback .ordinal .0) (x .sides .rollback));
         invalid = m .rejected;
         failed = m .failed;
         aborted = m .aborted;
         canceled = m .canceled;
-        neverBegan = λ e. let x = stopped (en k .change .apply) e in (m .never (x .2), did2 k ∙ none-landed (en k .change .apply) (s .applied .head .ordinal .0) (en k .change .ordinal .0) (x .0) (x .1));
-        neverReturned = λ e. let x = canceled (en k .rollback .apply) e in (m .neverBack (x .2), undid2 k ∙ none-landed (en k .rollback .apply) (s .applied .head .ordinal .0) (en k .rollback .ordinal .0) (x .0) (x .1));
-        neverCommitted = λ e. let x = failed (en k .change .commit) e in did1 k ∙ none-landed (en k .change .commit) (s .change .0) k (x .0) (x .1);
-        neverTaken = λ e. let x = failed (en k .change .apply) e in did2 k ∙ none-landed (en k .change .apply) (s .applied .head .ordinal .0) (en k .change .ordinal .0) (x .0) (x .1);
+        neverBegan = λ e. let y = stopped (en k .change .apply) e in (m .never (y .2), x .did2 ∙ none-landed (en k .change .apply) (s .applied .head .ordinal .0) (en k .change .ordinal .0) (y .0) (y .1));
+        neverReturned = λ e. let y = canceled (en k .rollback .apply) e in (m .neverBack (y .2), x .undid2 ∙ none-landed (en k .rollback .apply) (s .applied .head .ordinal .0) (en k .rollback .ordinal .0) (y .0) (y .1));
+        neverCommitted = λ e. let y = failed (en k .change .commit) e in x .did1 ∙ none-landed (en k .change .commit) (s .change .0) k (y .0) (y .1);
+        neverTaken = λ e. let y = failed (en k .change .apply) e in x .did2 ∙ none-landed (en k .change .apply) (s .applied .head .ordinal .0) (en k .change .ordinal .0) (y .0) (y .1);
       }
 
-  took-is : (k : ℕ) → took (s .log) (s .applied .head .ordinal .0) k ≡ completed es 1 2 k
-  took-is k = sym (did2 k ∙ landed-complete (en k .change .apply) (s .applied .head .ordinal .0) (en k .change .ordinal .0))
+  took-is : (k : ℕ) → b < k → took (kn .log) (s .applied .head .ordinal .0) k ≡ completed es 1 2 k
+  took-is k p = sym (seen k p .did2 ∙ landed-complete (en k .change .apply) (s .applied .head .ordinal .0) (en k .change .ordinal .0))
 
-  undid-is : (k : ℕ) → undid (s .log) (s .applied .head .ordinal .0) k ≡ completed es 2 2 k
-  undid-is k = sym (undid2 k ∙ landed-complete (en k .rollback .apply) (s .applied .head .ordinal .0) (en k .rollback .ordinal .0))
+  undid-is : (k : ℕ) → b < k → undid (kn .log) (s .applied .head .ordinal .0) k ≡ completed es 2 2 k
+  undid-is k p = sym (seen k p .undid2 ∙ landed-complete (en k .rollback .apply) (s .applied .head .ordinal .0) (en k .rollback .ordinal .0))
 
-  audits : Audited s es
+  audits : Audited kn es
   audits =
       record {
         took = took-is;
         undid = undid-is;
-        set = list-same (holds s) (live es 2) (length (s .log)) (λ k b. ap₂ (λ x y. x && not y) (took-is k) (undid-is k));
+        set = list-same (holds kn) (kept kn (live es 2)) (last (kn .log)) (λ k u v. go k (ltb b k) refl);
       }
+    where
+      go : (k : ℕ) (x : Bool) → ltb b k ≡ x → holds kn k ≡ (ltb b k && live es 2 k)
+      go k true e = rw e (ap₂ (λ x y. x && not y) (took-is k (ltb-true b k e)) (undid-is k (ltb-true b k e)))
+      go k false e =
+          rw e (ap (λ t. landed (t .change .apply) (s .applied .head .ordinal .0) (t .change .ordinal .0) && not (landed (t .rollback .apply) (s .applied .head .ordinal .0) (t .rollback .ordinal .0)))
+          (entry-folded (kn .log) k (omega (arith, leb-false (suc b) k e))))
 
 -- ---- the theorems
-pub log-shows : (cs : List Call) (k : ℕ) → Shown (run cs .state) (run cs .events) k
-log-shows cs k = shows (run cs .state) (run cs .events) (reached cs) (marked cs) k
+pub log-shows : (cs : List Call) (k : ℕ) → run cs .state .log .folded .0 < k → Shown (run cs .state) (run cs .events) k
+log-shows cs k =
+    let x = folded cs in
+    subst (λ s. s .log .folded .0 < k → Shown s (run cs .events) k) (sym (x .shows)) (shows (whole cs) (run cs .events) (x .reached) (marked cs) (x .fold) (x .base) (x .front) k)
 
 pub audited : (cs : List Call) → Audited (run cs .state) (run cs .events)
-audited cs = audits (run cs .state) (run cs .events) (reached cs) (marked cs)
+audited cs =
+    let x = folded cs in
+    subst (λ s. Audited s (run cs .events)) (sym (x .shows)) (audits (whole cs) (run cs .events) (x .reached) (marked cs) (x .fold) (x .base) (x .front))

@@ -7,7 +7,7 @@ use mathlib.Core.Bool.{Bool, true, false, _&&_, _||_}
 use mathlib.Core.Path.{_≡_, refl, sym, ap, _∙_, subst}
 use lib.Dec.{eqb, ltb, leb}
 use lib.ListN.{length, getD}
-use borrow.Author.Tests.{eqb-true, eqb-false, eq-eqb, ne-eqb, ltb-true}
+use borrow.Author.Tests.{eqb-true, eqb-false, eq-eqb, ne-eqb, ltb-true, lt-leb, le-leb}
 use Rattle.kinds.specs.declared.Transaction.{Transaction}
 use Rattle.kinds.specs.declared.Head.{Head}
 use Rattle.kinds.specs.declared.Number.{Number}
@@ -21,18 +21,25 @@ use Rattle.rules.specs.Heads.{aimed, landed, passed}
 use Rattle.rules.specs.Sides.{begun, committed, invalid}
 use Rattle.rules.specs.Outside.{rolledBack}
 use Rattle.rules.specs.AtRest.{atRest}
-use Rattle.machine.specs.State.{Part, entryOf, putEntry}
+use Rattle.machine.specs.State.{Part, Log, entryOf, putEntry, grown, last}
 use Rattle.machine.proofs.Next.{over}
 use Rattle.machine.proofs.Cases.{and-left, and-right, or-cases}
-use Rattle.machine.proofs.Entries.{put-all, add-all, length-put, length-add, length-over}
+use Rattle.machine.proofs.Entries.{put-all, add-all, entry-cases, last-put, last-add, length-over}
+use Rattle.machine.specs.Rest.{markOf}
 use Rattle.history.specs.Values.{at-over}
 use Rattle.history.specs.Ops.{Op, push, pop, pushed, popped, top, tail, stack, newest, Rising, Falls, stack-low, stack-falls, pushed-above, popped-above, on-top, opAt-last, clash}
 use Rattle.history.specs.Invariant.{val, Linked, says, returns, isGoing, complete, commitView, CommitEntry, Committed, isEnded}
 use Rattle.history.specs.Frames.{Same, same, val-same, linked-same, put-same, LinkedStack, stack-linked, not-going, complete-same, by-eq}
 
 -- ---- at rest
-abbrev Rests : List Transaction → Head → Type 0
-Rests l h = atRest h (entryOf l (h .index .0) .change .commit) (entryOf l (h .index .0) .rollback .commit) ≡ true
+abbrev commitAt : Log → ℕ → Status
+commitAt l k = markOf l k (entryOf l k .change .commit)
+
+abbrev returnAt : Log → ℕ → Status
+returnAt l k = markOf l k (entryOf l k .rollback .commit)
+
+abbrev pub Rests : Log → Head → Type 0
+Rests l h = atRest h (commitAt l (h .index .0)) (returnAt l (h .index .0)) ≡ true
 
 module _ (h : Head) (c r : Status) (e : atRest h c r ≡ true) where
   -- the three clauses of rest
@@ -60,20 +67,27 @@ module _ (h : Head) (c r : Status) (e : atRest h c r ≡ true) where
   rest-not-returned k t i v d = rest-cases (λ x y. omega arith) (λ x y. omega arith) (λ x y z. clash (sym z ∙ ap done d))
 
 -- ---- the newest live change returns to a lower number
-tip-falls : (l : List Transaction) (ks : List ℕ) → Falls ks → LinkedStack l ks → (r : ℕ) → r ≡ top ks → 1 ≤ r → entryOf l r .index .0 < r
+tip-falls : (l : Log) (ks : List ℕ) → Falls ks → LinkedStack l ks → (r : ℕ) → r ≡ top ks → 1 ≤ r → entryOf l r .index .0 < r
 unfolding Falls LinkedStack
 tip-falls l [] f s r e b = absurd (omega arith)
 tip-falls l (k ∷ ks) f s r e b = rw e (omega (arith, s .0 .back, f .0))
 
-some : (l : List Transaction) (k : ℕ) → isGoing (entryOf l k .change .commit) ≡ true → 1 ≤ k
-some l zero e = clash (sym e)
-some l (suc k) e = omega arith
+-- what is in progress is kept
+some : (l : Log) (k : ℕ) → isGoing (entryOf l k .change .commit) ≡ true → l .folded .0 < k
+some l k = entry-cases (λ t. isGoing (t .change .commit) ≡ true → l .folded .0 < k) l k (λ e. clash (sym e)) (λ p q e. p)
 
-pub some-back : (l : List Transaction) (k : ℕ) → isGoing (entryOf l k .rollback .commit) ≡ true → 1 ≤ k
-some-back l zero e = clash (sym e)
-some-back l (suc k) e = omega arith
+pub some-back : (l : Log) (k : ℕ) → isGoing (entryOf l k .rollback .commit) ≡ true → l .folded .0 < k
+some-back l k = entry-cases (λ t. isGoing (t .rollback .commit) ≡ true → l .folded .0 < k) l k (λ e. clash (sym e)) (λ p q e. p)
 
-module _ {l : List Transaction} {c : ℕ} {part : Part} {ops : List Op} (inv : Committed l c part ops) where
+-- and its mark stands
+pub mark-kept : (l : Log) (k : ℕ) (x : Status) → l .folded .0 < k → markOf l k x ≡ x
+mark-kept l k x p = rw (lt-leb k (l .folded .0) p) refl
+
+-- a folded number's counts as Done
+pub mark-folded : (l : Log) (k : ℕ) (x : Status) → k ≤ l .folded .0 → markOf l k x ≡ Complete
+mark-folded l k x p = rw (le-leb k (l .folded .0) p) refl
+
+module _ {l : Log} {c : ℕ} {part : Part} {ops : List Op} (inv : Committed l c part ops) where
   abbrev hd : Head
   hd = part .head
 
@@ -85,22 +99,23 @@ module _ {l : List Transaction} {c : ℕ} {part : Part} {ops : List Op} (inv : C
   pub asked : (k : ℕ) → entryOf l k .rollback .commit ≡ InProgress → k ≤ c
   asked k e = by-eq k (hd .revision .0) (λ x. omega (arith, inv .low, inv .mid)) (λ x. omega (arith, inv .entries k .returned e x .index, inv .mid))
 
-  resting : Rests l hd → (hd .revision .0 ≤ hd .target .0) × (hd .target .0 ≤ hd .index .0)
-  resting r = rest-between hd (entryOf l (hd .index .0) .change .commit) (entryOf l (hd .index .0) .rollback .commit) r (inv .low)
+  pub resting : Rests l hd → (hd .revision .0 ≤ hd .target .0) × (hd .target .0 ≤ hd .index .0)
+  resting r = rest-between hd (commitAt l (hd .index .0)) (returnAt l (hd .index .0)) r (inv .low)
 
   not-closing : Rests l hd → (k : ℕ) → entryOf l k .change .commit ≡ InProgress → k ≤ c → ⊥
   not-closing r k x y =
       let f = inv .entries k .closing x y in
-      rest-not-closing hd (entryOf l (hd .index .0) .change .commit) (entryOf l (hd .index .0) .rollback .commit) r k (some l k (ap isGoing x)) (f .target) (f .index) (f .revision) (rw (f .index) x)
+      let p = some l k (ap isGoing x) in
+      rest-not-closing hd (commitAt l (hd .index .0)) (returnAt l (hd .index .0)) r k (omega arith) (f .target) (f .index) (f .revision) (ap (commitAt l) (f .index) ∙ mark-kept l k _ p ∙ x)
 
   not-returned : Rests l hd → (k : ℕ) → entryOf l k .rollback .commit ≡ InProgress → (k ≡ hd .revision .0 → ⊥) → ⊥
   not-returned r k x y =
       let f = inv .entries k .returned x y in
-      rest-not-returned hd (entryOf l (hd .index .0) .change .commit) (entryOf l (hd .index .0) .rollback .commit) r k (f .target) (f .index) (f .below) (rw (f .index) x)
+      rest-not-returned hd (commitAt l (hd .index .0)) (returnAt l (hd .index .0)) r k (f .target) (f .index) (f .below) (ap (returnAt l) (f .index) ∙ mark-kept l k _ (some-back l k (ap isGoing x)) ∙ x)
 
   not-returning : Rests l hd → (k : ℕ) → entryOf l k .rollback .commit ≡ InProgress → ⊥
   not-returning r k x =
-      by-eq k (hd .revision .0) (λ y. omega (arith, resting r, inv .entries k .returning x y, tip-back k y (some-back l k (ap isGoing x)))) (not-returned r k x)
+      by-eq k (hd .revision .0) (λ y. omega (arith, resting r, inv .entries k .returning x y, tip-back k y (omega (arith, some-back l k (ap isGoing x))))) (not-returned r k x)
 
   -- ---- job 1
   -- while change i is in flight nothing else of the commit side is in progress
@@ -111,7 +126,7 @@ module _ {l : List Transaction} {c : ℕ} {part : Part} {ops : List Op} (inv : C
     alone-back : (k : ℕ) → entryOf l k .rollback .commit ≡ InProgress → ⊥
     alone-back k x =
         by-eq k (hd .revision .0)
-        (λ z. omega (arith, inv .entries k .returning x z, tip-back k z (some-back l k (ap isGoing x)), asked k x))
+        (λ z. omega (arith, inv .entries k .returning x z, tip-back k z (omega (arith, some-back l k (ap isGoing x))), asked k x))
         (λ z. omega (arith, inv .entries k .returned x z .target, inv .low, inv .mid))
 
   pub aim-change : (i : ℕ) → i ≡ suc c → Rests l hd → Committed l c (record { head = aimed hd (num i); values = part .values }) ops
@@ -138,6 +153,7 @@ module _ {l : List Transaction} {c : ℕ} {part : Part} {ops : List Op} (inv : C
         low = inv .low;
         mid = inv .mid;
         high = inv .high;
+        behind = λ x y. absurd (omega (arith, inv .low, inv .mid));
       }
 
   -- one entry is stored, its pairs as they were if its number is at most n, which no live change passes
@@ -158,7 +174,8 @@ module _ {l : List Transaction} {c : ℕ} {part : Part} {ops : List Op} (inv : C
         room = inv .room;
         low = inv .low;
         mid = inv .mid;
-        high = rw length-put (inv .high);
+        high = rw last-put (inv .high);
+        behind = inv .behind;
       }
 
   -- the commit of i begins: it is to return to the revision, and vs puts back the present values
@@ -184,7 +201,7 @@ module _ {l : List Transaction} {c : ℕ} {part : Part} {ops : List Op} (inv : C
       })
 
   -- it lands: one push more
-  pub land-change : (i : ℕ) (o : Ordinal) → i ≡ suc c → i ≤ length l → entryOf l i .change .commit ≡ InProgress → o .0 ≡ suc (hd .ordinal .0)
+  pub land-change : (i : ℕ) (o : Ordinal) → i ≡ suc c → i ≤ last l → entryOf l i .change .commit ≡ InProgress → o .0 ≡ suc (hd .ordinal .0)
       → Committed l i
       (record { head = landed hd (num i) (num i) o; values = over (entryOf l i .paths) (entryOf l i .values) (entryOf l i .count) (part .values) })
       (push i ∷ ops)
@@ -216,6 +233,7 @@ module _ {l : List Transaction} {c : ℕ} {part : Part} {ops : List Op} (inv : C
         low = omega arith;
         mid = omega arith;
         high = b;
+        behind = λ x y. absurd (omega arith);
       }
     where
       went : (k : ℕ) (y : Bool) → eqb i k ≡ y → (y || pushed k ops) ≡ complete (entryOf l k .change .commit) i k
@@ -259,7 +277,7 @@ module _ {l : List Transaction} {c : ℕ} {part : Part} {ops : List Op} (inv : C
         undone = x .undone;
       })
 
-  pub pass-change : (i : ℕ) → i ≡ suc c → i ≤ length l → entryOf l i .change .commit ≡ Failed
+  pub pass-change : (i : ℕ) → i ≡ suc c → i ≤ last l → entryOf l i .change .commit ≡ Failed
       → Committed l i (record { head = passed hd (num i); values = part .values }) ops
   pass-change i e b d =
       let g : hd .target .0 ≡ i = inv .entries i .failing d e in
@@ -286,11 +304,12 @@ module _ {l : List Transaction} {c : ℕ} {part : Part} {ops : List Op} (inv : C
         low = omega (arith, inv .low, inv .mid);
         mid = omega arith;
         high = b;
+        behind = λ x y. absurd (omega arith);
       }
 
   -- ---- job 3
-  pub aim-rollback : (n : Number) → Rests l hd → Committed l c (record { head = aimed hd n; values = part .values }) ops
-  aim-rollback n r =
+  pub aim-rollback : (n : Number) → n .0 < hd .revision .0 → Rests l hd → Committed l c (record { head = aimed hd n; values = part .values }) ops
+  aim-rollback n u r =
       record {
         entries = λ k. let x = inv .entries k in record {
           begun = x .begun;
@@ -313,6 +332,7 @@ module _ {l : List Transaction} {c : ℕ} {part : Part} {ops : List Op} (inv : C
         low = inv .low;
         mid = inv .mid;
         high = inv .high;
+        behind = λ x y. absurd (omega arith);
       }
 
   pub begin-rollback : (i : ℕ) → 1 ≤ i → hd .revision .0 ≡ i → hd .target .0 ≡ entryOf l i .index .0 → entryOf l i .rollback .commit ≡ Pending
@@ -366,6 +386,7 @@ module _ {l : List Transaction} {c : ℕ} {part : Part} {ops : List Op} (inv : C
         low = omega (arith, low);
         mid = asked i d;
         high = inv .high;
+        behind = λ x y. rw (eq-eqb i i refl);
       }
     where
       g : hd .target .0 ≡ entryOf l i .index .0
@@ -418,11 +439,11 @@ module _ {l : List Transaction} {c : ℕ} {part : Part} {ops : List Op} (inv : C
       })
 
   -- an entry with nothing begun is appended
-  pub append-committed : (t : Transaction) → commitView t .change ≡ Pending → commitView t .rollback ≡ None → Committed (l ++ (t ∷ [])) c part ops
+  pub append-committed : (t : Transaction) → commitView t .change ≡ Pending → commitView t .rollback ≡ None → Committed (grown l t) c part ops
   append-committed t d r =
-      let m = l ++ (t ∷ []) in
-      let b : newest ops ≤ length l = omega (arith, inv .newest, inv .high) in
-      let s : (k : ℕ) → k ≤ length l → Same (entryOf l k) (entryOf m k) = add-all (λ k u. k ≤ length l → Same (entryOf l k) u) l t (λ k x. same (entryOf l k)) (λ x. absurd (omega arith)) in
+      let m = grown l t in
+      let b : newest ops ≤ last l = omega (arith, inv .newest, inv .high) in
+      let s : (k : ℕ) → k ≤ last l → Same (entryOf l k) (entryOf m k) = add-all (λ k u. k ≤ last l → Same (entryOf l k) u) l t (λ k x. same (entryOf l k)) (λ x. absurd (omega arith)) in
       record {
         entries = add-all (λ k u. CommitEntry hd c (part .values) ops k (commitView u)) l t (inv .entries) (record {
           begun = λ y. not-going Pending refl (sym d ∙ y);
@@ -432,17 +453,18 @@ module _ {l : List Transaction} {c : ℕ} {part : Part} {ops : List Op} (inv : C
           failing = λ y. clash (ap isEnded (sym y ∙ d));
           returning = λ y. not-going None refl (sym r ∙ y);
           returned = λ y. not-going None refl (sym r ∙ y);
-          done = pushed-above ops (inv .rising) (suc (length l)) (omega arith) ∙ sym (ap (λ z. complete z c (suc (length l))) d);
-          undone = popped-above ops (inv .rising) (suc (length l)) (omega arith) ∙ sym (ap (λ z. complete z (hd .revision .0) (t .index .0)) r);
+          done = pushed-above ops (inv .rising) (suc (last l)) (omega arith) ∙ sym (ap (λ z. complete z c (suc (last l))) d);
+          undone = popped-above ops (inv .rising) (suc (last l)) (omega arith) ∙ sym (ap (λ z. complete z (hd .revision .0) (t .index .0)) r);
         });
         rising = inv .rising;
-        linked = linked-same l m (length l) s ops (inv .rising) b (inv .linked);
+        linked = linked-same l m (last l) s ops (inv .rising) b (inv .linked);
         count = inv .count;
         newest = inv .newest;
         tip = inv .tip;
-        holds = λ p x. inv .holds p x ∙ sym (val-same l m (length l) s (stack ops) (stack-falls ops (inv .rising)) (omega (arith, stack-low ops (inv .rising))) p);
+        holds = λ p x. inv .holds p x ∙ sym (val-same l m (last l) s (stack ops) (stack-falls ops (inv .rising)) (omega (arith, stack-low ops (inv .rising))) p);
         room = inv .room;
         low = inv .low;
         mid = inv .mid;
-        high = rw length-add (omega (arith, inv .high));
+        high = rw last-add (omega (arith, inv .high));
+        behind = inv .behind;
       }

@@ -11,20 +11,21 @@ use Rattle.kinds.specs.declared.Transaction.{Transaction}
 use Rattle.kinds.specs.declared.Event.{Event}
 use Rattle.kinds.specs.declared.Status.{Status}
 use Rattle.kinds.specs.declared.Status.the-variants.{None, Pending, InProgress, Complete, Aborted, Canceled, Failed}
-use Rattle.kinds.specs.Statuses.{codeOf}
+use Rattle.kinds.specs.Statuses.{codeOf, isFailed}
 use Rattle.machine.specs.State.{State, entryOf}
-use Rattle.machine.specs.Calls.{Call}
+use Rattle.machine.specs.Calls.{Pair, Call}
 use Rattle.machine.specs.Step.{step, run}
 use Rattle.machine.proofs.Cases.{and-left, and-right, or-cases}
-use Rattle.machine.proofs.ByCall.{by-call}
+use Rattle.machine.proofs.ByCall.{Calls}
 use Rattle.history.specs.Demand3.{tells, told, completed, live}
 use Rattle.history.specs.Ops.{Op, push, pop, none, opsIf, opsOf, pushed, popped, told-change, told-rollback, top, tail, stack, newest, Rising, stack-falls, mem, mem-low, pushed-low, popped-pushed, standing, top-standing, opAt, first, first-rises, Sub, sub-pushed, sub-popped, first-sub, held, clash, crash, or-late, rest-rises}
 use Rattle.history.specs.Invariant.{complete, isStarted, changeTouched, Paired}
 use Rattle.history.specs.Frames.{by-eq}
 use Rattle.history.proofs.Applies as applies
 use Rattle.history.proofs.Jobs as jobs
-use Rattle.history.proofs.Reached.{Reached, reached, live-committed, live-applied}
-use Rattle.history.specs.Marks.{isFailed, isCanceled}
+use Rattle.history.proofs.Reached.{Reached, reached, by-history, live-committed, live-applied}
+use Rattle.history.specs.Whole.{whole}
+use Rattle.history.specs.Marks.{isCanceled}
 use Rattle.history.proofs.Marked.{Marked, marked}
 use Rattle.history.specs.Guarantees.{Always, behind, Then}
 
@@ -72,10 +73,9 @@ record Tells (s : State) (e : Event) : Type 0 where
 quiet : (s : State) (e : Event) → ((k : ℕ) → tells Complete e 1 2 k ≡ false) → ((k : ℕ) → tells Complete e 2 2 k ≡ false) → Tells s e
 quiet s e f g = record { change = λ k x. clash (sym x ∙ f k); rollback = λ k x. clash (sym x ∙ g k) }
 
-step-tells : (s : State) (c : Call) → Tells s (step s c .reply .event)
-step-tells s c =
-    by-call s (λ r next. Tells s (r .event)) (λ e. quiet s _ (λ k. refl) (λ k. refl))
-    (λ w. record {
+each-tells : (s : State) {R : List Pair → Type 0} → Calls s (λ r next. Tells s (r .event)) R
+each-tells s =
+    record {
       refused = λ a n. quiet s _ (λ k. refl) (λ k. refl);
       append = λ ps e b. quiet s _ (λ k. refl) (λ k. refl);
       rollback = λ i p q e. quiet s _ (λ k. refl) (λ k. refl);
@@ -134,8 +134,10 @@ step-tells s c =
           rollback = λ k x. let z : i ≡ k = eqb-true i k x in (rw (← z) e, rw (← z) (m .1));
         };
       };
-    })
-    c
+    }
+
+step-tells : (cs : List Call) (c : Call) → Tells (whole cs) (step (run cs .state) c .reply .event)
+step-tells cs c = by-history cs (λ r next. Tells (whole cs) (r .event)) (λ a. quiet (whole cs) _ (λ k. refl) (λ k. refl)) c (each-tells (whole cs))
 
 -- ---- lists
 more-pushed : (x : Op) (xs : List Op) (k : ℕ) → pushed k xs ≡ true → pushed k (x ∷ xs) ≡ true
@@ -391,8 +393,8 @@ module _ (s : State) (es : List Event) (r : Reached s es) (marks : Marked (s .lo
 
 -- ---- the theorems
 pub always-in-order : (cs : List Call) → Always (run cs .events)
-always-in-order cs = always (run cs .state) (run cs .events) (reached cs)
+always-in-order cs = always (whole cs) (run cs .events) (reached cs)
 
 pub each-event : (cs : List Call) (c : Call) → Then (run cs .events) (step (run cs .state) c .reply .event)
 unfolding run
-each-event cs c = thens (run cs .state) (run cs .events) (reached cs) (marked cs) _ (step-tells (run cs .state) c) _ (reached (c ∷ cs))
+each-event cs c = thens (whole cs) (run cs .events) (reached cs) (marked cs) _ (step-tells cs c) (whole (c ∷ cs)) (reached (c ∷ cs))

@@ -2,11 +2,11 @@
 use Prim.Native.Nat.{ℕ, zero, suc, _+_, _≤_, _<_}
 use native.Mathlib.Omega.{arith}
 use mathlib.Core.List.{List, [], _∷_, _++_}
-use mathlib.Core.Bool.{Bool, true, false}
+use mathlib.Core.Bool.{Bool, true, false, not, _&&_, _||_}
 use mathlib.Core.Path.{_≡_, refl, sym, ap, _∙_, subst}
-use lib.Dec.{eqb, ltb}
-use lib.ListN.{length, getD, List·getD-eq-default}
-use borrow.Author.Tests.{eqb-true, eq-eqb, ltb-true, ltb-false}
+use lib.Dec.{eqb}
+use lib.ListN.{length}
+use borrow.Author.Tests.{eqb-true, eq-eqb}
 use Rattle.kinds.specs.declared.Transaction.{Transaction}
 use Rattle.kinds.specs.declared.Side.{Side}
 use Rattle.kinds.specs.declared.Head.{Head}
@@ -22,17 +22,18 @@ use Rattle.rules.specs.Sides.{begun, committed, invalid, applyAt}
 use Rattle.rules.specs.CommitChange.{beginning}
 use Rattle.rules.specs.ApplyRollback.{wasTried, isAborted}
 use Rattle.rules.specs.Outside.{mayRollBack, rolledBack}
-use Rattle.machine.specs.State.{State, Part, Net, blank, entryOf, putEntry, lineOpenFor}
+use Rattle.machine.specs.State.{State, Part, Net, Log, blank, entryOf, putEntry, grown, last, lineOpenFor}
 use Rattle.machine.specs.Stores.{withLog, withNet, withTargetValues}
 use Rattle.machine.specs.WellFormed.{allEntries}
 use Rattle.machine.specs.Settled.{sideSettled, entrySettled, settled}
-use Rattle.machine.specs.Calls.{Pair, appended, restOf, present}
+use Rattle.machine.specs.Calls.{Pair, appended, present}
+use Rattle.machine.specs.Rest.{restOf}
 use Rattle.machine.proofs.Next.{over, putting}
 use Rattle.machine.proofs.Cases.{and-left, and-right, or-cases}
-use Rattle.machine.proofs.Entries.{put-all, add-all, all-true}
+use Rattle.machine.proofs.Entries.{put-all, add-all, entry-cases, entries-true, and-both}
 use Rattle.history.specs.Values.{present-restores}
 use Rattle.history.specs.Ops.{Op, push, pop, popped-low, tail, newest, opAt-some, opAt-more, clash, crash}
-use Rattle.history.specs.Invariant.{isGoing, complete, Sides, Numbered, commitView, Committed, isEnded, isStarted, changeTouched, rollbackTouched, applyView, ChangeEntry, RollbackEntry, ApplyEntry, Still, Quiet, Applied, Wired, Invariant}
+use Rattle.history.specs.Invariant.{isGoing, complete, Sides, Numbered, commitView, Committed, isEnded, isStarted, changeTouched, rollbackTouched, applyView, ChangeEntry, RollbackEntry, ApplyEntry, Still, Quiet, Applied, Wired, Invariant, isNone, orderly}
 use Rattle.history.specs.Frames.{Same, not-going, complete-no, paired, going-complete}
 use Rattle.history.proofs.Commits as commits
 use Rattle.history.proofs.Applies as applies
@@ -52,20 +53,27 @@ entry-still a k t e =
 blank-still : (a : ℕ) → Still a (applyView blank)
 blank-still a = record { change = not-going None refl; rollback = not-going None refl }
 
-all-still : (l : List Transaction) (a : ℕ) → allEntries (entrySettled a) l ≡ true → Quiet l a
-all-still l a e zero = blank-still a
-all-still l a e (suc k) = go (ltb k (length l)) refl
-  where
-    go : (b : Bool) → ltb k (length l) ≡ b → Still a (applyView (getD l k blank))
-    go true x = entry-still a (1 + k) (getD l k blank) (all-true (entrySettled a) 1 l e k (ltb-true k (length l) x))
-    go false x = rw (List·getD-eq-default l blank (ltb-false k (length l) x)) (blank-still a)
+all-still : (l : Log) (a : ℕ) → allEntries (entrySettled a) l ≡ true → Quiet l a
+all-still l a e k = entry-cases (λ t. Still a (applyView t)) l k (blank-still a) (λ p q. entry-still a k (entryOf l k) (entries-true (entrySettled a) l e k p q))
+
+-- ---- orderly
+-- where the change is committed
+orderly-more : (c r a : Status) → orderly c r a ≡ true → orderly Complete r a ≡ true
+orderly-more c r a e =
+    let p = isComplete c || isNone r in
+    let q = not (isEnded r) in
+    and-both q (not (isEnded a)) (and-right p q (and-left (p && q) _ e)) (and-right (p && q) _ e)
+
+-- at another status of its apply
+orderly-apply : (c r a x : Status) → isEnded x ≡ false → orderly c r a ≡ true → orderly c r x ≡ true
+orderly-apply c r a x f e = let p = (isComplete c || isNone r) && not (isEnded r) in and-both p (not (isEnded x)) (and-left p _ e) (ap not f)
 
 module _ {s : State} {ops acts : List Op} {bad : List ℕ} (inv : Invariant s ops acts bad) where
   -- the apply side of it
   abbrev pub side : applies.ApplySide (s .log) (s .applied) ops acts bad
   side = record { rising = inv .committed .rising; linked = inv .committed .linked; numbered = inv .numbered; applied = inv .applied }
 
-  abbrev lg : List Transaction
+  abbrev lg : Log
   lg = s .log
 
   abbrev en : ℕ → Transaction
@@ -156,7 +164,7 @@ module _ {s : State} {ops acts : List Op} {bad : List ℕ} (inv : Invariant s op
       let o = inv .sides i in
       let x = inv .applied .entries i in
       puts i _
-      (record { change = paired (en i .change .commit) Pending _ _ e (o .change); rollback = o .rollback; unasked = o .unasked })
+      (record { change = paired (en i .change .commit) Pending _ _ e (o .change); rollback = o .rollback; unasked = o .unasked; orderly = sym (ap (λ c. orderly c (en i .rollback .commit) (en i .rollback .apply)) e) ∙ o .orderly })
       (inv .numbered i)
       (commits.begin-change (inv .committed) i _ n g e refl refl refl (λ p. present-restores (s .committed .values) (en i) (en i .values) p))
       (on-applied i _ (s .change .0) (inv .committed .newest) (λ b. absurd (omega arith)) (λ y. refl) (λ y. (refl, refl)) (λ y. (refl, refl))
@@ -175,7 +183,7 @@ module _ {s : State} {ops acts : List Op} {bad : List ℕ} (inv : Invariant s op
       let p : (en i .change .apply ≡ Pending) × (en i .change .ordinal .0 ≡ 0) = paired (en i .change .commit) InProgress _ _ e (o .change) in
       let f = inv .committed .entries i .closing e (omega arith) in
       puts i _
-      (record { change = opAt-some ops _ (push i) refl (f .last); rollback = o .rollback; unasked = o .unasked })
+      (record { change = opAt-some ops _ (push i) refl (f .last); rollback = o .rollback; unasked = o .unasked; orderly = orderly-more (en i .change .commit) (en i .rollback .commit) (en i .rollback .apply) (o .orderly) })
       (record { change = λ y z. rw (← z) (f .last); rollback = inv .numbered i .rollback })
       (commits.finish-change (inv .committed) i (s .committed .head .ordinal) e n)
       (on-applied i _ (newest ops) (omega arith) (λ b. record { count = refl; paths = refl; values = refl; kept = refl; index = refl }) (λ y. refl)
@@ -194,7 +202,7 @@ module _ {s : State} {ops acts : List Op} {bad : List ℕ} (inv : Invariant s op
       let x = inv .applied .entries i in
       let p : (en i .change .apply ≡ Pending) × (en i .change .ordinal .0 ≡ 0) = paired (en i .change .commit) InProgress _ _ e (o .change) in
       puts i _
-      (record { change = (refl, p .1); rollback = o .rollback; unasked = o .unasked })
+      (record { change = (refl, p .1); rollback = o .rollback; unasked = o .unasked; orderly = sym (ap (λ c. orderly c (en i .rollback .commit) (en i .rollback .apply)) e) ∙ o .orderly })
       (inv .numbered i)
       (commits.fail-change (inv .committed) i n e)
       (on-applied i _ (newest ops) (omega arith) (λ b. record { count = refl; paths = refl; values = refl; kept = refl; index = refl })
@@ -214,7 +222,7 @@ module _ {s : State} {ops acts : List Op} {bad : List ℕ} (inv : Invariant s op
       → Invariant (record { log = lg; change = s .change; committed = record { head = aimed (s .committed .head) (num i); values = s .committed .values }; applied = s .applied; net = s .net }) ops acts bad
   aim-change i n r = heads (s .change .0) _ (commits.aim-change (inv .committed) i n r) (s .change) refl
 
-  pub pass-change : (i : ℕ) → i ≡ suc (s .change .0) → i ≤ length lg → en i .change .commit ≡ Failed
+  pub pass-change : (i : ℕ) → i ≡ suc (s .change .0) → i ≤ last lg → en i .change .commit ≡ Failed
       → Invariant (record { log = lg; change = num i; committed = record { head = passed (s .committed .head) (num i); values = s .committed .values }; applied = s .applied; net = s .net }) ops acts bad
   pass-change i n b e = heads i _ (commits.pass-change (inv .committed) i n b e) (num i) refl
 
@@ -233,7 +241,7 @@ module _ {s : State} {ops acts : List Op} {bad : List ℕ} (inv : Invariant s op
         line = inv .line;
       }
 
-  pub land-change : (i : ℕ) (o : Ordinal) → en i .change .commit ≡ InProgress → i ≡ suc (s .change .0) → i ≤ length lg → o .0 ≡ suc (s .committed .head .ordinal .0)
+  pub land-change : (i : ℕ) (o : Ordinal) → en i .change .commit ≡ InProgress → i ≡ suc (s .change .0) → i ≤ last lg → o .0 ≡ suc (s .committed .head .ordinal .0)
       → Invariant
       (record {
         log = lg;
@@ -247,9 +255,10 @@ module _ {s : State} {ops acts : List Op} {bad : List ℕ} (inv : Invariant s op
       more (push i) (λ k x. let z : i ≡ k = cc in omega (arith, inv .committed .newest)) (num i) _ (commits.land-change (inv .committed) i o n b e q)
 
   -- ---- job 3
-  pub aim-rollback : (i : ℕ) → restOf s ≡ true
+  pub aim-rollback : (i : ℕ) → 1 ≤ i → s .committed .head .revision .0 ≡ i → restOf s ≡ true
       → Invariant (record { log = lg; change = s .change; committed = record { head = aimed (s .committed .head) (en i .index); values = s .committed .values }; applied = s .applied; net = s .net }) ops acts bad
-  aim-rollback i r = heads (s .change .0) _ (commits.aim-rollback (inv .committed) (en i .index) r) (s .change) refl
+  aim-rollback i p n r =
+      heads (s .change .0) _ (commits.aim-rollback (inv .committed) (en i .index) (omega (arith, commits.tip-back (inv .committed) i (sym n) p)) r) (s .change) refl
 
   pub begin-rollback : (i : ℕ) → 1 ≤ i → en i .rollback .commit ≡ Pending → s .committed .head .revision .0 ≡ i → s .committed .head .target .0 ≡ en i .index .0
       → Invariant (putting s i (withRollback (en i) (begun (en i .rollback)))) ops acts bad
@@ -258,7 +267,7 @@ module _ {s : State} {ops acts : List Op} {bad : List ℕ} (inv : Invariant s op
       let x = inv .applied .entries i in
       let y : en i .phase ≡ 1 → Pending ≡ None = λ z. sym e ∙ o .unasked z in
       puts i _
-      (record { change = o .change; rollback = paired (en i .rollback .commit) Pending _ _ e (o .rollback); unasked = λ z. let w : Pending ≡ None = y z in cc })
+      (record { change = o .change; rollback = paired (en i .rollback .commit) Pending _ _ e (o .rollback); unasked = λ z. let w : Pending ≡ None = y z in cc; orderly = sym (ap (λ r. orderly (en i .change .commit) r (en i .rollback .apply)) e) ∙ o .orderly })
       (inv .numbered i)
       (commits.begin-rollback (inv .committed) i p n g e)
       (on-applied i _ (newest ops) (omega arith) (λ b. record { count = refl; paths = refl; values = refl; kept = refl; index = refl }) (λ y. refl) (λ y. (refl, refl)) (λ y. (refl, refl))
@@ -286,7 +295,7 @@ module _ {s : State} {ops acts : List Op} {bad : List ℕ} (inv : Invariant s op
       let f = inv .committed .entries i .returned e (λ y. d (sym y)) in
       let y : en i .phase ≡ 1 → InProgress ≡ None = λ z. sym e ∙ o .unasked z in
       puts i _
-      (record { change = o .change; rollback = opAt-some ops _ (pop i) refl (f .last); unasked = λ z. not-going None refl (sym (y z)) })
+      (record { change = o .change; rollback = opAt-some ops _ (pop i) refl (f .last); unasked = λ z. not-going None refl (sym (y z)); orderly = sym (ap (λ r. orderly (en i .change .commit) r (en i .rollback .apply)) e) ∙ o .orderly })
       (record { change = inv .numbered i .change; rollback = λ y z. rw (← z) (f .last) })
       (commits.finish-rollback (inv .committed) i (s .committed .head .ordinal) e n)
       (on-applied i _ (newest ops) (omega arith) (λ b. record { count = refl; paths = refl; values = refl; kept = refl; index = refl }) (λ y. refl) (λ y. (refl, refl))
@@ -307,23 +316,23 @@ module _ {s : State} {ops acts : List Op} {bad : List ℕ} (inv : Invariant s op
       let u : en i .rollback .commit ≡ None = o .unasked (eqb-true (en i .phase) 1 (and-left (eqb (en i .phase) 1) _ e)) in
       let p : (en i .rollback .apply ≡ None) × (en i .rollback .ordinal .0 ≡ 0) = paired (en i .rollback .commit) None _ _ u (o .rollback) in
       puts i _
-      (record { change = o .change; rollback = (refl, p .1); unasked = λ z. absurd (omega arith) })
+      (record { change = o .change; rollback = (refl, p .1); unasked = λ z. absurd (omega arith); orderly = rw (and-right (eqb (en i .phase) 1) _ e) refl })
       (inv .numbered i)
       (commits.ask-committed (inv .committed) i u)
       (on-applied i _ (newest ops) (omega arith) (λ b. record { count = refl; paths = refl; values = refl; kept = refl; index = refl }) (λ y. refl) (λ y. (refl, refl)) (λ y. crash y)
       (record {
         change = x .change;
         rollback = idle-rollback i None Pending _ _ (p .0) refl refl refl refl refl;
-        tried = not-going Pending refl;
+        tried = λ y. crash y;
         spared = λ y. let z : _≡_ {A = ℕ} 0 1 = cc in absurd (omega arith);
       }))
 
   -- ---- append
-  pub append : (ps : List Pair) → Invariant (withLog s (lg ++ (appended ps ∷ []))) ops acts bad
+  pub append : (ps : List Pair) → Invariant (withLog s (grown lg (appended ps))) ops acts bad
   append ps =
-      let b : newest ops ≤ length lg = omega (arith, inv .committed .newest, inv .committed .high) in
+      let b : newest ops ≤ last lg = omega (arith, inv .committed .newest, inv .committed .high) in
       record {
-        sides = add-all (λ k u. Sides u) lg (appended ps) (inv .sides) (record { change = (refl, refl); rollback = (refl, refl); unasked = λ x. refl });
+        sides = add-all (λ k u. Sides u) lg (appended ps) (inv .sides) (record { change = (refl, refl); rollback = (refl, refl); unasked = λ x. refl; orderly = refl });
         numbered = add-all (λ k u. Numbered ops k (u .change .ordinal .0) (u .rollback .ordinal .0)) lg (appended ps) (inv .numbered)
             (record { change = λ o x. absurd (omega arith); rollback = λ o x. absurd (omega arith) });
         committed = commits.append-committed (inv .committed) (appended ps) refl refl;
@@ -347,20 +356,22 @@ module _ {s : State} {ops acts : List Op} {bad : List ℕ} (inv : Invariant s op
         change = paired Complete (en i .change .commit) x (en i .change .ordinal .0) (sym e) (paired (en i .change .commit) Complete (en i .change .apply) (en i .change .ordinal .0) e (o .change));
         rollback = o .rollback;
         unasked = o .unasked;
+        orderly = o .orderly;
       })
       (inv .numbered i)
       (unseen i _ refl (record { count = refl; paths = refl; values = refl; kept = refl; index = refl })) k
 
-  set-rollback : (i : ℕ) (x : Status) → en i .rollback .commit ≡ Complete
+  set-rollback : (i : ℕ) (x : Status) → isEnded x ≡ false → en i .rollback .commit ≡ Complete
       → Applied (putEntry lg i (withRollback (en i) (applyAt (en i .rollback) x))) (s .applied) ops acts bad
       → Invariant (putting s i (withRollback (en i) (applyAt (en i .rollback) x))) ops acts bad
-  set-rollback i x e k =
+  set-rollback i x f e k =
       let o = inv .sides i in
       puts i _
       (record {
         change = o .change;
         rollback = paired Complete (en i .rollback .commit) x (en i .rollback .ordinal .0) (sym e) (paired (en i .rollback .commit) Complete (en i .rollback .apply) (en i .rollback .ordinal .0) e (o .rollback));
         unasked = o .unasked;
+        orderly = orderly-apply (en i .change .commit) (en i .rollback .commit) (en i .rollback .apply) x f (o .orderly);
       })
       (inv .numbered i)
       (unseen i _ refl (record { count = refl; paths = refl; values = refl; kept = refl; index = refl })) k
@@ -430,7 +441,7 @@ module _ {s : State} {ops acts : List Op} {bad : List ℕ} (inv : Invariant s op
   module _ (i : ℕ) (m : (en i .rollback .commit ≡ Complete) × (en i .rollback .ordinal .0 ≡ suc at)) where
     pub begin-return : en i .rollback .apply ≡ Pending → wasTried (en i .change .apply) ≡ true → s .applied .head .target .0 ≡ en i .index .0
         → Invariant (putting s i (withRollback (en i) (applyAt (en i .rollback) InProgress))) ops acts bad
-    begin-return e t g = set-rollback i InProgress (m .0) (applies.begin-rollback side i e (m .1) t g)
+    begin-return e t g = set-rollback i InProgress refl (m .0) (applies.begin-rollback side i e (m .1) t g)
 
     pub aim-return : settled s ≡ true → Headed (aimed (s .applied .head) (en i .index)) acts bad
     aim-return q =
@@ -439,7 +450,7 @@ module _ {s : State} {ops acts : List Op} {bad : List ℕ} (inv : Invariant s op
 
     pub cancel-return : en i .rollback .apply ≡ Pending → en i .change .apply ≡ Aborted → settled s ≡ true
         → Invariant (putting s i (withRollback (en i) (applyAt (en i .rollback) Canceled))) ops acts bad
-    cancel-return e t q = set-rollback i Canceled (m .0) (applies.cancel-rollback side i e (m .1) t (settled-quiet q))
+    cancel-return e t q = set-rollback i Canceled refl (m .0) (applies.cancel-rollback side i e (m .1) t (settled-quiet q))
 
     pub close-return : en i .rollback .apply ≡ Canceled → Headed (closed (s .applied .head) (num i) (en i .index) (en i .rollback .ordinal)) acts (tail bad)
     close-return e =
@@ -455,7 +466,7 @@ module _ {s : State} {ops acts : List Op} {bad : List ℕ} (inv : Invariant s op
 
   pub finish-return : (i : ℕ) → en i .rollback .commit ≡ Complete → en i .rollback .apply ≡ InProgress → at ≡ en i .rollback .ordinal .0
       → Invariant (putting s i (withRollback (en i) (applyAt (en i .rollback) Complete))) ops acts bad
-  finish-return i m e o = set-rollback i Complete m (applies.finish-rollback side i e o)
+  finish-return i m e o = set-rollback i Complete refl m (applies.finish-rollback side i e o)
 
   -- ---- the nodes' side
   pub wires : (w : Net) → Wired w (s .applied .values) → Invariant (withNet s w) ops acts bad

@@ -1,11 +1,11 @@
 -- Every call keeps the marks (Marks), refused and cut ones too; so they hold after any calls from fresh. Assumes nothing.
-use Prim.Native.Nat.{ℕ, suc, _≤_}
+use Prim.Native.Nat.{ℕ, suc, _≤_, _<_}
 use native.Mathlib.Omega.{arith}
 use mathlib.Core.List.{List, [], _∷_, _++_}
 use mathlib.Core.Bool.{Bool, true, false, _||_, or-true}
 use mathlib.Core.Path.{_≡_, refl, sym, ap, _∙_, subst}
 use lib.Dec.{eqb}
-use lib.ListN.{length, getD, List·getD-eq-default}
+use lib.ListN.{length, getD}
 use borrow.Author.Tests.{eqb-true, eq-eqb}
 use Rattle.kinds.specs.declared.Transaction.{Transaction}
 use Rattle.kinds.specs.declared.Event.{Event}
@@ -29,24 +29,27 @@ use Rattle.rules.specs.CommitChange as job1
 use Rattle.rules.specs.CommitRollback as job3
 use Rattle.rules.specs.ApplyChange as job2
 use Rattle.rules.specs.ApplyRollback as job4
-use Rattle.machine.specs.State.{State, blank, entryOf, putEntry, lineOpenFor}
-use Rattle.machine.specs.Calls.{Call, Pair, appended, restOf, present}
+use Rattle.kinds.specs.Statuses.{isFailed, isPending}
+use Rattle.machine.specs.State.{State, Log, blank, entryOf, putEntry, grown, last, lineOpenFor}
+use Rattle.machine.specs.Calls.{Call, Pair, appended, present}
+use Rattle.machine.specs.Rest.{restOf}
 use Rattle.machine.specs.Settled.{settled}
-use Rattle.machine.specs.Step.{step, run}
+use Rattle.machine.specs.Step.{run}
 use Rattle.machine.proofs.Next.{putting}
 use Rattle.machine.proofs.Cases.{and-left}
-use Rattle.machine.proofs.Entries.{put-all, add-all, none-all, entry-put, length-put}
-use Rattle.machine.proofs.ByCall.{Does, Calls, by-call}
+use Rattle.machine.proofs.Entries.{put-all, add-all, entry-past, none-all, entry-put, last-put}
+use Rattle.machine.proofs.ByCall.{Does, Calls}
 use Rattle.history.specs.Demand3.{tells, told}
 use Rattle.history.specs.Ops.{Op, push, pop, opsOf, popped, tail, first, first-more, clash, crash}
 use Rattle.history.specs.Invariant.{Invariant}
 use Rattle.history.specs.Frames.{by-eq, paired}
 use Rattle.history.proofs.Applies as applies
 use Rattle.history.proofs.Jobs as jobs
-use Rattle.history.proofs.Reached.{reached}
-use Rattle.history.specs.Marks.{isFailed, isCanceled, isPending, neverBegun, Mark, other-stage, other-number, put-marks, alike}
+use Rattle.history.specs.Whole.{whole}
+use Rattle.history.proofs.Reached.{reached, by-history}
+use Rattle.history.specs.Marks.{isCanceled, neverBegun, Mark, other-stage, other-number, put-marks, alike}
 
-abbrev pub Marked : List Transaction → Head → List Event → Type 0
+abbrev pub Marked : Log → Head → List Event → Type 0
 Marked l h es = (k : ℕ) → Mark (h .ordinal .0) (h .target .0) (first (opsOf Complete 1 es) (h .ordinal .0)) es k (entryOf l k)
 
 not-told : (b : Bool) → (b ≡ true → ⊥) → b ≡ false
@@ -75,7 +78,7 @@ module _ (s : State) (es : List Event) (bad : List ℕ) (inv : Invariant s (opsO
   put i t m = put-all (λ k u. Mark at tg (first ops at) es k u) (s .log) i t marks m
 
   -- and with one of its number, which completes no commit
-  put-told : (e : Event) (i : ℕ) (t : Transaction) → 1 ≤ i → i ≤ length (s .log) → e .number .0 ≡ i → opsOf Complete 1 (e ∷ es) ≡ ops → Mark at tg (first ops at) (e ∷ es) i t
+  put-told : (e : Event) (i : ℕ) (t : Transaction) → s .log .folded .0 < i → i ≤ last (s .log) → e .number .0 ≡ i → opsOf Complete 1 (e ∷ es) ≡ ops → Mark at tg (first ops at) (e ∷ es) i t
       → Marked (putEntry (s .log) i t) (s .applied .head) (e ∷ es)
   put-told e i t p q n w m = rw w (put-marks at tg (first ops at) es e (s .log) i t p q n marks m)
 
@@ -88,7 +91,7 @@ module _ (s : State) (es : List Event) (bad : List ℕ) (inv : Invariant s (opsO
       let p : (en i .change .apply ≡ Pending) × (en i .change .ordinal .0 ≡ 0) = paired (en i .change .commit) InProgress _ _ e (inv .sides i .change) in
       put i _ (alike at tg (first ops at) es i (en i) _ (sym (ap isFailed e)) refl refl (λ x y. absurd (omega (arith, marks i .aimed x y .0))) (marks i))
 
-  pub reject1 : (i : ℕ) → 1 ≤ i → i ≤ length (s .log) → en i .change .commit ≡ InProgress
+  pub reject1 : (i : ℕ) → s .log .folded .0 < i → i ≤ last (s .log) → en i .change .commit ≡ InProgress
       → Marked (putEntry (s .log) i (withChange (en i) (invalid (en i .change)))) (s .applied .head) (event 1 1 (num i) Failed ∷ es)
   unfolding told opsOf
   reject1 i b q e =
@@ -129,10 +132,10 @@ module _ (s : State) (es : List Event) (bad : List ℕ) (inv : Invariant s (opsO
         gone = λ x. sym (ap (λ b. told Complete es 2 2 i || isCanceled b) (p .0)) ∙ m .gone x;
       })
 
-  pub append : (ps : List Pair) → Marked (s .log ++ (appended ps ∷ [])) (s .applied .head) es
+  pub append : (ps : List Pair) → Marked (grown (s .log) (appended ps)) (s .applied .head) es
   append ps =
-      let n = suc (length (s .log)) in
-      let o : getD (s .log) (length (s .log)) blank ≡ blank = List·getD-eq-default (s .log) blank (omega arith) in
+      let n = suc (last (s .log)) in
+      let o : entryOf (s .log) n ≡ blank = entry-past (s .log) in
       let m : Mark at tg (first ops at) es n blank = subst (Mark at tg (first ops at) es n) o (marks n) in
       add-all (λ k u. Mark at tg (first ops at) es k u) (s .log) (appended ps) marks (record {
         rejected = m .rejected;
@@ -147,7 +150,7 @@ module _ (s : State) (es : List Event) (bad : List ℕ) (inv : Invariant s (opsO
       })
 
   -- ---- job 2: change i is next
-  module _ (i : ℕ) (p : 1 ≤ i) (q : i ≤ length (s .log)) (o : en i .change .ordinal .0 ≡ suc at) where
+  module _ (i : ℕ) (p : s .log .folded .0 < i) (q : i ≤ last (s .log)) (o : en i .change .ordinal .0 ≡ suc at) where
     same-change : (k : ℕ) → en k .change .ordinal .0 ≡ suc at → k ≡ i
     same-change = applies.same-change (jobs.side inv) i o
 
@@ -270,7 +273,7 @@ module _ (s : State) (es : List Event) (bad : List ℕ) (inv : Invariant s (opsO
       })
 
   -- ---- job 4: the rollback of i is next
-  module _ (i : ℕ) (p : 1 ≤ i) (q : i ≤ length (s .log)) (o : en i .rollback .ordinal .0 ≡ suc at) where
+  module _ (i : ℕ) (p : s .log .folded .0 < i) (q : i ≤ last (s .log)) (o : en i .rollback .ordinal .0 ≡ suc at) where
     no-change : {A : Type 0} (k : ℕ) → en k .change .ordinal .0 ≡ suc at → A
     no-change = applies.no-change (jobs.side inv) i o
 
@@ -399,7 +402,7 @@ module _ (s : State) (es : List Event) (bad : List ℕ) (inv : Invariant s (opsO
       })
 
 -- a change's apply that completes tells none of these
-took : (l : List Transaction) (h : Head) (es : List Event) (i : ℕ) → Marked l h es → Marked l h (event 1 2 (num i) Complete ∷ es)
+took : (l : Log) (h : Head) (es : List Event) (i : ℕ) → Marked l h es → Marked l h (event 1 2 (num i) Complete ∷ es)
 unfolding told opsOf
 took l h es i marks k =
     let m = marks k in
@@ -431,11 +434,12 @@ module _ (s : State) (es : List Event) (bad : List ℕ) (inv : Invariant s (opsO
   idle = rests noEvent refl (λ k. refl) refl
 
   -- what is shown of the events without an event more
-  hush : (l : List Transaction) (h : Head) → Marked l h es → Marked l h (noEvent ∷ es)
+  hush : {en : ℕ → Transaction} (h : Head) → ((k : ℕ) → Mark (h .ordinal .0) (h .target .0) (first (opsOf Complete 1 es) (h .ordinal .0)) es k (en k))
+      → (k : ℕ) → Mark (h .ordinal .0) (h .target .0) (first (opsOf Complete 1 (noEvent ∷ es)) (h .ordinal .0)) (noEvent ∷ es) k (en k)
   unfolding opsOf
-  hush l h m k = other-stage (h .ordinal .0) (h .target .0) (first (opsOf Complete 1 es) (h .ordinal .0)) es noEvent refl (λ k. refl) k (entryOf l k) (m k)
+  hush {en} h m k = other-stage (h .ordinal .0) (h .target .0) (first (opsOf Complete 1 es) (h .ordinal .0)) es noEvent refl (λ k. refl) k (en k) (m k)
 
-  module _ (i : ℕ) (p : 1 ≤ i) (q : i ≤ length (s .log)) where
+  module _ (i : ℕ) (p : s .log .folded .0 < i) (q : i ≤ last (s .log)) where
     abbrev this : Transaction
     this = entryOf (s .log) i
 
@@ -465,18 +469,18 @@ module _ (s : State) (es : List Event) (bad : List ℕ) (inv : Invariant s (opsO
     rejects1 true e = reject1 s es bad inv marks i p q e
     rejects1 false e = reject1 s es bad inv marks i p q e
 
-    aims3 : (cut : Bool) → restOf s ≡ true → Does s Keeps true i cut (job3.plans rollback.Aim this (s .committed .head) (num i) (ord 0))
+    aims3 : (cut : Bool) → s .committed .head .revision .0 ≡ i → restOf s ≡ true → Does s Keeps true i cut (job3.plans rollback.Aim this (s .committed .head) (num i) (ord 0))
     unfolding opsOf
-    aims3 true r = rests (event 2 1 (num i) InProgress) refl (λ k. refl) refl
-    aims3 false r =
-        begin3 _ (event 2 1 (num i) InProgress ∷ es) bad (jobs.aim-rollback inv i r) (rests (event 2 1 (num i) InProgress) refl (λ k. refl) refl) i
+    aims3 true n r = rests (event 2 1 (num i) InProgress) refl (λ k. refl) refl
+    aims3 false n r =
+        begin3 _ (event 2 1 (num i) InProgress ∷ es) bad (jobs.aim-rollback inv i (omega arith) n r) (rests (event 2 1 (num i) InProgress) refl (λ k. refl) refl) i
 
     lands3 : (cut : Bool) → this .rollback .commit ≡ InProgress → s .committed .head .revision .0 ≡ i → (o : Ordinal) → o .0 ≡ suc (s .committed .head .ordinal .0)
         → Does s Keeps true i cut (job3.plans rollback.Land this (s .committed .head) (num i) o)
     unfolding opsOf
     lands3 true e n o x = completes (event 2 1 (num i) Complete) (pop i) refl (λ k. refl) refl
     lands3 false e n o x =
-        finish3 _ (event 2 1 (num i) Complete ∷ es) bad (jobs.land-rollback inv i o p e n x)
+        finish3 _ (event 2 1 (num i) Complete ∷ es) bad (jobs.land-rollback inv i o (omega arith) e n x)
         (completes (event 2 1 (num i) Complete) (pop i) refl (λ k. refl) refl) i o
 
     -- ---- jobs 2 and 4
@@ -503,7 +507,7 @@ module _ (s : State) (es : List Event) (bad : List ℕ) (inv : Invariant s (opsO
     aborts2 false m e x g =
         let w = stored (withChange this (applyAt (this .change) Aborted)) in
         pass2 (putting s i (withChange this (applyAt (this .change) Aborted))) (event 1 2 (num i) Aborted ∷ es) bad (jobs.abort-apply inv i m e x)
-        (abort2 s es bad inv marks i p q (m .1) e g) i p (rw length-put q) (rw w (m .1)) (closed (s .applied .head) (num i) (num i) (this .change .ordinal)) (m .1) (rw w refl)
+        (abort2 s es bad inv marks i p q (m .1) e g) i p (rw last-put q) (rw w (m .1)) (closed (s .applied .head) (num i) (num i) (this .change .ordinal)) (m .1) (rw w refl)
 
     fails2 : (cut : Bool) → NextChange → this .change .apply ≡ InProgress → Does s Keeps false i cut (job2.plans apply.Fail this (s .applied .head) (num i))
     unfolding opsOf
@@ -511,7 +515,7 @@ module _ (s : State) (es : List Event) (bad : List ℕ) (inv : Invariant s (opsO
     fails2 false m e =
         let w = stored (withChange this (applyAt (this .change) Failed)) in
         pass2 (putting s i (withChange this (applyAt (this .change) Failed))) (event 1 2 (num i) Failed ∷ es) bad (jobs.fail-apply inv i m e)
-        (fail2 s es bad inv marks i p q (m .1) e) i p (rw length-put q) (rw w (m .1)) (closed (s .applied .head) (num i) (num i) (this .change .ordinal)) (m .1) (rw w refl)
+        (fail2 s es bad inv marks i p q (m .1) e) i p (rw last-put q) (rw w (m .1)) (closed (s .applied .head) (num i) (num i) (this .change .ordinal)) (m .1) (rw w refl)
 
     pushes2 : (n : ℕ) (cut : Bool) → NextChange → this .change .apply ≡ InProgress → lineOpenFor (s .net) n ≡ true
         → Does s Keeps false i cut (job2.plans apply.Push this (s .applied .head) (num i))
@@ -535,7 +539,7 @@ module _ (s : State) (es : List Event) (bad : List ℕ) (inv : Invariant s (opsO
     cancels4 false m e a x =
         let w = stored (withRollback this (applyAt (this .rollback) Canceled)) in
         close4 (putting s i (withRollback this (applyAt (this .rollback) Canceled))) (event 2 2 (num i) Canceled ∷ es) bad (jobs.cancel-return inv i m e a x)
-        (cancel4 s es bad inv marks i p q (m .1) e a) i p (rw length-put q) (rw w (m .1)) (closed (s .applied .head) (num i) (this .index) (this .rollback .ordinal)) (m .1) (rw w refl)
+        (cancel4 s es bad inv marks i p q (m .1) e a) i p (rw last-put q) (rw w (m .1)) (closed (s .applied .head) (num i) (this .index) (this .rollback .ordinal)) (m .1) (rw w refl)
 
     pushes4 : (n : ℕ) (cut : Bool) → NextRollback → this .rollback .apply ≡ InProgress → lineOpenFor (s .net) n ≡ true
         → Does s Keeps false i cut (job4.plans return.Push this (s .applied .head) (num i))
@@ -544,13 +548,13 @@ module _ (s : State) (es : List Event) (bad : List ℕ) (inv : Invariant s (opsO
     pushes4 n false m e l =
         finish4 _ (event 2 2 (num i) Complete ∷ es) (tail bad) (jobs.push-return inv i m n e l) (push4 s es bad inv marks i p q (m .1) (landed (s .applied .head) (num i) (this .index) (this .rollback .ordinal)) (m .1)) i e
 
-  calls : Calls s Keeps
+  calls : {R : List Pair → Type 0} → Calls s Keeps R
   unfolding opsOf
   calls =
       record {
         refused = λ a n. idle;
         append = λ ps e b k. other-stage (s .applied .head .ordinal .0) (s .applied .head .target .0) _ es _ refl (λ j. refl) k _ (append s es bad inv marks ps k);
-        rollback = λ i p q e. hush _ (s .applied .head) (ask s es bad inv marks i e);
+        rollback = λ i p q e. hush (s .applied .head) (ask s es bad inv marks i e);
         start = λ e. idle;
         stop = idle;
         connect = λ n p e. idle;
@@ -562,52 +566,49 @@ module _ (s : State) (es : List Event) (bad : List ℕ) (inv : Invariant s (opsO
         job1 = λ i p q cut. record {
           wait = idle;
           full = λ a b d. idle;
-          begin = λ e n g. hush _ (s .applied .head) (begin1 s es bad inv marks i e);
+          begin = λ e n g. hush (s .applied .head) (begin1 s es bad inv marks i e);
           aim = aims1 i p q cut;
           land = λ e n b o x. lands1 i p q cut e n o x;
           reject = λ e n. rejects1 i p q cut e;
-          finish = λ e n. hush _ (s .applied .head) (finish1 s es bad inv marks i _ e);
+          finish = λ e n. hush (s .applied .head) (finish1 s es bad inv marks i _ e);
           close = λ e n. idle;
         };
         job2 = λ n i p q cut. record {
           wait = idle;
           noLine = idle;
-          begin = λ m e g. hush _ (s .applied .head) (begin2 s es bad inv marks i p q (m .1) e);
+          begin = λ m e g. hush (s .applied .head) (begin2 s es bad inv marks i p q (m .1) e);
           aim = aims2 i p q cut;
           abort = aborts2 i p q cut;
-          closeAborted = λ m e. hush _ (closed (s .applied .head) (num i) (num i) (entryOf (s .log) i .change .ordinal)) (pass2 s es bad inv marks i p q (m .1) (closed (s .applied .head) (num i) (num i) (entryOf (s .log) i .change .ordinal)) (m .1) (ap isPending e));
-          closeFailed = λ m e. hush _ (closed (s .applied .head) (num i) (num i) (entryOf (s .log) i .change .ordinal)) (pass2 s es bad inv marks i p q (m .1) (closed (s .applied .head) (num i) (num i) (entryOf (s .log) i .change .ordinal)) (m .1) (ap isPending e));
-          finish = λ m e o. hush _ (s .applied .head) (finish2 s es bad inv marks i e);
+          closeAborted = λ m e. hush (closed (s .applied .head) (num i) (num i) (entryOf (s .log) i .change .ordinal)) (pass2 s es bad inv marks i p q (m .1) (closed (s .applied .head) (num i) (num i) (entryOf (s .log) i .change .ordinal)) (m .1) (ap isPending e));
+          closeFailed = λ m e. hush (closed (s .applied .head) (num i) (num i) (entryOf (s .log) i .change .ordinal)) (pass2 s es bad inv marks i p q (m .1) (closed (s .applied .head) (num i) (num i) (entryOf (s .log) i .change .ordinal)) (m .1) (ap isPending e));
+          finish = λ m e o. hush (s .applied .head) (finish2 s es bad inv marks i e);
           fail = fails2 i p q cut;
           push = pushes2 i p q n cut;
         };
         job3 = λ i p q cut. record {
           wait = idle;
           full = λ a b d. idle;
-          begin = λ e n g. hush _ (s .applied .head) (begin3 s es bad inv marks i);
-          aim = λ e n r. aims3 i p q cut r;
+          begin = λ e n g. hush (s .applied .head) (begin3 s es bad inv marks i);
+          aim = λ e n r. aims3 i p q cut n r;
           land = λ e n b o x. lands3 i p q cut e n o x;
-          finish = λ e d n. hush _ (s .applied .head) (finish3 s es bad inv marks i _);
+          finish = λ e d n. hush (s .applied .head) (finish3 s es bad inv marks i _);
         };
         job4 = λ n i p q cut. record {
           wait = idle;
           noLine = idle;
           rejected = idle;
-          begin = λ m e t g. hush _ (s .applied .head) (begin4 s es bad inv marks i p q (m .1) e);
+          begin = λ m e t g. hush (s .applied .head) (begin4 s es bad inv marks i p q (m .1) e);
           aim = aims4 i p q cut;
           cancel = cancels4 i p q cut;
-          close = λ m e. hush _ (closed (s .applied .head) (num i) (entryOf (s .log) i .index) (entryOf (s .log) i .rollback .ordinal)) (close4 s es bad inv marks i p q (m .1) (closed (s .applied .head) (num i) (entryOf (s .log) i .index) (entryOf (s .log) i .rollback .ordinal)) (m .1) e);
-          finish = λ m e o. hush _ (s .applied .head) (finish4 s es bad inv marks i e);
+          close = λ m e. hush (closed (s .applied .head) (num i) (entryOf (s .log) i .index) (entryOf (s .log) i .rollback .ordinal)) (close4 s es bad inv marks i p q (m .1) (closed (s .applied .head) (num i) (entryOf (s .log) i .index) (entryOf (s .log) i .rollback .ordinal)) (m .1) e);
+          finish = λ m e o. hush (s .applied .head) (finish4 s es bad inv marks i e);
           push = pushes4 i p q n cut;
         };
       }
 
-  step-marks : (c : Call) → Marked (step s c .next .log) (step s c .next .applied .head) (step s c .reply .event ∷ es)
-  step-marks c = by-call s Keeps (λ e. idle) (λ w. calls) c
-
 -- after any calls from fresh
-pub marked : (cs : List Call) → Marked (run cs .state .log) (run cs .state .applied .head) (run cs .events)
-unfolding run opsOf told first popped
+pub marked : (cs : List Call) → Marked (whole cs .log) (whole cs .applied .head) (run cs .events)
+unfolding run whole opsOf told first popped
 marked [] =
     none-all (λ k u. Mark 0 0 [] [] k u) (λ k. record {
       rejected = refl;
@@ -620,4 +621,7 @@ marked [] =
       tried = λ x. crash x;
       gone = λ x. crash x;
     })
-marked (c ∷ cs) = let r = reached cs in step-marks (run cs .state) (run cs .events) (r .bad) (r .inv) (marked cs) c
+marked (c ∷ cs) =
+    let r = reached cs in
+    by-history cs (Keeps (whole cs) (run cs .events) (r .bad) (r .inv) (marked cs)) (λ a. idle (whole cs) (run cs .events) (r .bad) (r .inv) (marked cs)) c
+    (calls (whole cs) (run cs .events) (r .bad) (r .inv) (marked cs))

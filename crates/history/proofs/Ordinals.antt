@@ -1,25 +1,31 @@
--- In a state reached from fresh no call is refused with 1, and no job with 9: an ordinal is at most twice the log.
+-- In a state reached from fresh no call is refused with 1, and no job with 9: an ordinal is at most twice the highest
+-- number given.
 -- Assumes nothing.
 use Prim.Native.Nat.{ℕ, zero, suc, _+_, _≤_}
 use native.Mathlib.Omega.{arith}
 use mathlib.Core.List.{List, [], _∷_}
 use mathlib.Core.Bool.{Bool, true, false, cond}
-use mathlib.Core.Path.{_≡_, refl, sym, ap, _∙_}
+use mathlib.Core.Path.{_≡_, refl, sym, ap, _∙_, subst}
 use lib.Dec.{eqb, leb}
 use lib.ListN.{length}
-use borrow.Author.Tests.{leb-true}
+use borrow.Author.Tests.{leb-true, ltb-true}
 use Rattle.kinds.specs.declared.Event.{Event}
 use Rattle.kinds.specs.declared.Status.the-variants.{Complete}
 use Rattle.rules.specs.declared.Plan.{Plan}
-use Rattle.machine.specs.State.{State, entryOf, inLog, isMaster, lineOpenFor}
+use Rattle.machine.specs.State.{State, entryOf, last, inLog, isKept, isMaster, lineOpenFor}
 use Rattle.machine.specs.WellFormed.{wellFormed}
 use Rattle.machine.specs.Settled.{settled}
-use Rattle.machine.specs.Calls.{Call, Outcome, work, unless, job1, job2, job3, job4, planOf, restOf, present, workOk, decide}
+use Rattle.machine.specs.Calls.{Call, Outcome, work, unless, job1, job2, job3, job4, planOf, present, workOk, decide}
+use Rattle.machine.specs.Rest.{restOf}
 use Rattle.machine.specs.Step.{outcome, step, run}
 use Rattle.machine.proofs.Cases.{and-left, and-right, commit-change, commit-rollback, apply-change, apply-rollback}
 use Rattle.machine.proofs.Kept.{formed, reached-well-formed, refusal-one}
 use Rattle.history.specs.Ops.{Op, push, pop, none, opsOf, stack, newest, Rising, on-top, opAt-in, clash}
-use Rattle.history.proofs.Reached.{Reached, reached}
+use Rattle.machine.proofs.Entries.{entry-cases}
+use Rattle.history.specs.Whole.{whole, shown}
+use Rattle.history.proofs.Follow.{entry-seen, last-seen, plan-seen}
+use Rattle.history.proofs.Fronts.{rest-seen, settled-seen}
+use Rattle.history.proofs.Reached.{Reached, Folded, folded}
 
 -- ---- at most two for each change: its commit, and its rollback's, which takes it off the stack
 few : (o : List Op) → Rising o → length o + length (stack o) ≤ newest o + newest o
@@ -30,7 +36,7 @@ few (pop k ∷ o) h = omega (arith, few o (h .1), ap length (h .0))
 few (none ∷ o) h = absurd h
 
 pub record AtMostTwice (s : State) : Type 0 where
-  pub committed : s .committed .head .ordinal .0 ≤ length (s .log) + length (s .log)
+  pub committed : s .committed .head .ordinal .0 ≤ last (s .log) + last (s .log)
   pub applied : s .applied .head .ordinal .0 ≤ s .committed .head .ordinal .0
   pub changes : (k : ℕ) → entryOf (s .log) k .change .ordinal .0 ≤ s .committed .head .ordinal .0
   pub rollbacks : (k : ℕ) → entryOf (s .log) k .rollback .ordinal .0 ≤ s .committed .head .ordinal .0
@@ -64,11 +70,11 @@ module _ (s : State) (es : List Event) (r : Reached s es) where
   abbrev Not9 : Plan → Type 0
   Not9 p = p .answer ≡ 9 → ⊥
 
-  module _ (size : length (s .log) ≤ 128) (i : ℕ) (p : 1 ≤ i) (q : i ≤ length (s .log)) where
-    room-change : i ≡ suc (s .change .0) → 256 ≤ s .committed .head .ordinal .0 → ⊥
+  module _ (size : last (s .log) ≤ 65535) (i : ℕ) (p : 1 ≤ i) (q : i ≤ last (s .log)) where
+    room-change : i ≡ suc (s .change .0) → 131070 ≤ s .committed .head .ordinal .0 → ⊥
     room-change n b = omega (arith, bound)
 
-    room-rollback : s .committed .head .revision .0 ≡ i → 256 ≤ s .committed .head .ordinal .0 → ⊥
+    room-rollback : s .committed .head .revision .0 ≡ i → 131070 ≤ s .committed .head .ordinal .0 → ⊥
     room-rollback n b =
         let c = r .inv .committed in
         omega (arith, bound, c .high, ap length (on-top (stack ops) i (sym (c .tip) ∙ n) p))
@@ -124,6 +130,11 @@ module _ (s : State) (es : List Event) (r : Reached s es) where
           push = λ x y z e. omega arith;
         })
 
+plan-not-nine : (s : State) (es : List Event) (r : Reached s es) → last (s .log) ≤ 65535 → (i : ℕ) → 1 ≤ i → i ≤ last (s .log) → (n j : ℕ) (ok : Bool)
+    → planOf s n j i ok .answer ≡ 9 → ⊥
+unfolding planOf
+plan-not-nine s es r size i p q n j ok = not-nine s es r size i p q n (eqb j 1) (eqb j 2) (eqb j 3) ok
+
 unless-not : (a x : ℕ) (b : Bool) (o : Outcome) → (a ≡ x → ⊥) → (b ≡ true → o .reply .answer ≡ x → ⊥) → unless a b o .reply .answer ≡ x → ⊥
 unless-not a x true o n f = f refl
 unless-not a x false o n f = n
@@ -131,19 +142,43 @@ unless-not a x false o n f = n
 -- ---- the theorems
 -- no job is refused with 9
 pub never-nine : (cs : List Call) (n j i r c : ℕ) → step (run cs .state) (work n j i r c) .reply .answer ≡ 9 → ⊥
-unfolding step outcome decide planOf
+unfolding step outcome decide
 never-nine cs n j i r c =
-    let s = run cs .state in
-    unless-not 1 9 (wellFormed s) _ (λ e. omega arith)
-    (λ w. unless-not 2 9 (workOk n j r c) _ (λ e. omega arith)
-    (λ x. unless-not 5 9 (inLog s i) _ (λ e. omega arith)
-    (λ y. unless-not 10 9 (isMaster (s .net) n) _ (λ e. omega arith)
-    (λ z. not-nine s (run cs .events) (reached cs) (formed s w .size) i (leb-true 1 i (and-left (leb 1 i) _ y)) (leb-true i _ (and-right (leb 1 i) _ y)) n (eqb j 1) (eqb j 2) (eqb j 3) (eqb r 0)))))
+    let x = folded cs in
+    subst (λ s. wellFormed s ≡ true → step s (work n j i r c) .reply .answer ≡ 9 → ⊥) (sym (x .shows)) (seen x) (reached-well-formed cs)
+  where
+    seen : (x : Folded cs) → wellFormed (shown (whole cs) (x .fold) (x .base)) ≡ true → step (shown (whole cs) (x .fold) (x .base)) (work n j i r c) .reply .answer ≡ 9 → ⊥
+    seen x e =
+        let w = whole cs in
+        let s = shown (whole cs) (x .fold) (x .base) in
+        let inv = x .reached .inv in
+        unless-not 1 9 (wellFormed s) _ (λ e. omega arith)
+        (λ _. unless-not 2 9 (workOk n j r c) _ (λ e. omega arith)
+        (λ _. unless-not 5 9 (inLog s i) _ (λ e. omega arith)
+        (λ y. unless-not 18 9 (isKept s i) _ (λ e. omega arith)
+        (λ z. unless-not 10 9 (isMaster (w .net) n) _ (λ e. omega arith)
+        (λ _. subst (λ p. p .answer ≡ 9 → ⊥) (sym (plan-seen w (x .fold) (x .base) (x .front) (rest-seen inv (x .fold) (x .base) (x .front)) (settled-seen inv (x .fold) (x .base) (x .front)) n j i (eqb r 0) (ltb-true _ i z)))
+        (plan-not-nine w (run cs .events) (x .reached)
+        (omega (arith, formed s e .log .last, last-seen w (x .fold) (x .base) (x .front)))
+        i (leb-true 1 i (and-left (leb 1 i) _ y)) (omega (arith, leb-true i _ (and-right (leb 1 i) _ y), last-seen w (x .fold) (x .base) (x .front))) n j (eqb r 0)))))))
 
 -- no call is refused with 1
 pub never-one : (cs : List Call) (c : Call) → step (run cs .state) c .reply .answer ≡ 1 → ⊥
 never-one cs c e = clash (sym (reached-well-formed cs) ∙ refusal-one (run cs .state) c e)
 
--- an ordinal is at most twice the log
+-- an ordinal is at most twice the highest number given
 pub ordinals-at-most-twice : (cs : List Call) → AtMostTwice (run cs .state)
-ordinals-at-most-twice cs = at-most-twice (run cs .state) (run cs .events) (reached cs)
+ordinals-at-most-twice cs = let x = folded cs in subst AtMostTwice (sym (x .shows)) (seen x (at-most-twice (whole cs) (run cs .events) (x .reached)))
+  where
+    seen : (x : Folded cs) → AtMostTwice (whole cs) → AtMostTwice (shown (whole cs) (x .fold) (x .base))
+    seen x a =
+        let w = whole cs in
+        let l = shown (whole cs) (x .fold) (x .base) .log in
+        record {
+          committed = omega (arith, a .committed, last-seen w (x .fold) (x .base) (x .front));
+          applied = a .applied;
+          changes = λ k. entry-cases (λ t. t .change .ordinal .0 ≤ w .committed .head .ordinal .0) l k (omega arith)
+              (λ p q. subst (λ t. t .change .ordinal .0 ≤ w .committed .head .ordinal .0) (sym (entry-seen w (x .fold) (x .base) (x .front) k p)) (a .changes k));
+          rollbacks = λ k. entry-cases (λ t. t .rollback .ordinal .0 ≤ w .committed .head .ordinal .0) l k (omega arith)
+              (λ p q. subst (λ t. t .rollback .ordinal .0 ≤ w .committed .head .ordinal .0) (sym (entry-seen w (x .fold) (x .base) (x .front) k p)) (a .rollbacks k));
+        }

@@ -1,11 +1,12 @@
--- Every call keeps the invariant, refused and cut ones too; so it holds after any calls from fresh, and with it demand 3.
--- Assumes nothing.
-use Prim.Native.Nat.{ℕ, suc, _≤_}
+-- Every call keeps the invariant of the whole, refused and cut ones too; so it holds after any calls from fresh, and with it
+-- demand 3: of the state, whose front may be folded away, and of the whole. Assumes nothing.
+use Prim.Native.Nat.{ℕ, suc, _-_, _≤_, _<_}
 use native.Mathlib.Omega.{arith}
-use mathlib.Core.List.{List, [], _∷_}
-use mathlib.Core.Bool.{Bool, true, false, not, _&&_}
-use mathlib.Core.Path.{_≡_, refl, sym, ap, _∙_}
-use lib.ListN.{length, getD-replicate}
+use mathlib.Core.List.{List, [], _∷_, _++_}
+use mathlib.Core.Bool.{Bool, true, false, not, _&&_, _||_}
+use mathlib.Core.Path.{_≡_, refl, sym, ap, _∙_, subst}
+use lib.Dec.{eqb, ltb, leb}
+use lib.ListN.{length, getD, drop, getD-replicate}
 use Rattle.kinds.specs.declared.Transaction.{Transaction}
 use Rattle.kinds.specs.declared.Event.{Event}
 use Rattle.kinds.specs.declared.Reply.{Reply}
@@ -14,7 +15,7 @@ use Rattle.kinds.specs.declared.Status.the-variants.{None, Pending, InProgress,
 use Rattle.kinds.specs.Numbers.{num, ord}
 use Rattle.kinds.specs.Statuses as statuses
 use Rattle.kinds.specs.Records.{withChange, withRollback}
-use Rattle.kinds.specs.Events.{noEvent, event}
+use Rattle.kinds.specs.Events.{noEvent, event, refusal}
 use Rattle.rules.specs.Heads.{aimed}
 use Rattle.rules.specs.Sides.{begun, committed, invalid, applyAt}
 use Rattle.rules.specs.ApplyRollback.{wasTried}
@@ -26,15 +27,18 @@ use Rattle.rules.specs.CommitChange as job1
 use Rattle.rules.specs.CommitRollback as job3
 use Rattle.rules.specs.ApplyChange as job2
 use Rattle.rules.specs.ApplyRollback as job4
-use Rattle.machine.specs.State.{State, freshPart, entryOf, putEntry, lineOpenFor}
-use Rattle.machine.specs.LiveList.{hops}
+use Rattle.machine.specs.State.{Log, State, absent, fresh, freshPart, unfolded, entryOf, putEntry, last, isKept, lineOpenFor}
+use Rattle.machine.specs.Stores.{Store, fold, withLog, afters}
+use Rattle.machine.specs.WellFormed.{wellFormed}
 use Rattle.machine.specs.LiveList as list
+use Rattle.machine.specs.Folding.{stays, mayFold, baseRow}
 use Rattle.machine.specs.Settled.{settled}
-use Rattle.machine.specs.Calls.{Call, restOf, present}
-use Rattle.machine.specs.Step.{step, run}
-use Rattle.machine.proofs.Entries.{none-all, length-put, entry-put}
-use Rattle.machine.proofs.ByCall.{Does, Calls, by-call}
-use Rattle.history.specs.Demand3.{live, hopped, Demand3}
+use Rattle.machine.specs.Calls.{Pair, Call, append, rollback, start, stop, connect, disconnect, master, sync, work, foldTo, accepted, unless, present, decide}
+use Rattle.machine.specs.Rest.{restOf}
+use Rattle.machine.specs.Step.{outcome, step, run}
+use Rattle.machine.proofs.Entries.{none-all, last-put, entry-put}
+use Rattle.machine.proofs.ByCall.{Does, Calls}
+use Rattle.history.specs.Demand3.{live, highest, newestFirst, hopped, Demand3}
 use Rattle.history.specs.Ops.{Op, push, opsOf, pushed, popped, told-change, told-rollback, top, tail, stack, newest, Rising, Falls, stack-low, stack-falls, mem, standing, first, first-rises, done, held, holding, clash, crash}
 use Rattle.history.specs.Invariant.{val, Linked, Sides, Numbered, CommitEntry, commitView, Committed, ApplyEntry, applyView, Calm, Quiet, Fell, Applied, Invariant, isEnded}
 use Rattle.history.specs.Frames.{stack-linked, not-going}
@@ -42,9 +46,12 @@ use Rattle.history.proofs.Commits.{tip-back}
 use Rattle.history.proofs.Applies.{held-falls, held-low}
 use Rattle.history.proofs.Line.{start-wired, stop-wired, connect-wired, disconnect-wired, elect-wired, resign-wired, syncing-wired, synced-wired, open-holds, fresh-wired}
 use Rattle.history.proofs.Jobs as jobs
-use Rattle.history.proofs.ByNumber.{val-highest, list-newest, hops-list, hopped-list}
+use Rattle.history.proofs.ByNumber.{highest-same, val-highest, above, hopped-above, up}
+use Rattle.history.specs.Whole.{unlessFold, foldedBy, folds, whole, shownLog, shown, Front, Passed}
+use Rattle.history.proofs.Follow.{entry-seen, last-seen, Followed, follow}
+use Rattle.history.proofs.Fronts.{live-commit, live-apply, rest-seen, settled-seen, live-above, live-seen, fold-front, fold-passed}
 
--- the state s after the events es; bad are the changes passed, not taken and not rolled back, newest first
+-- the whole s after the events es; bad are the changes passed, not taken and not rolled back, newest first
 pub record Reached (s : State) (es : List Event) : Type 0 where
   pub bad : List ℕ
   pub inv : Invariant s (opsOf Complete 1 es) (opsOf Complete 2 es) bad
@@ -70,7 +77,7 @@ module _ (s : State) (es : List Event) (bad : List ℕ) (inv : Invariant s (opsO
   unfolding opsOf
   still next k = record { bad = bad; inv = k }
 
-  module _ (i : ℕ) (p : 1 ≤ i) (q : i ≤ length (s .log)) where
+  module _ (i : ℕ) (p : s .log .folded .0 < i) (q : i ≤ last (s .log)) where
     -- ---- two stores, the second cut or not
     aim1 : (cut : Bool) → en i .change .commit ≡ Pending → i ≡ suc (s .change .0) → restOf s ≡ true
         → Does s Keeps true i cut (job1.plans change.Aim (en i) (s .committed .head) (num i) (ord 0) (vs i))
@@ -92,21 +99,21 @@ module _ (s : State) (es : List Event) (bad : List ℕ) (inv : Invariant s (opsO
         let t = withChange (en i) (invalid (en i .change)) in
         record {
           bad = bad;
-          inv = jobs.pass-change (jobs.fail-change inv i e n) i n (rw length-put q) (ap (λ u. u .change .commit) (entry-put (s .log) i t p q));
+          inv = jobs.pass-change (jobs.fail-change inv i e n) i n (rw last-put q) (ap (λ u. u .change .commit) (entry-put (s .log) i t p q));
         }
 
     aim3 : (cut : Bool) → en i .rollback .commit ≡ Pending → s .committed .head .revision .0 ≡ i → restOf s ≡ true
         → Does s Keeps true i cut (job3.plans rollback.Aim (en i) (s .committed .head) (num i) (ord 0))
     unfolding opsOf
-    aim3 true e n r = record { bad = bad; inv = jobs.aim-rollback inv i r }
-    aim3 false e n r = record { bad = bad; inv = jobs.begin-rollback (jobs.aim-rollback inv i r) i p e n refl }
+    aim3 true e n r = record { bad = bad; inv = jobs.aim-rollback inv i (omega arith) n r }
+    aim3 false e n r = record { bad = bad; inv = jobs.begin-rollback (jobs.aim-rollback inv i (omega arith) n r) i (omega arith) e n refl }
 
     land3 : (cut : Bool) → en i .rollback .commit ≡ InProgress → s .committed .head .revision .0 ≡ i → (o : Ordinal) → o .0 ≡ suc (s .committed .head .ordinal .0)
         → Does s Keeps true i cut (job3.plans rollback.Land (en i) (s .committed .head) (num i) o)
     unfolding opsOf
-    land3 true e n o x = record { bad = bad; inv = jobs.land-rollback inv i o p e n x }
+    land3 true e n o x = record { bad = bad; inv = jobs.land-rollback inv i o (omega arith) e n x }
     land3 false e n o x =
-        record { bad = bad; inv = jobs.finish-rollback (jobs.land-rollback inv i o p e n x) i e (λ y. omega (arith, tip-back (inv .committed) i (sym n) p)) refl }
+        record { bad = bad; inv = jobs.finish-rollback (jobs.land-rollback inv i o (omega arith) e n x) i e (λ y. omega (arith, tip-back (inv .committed) i (sym n) (omega arith))) refl }
 
     abbrev NextChange : Type 0
     NextChange = (en i .change .commit ≡ Complete) × (en i .change .ordinal .0 ≡ suc (s .applied .head .ordinal .0))
@@ -177,7 +184,7 @@ module _ (s : State) (es : List Event) (bad : List ℕ) (inv : Invariant s (opsO
     push4 n true m e l = record { bad = tail bad; inv = jobs.push-return inv i m n e l }
     push4 n false m e l = record { bad = tail bad; inv = jobs.finish-return (jobs.push-return inv i m n e l) i (m .0) e refl }
 
-  calls : Calls s Keeps
+  pub calls : {R : List Pair → Type 0} → Calls s Keeps R
   unfolding opsOf
   calls =
       record {
@@ -217,7 +224,7 @@ module _ (s : State) (es : List Event) (bad : List ℕ) (inv : Invariant s (opsO
         job3 = λ i p q cut. record {
           wait = still s inv;
           full = λ a b d. still s inv;
-          begin = λ e n g. still _ (jobs.begin-rollback inv i p e n g);
+          begin = λ e n g. still _ (jobs.begin-rollback inv i (omega arith) e n g);
           aim = aim3 i p q cut;
           land = λ e n b o x. land3 i p q cut e n o x;
           finish = λ e d n. still _ (jobs.finish-rollback inv i e d n);
@@ -235,11 +242,8 @@ module _ (s : State) (es : List Event) (bad : List ℕ) (inv : Invariant s (opsO
         };
       }
 
-  pub step-keeps : (c : Call) → Reached (step s c .next) (step s c .reply .event ∷ es)
-  step-keeps c = by-call s Keeps (λ e. still s inv) (λ w. calls) c
-
 -- ---- fresh
-fresh-committed : Committed [] 0 freshPart []
+fresh-committed : Committed (unfolded []) 0 freshPart []
 unfolding Rising Linked stack newest val pushed popped
 fresh-committed =
     record {
@@ -264,19 +268,20 @@ fresh-committed =
       low = omega arith;
       mid = omega arith;
       high = omega arith;
+      behind = λ x y. absurd (omega arith);
     }
 
-fresh-applied : Applied [] freshPart [] [] []
+fresh-applied : Applied (unfolded []) freshPart [] [] []
 unfolding first stack held Fell val pushed popped
 fresh-applied =
     record {
       entries = none-all (λ k u. ApplyEntry 0 0 [] k (applyView u)) (λ k. record {
         change = record { low = λ x. crash x; aim = λ x. crash x; taken = refl };
         rollback = record { low = λ x. crash x; aim = not-going None refl; returned = refl };
-        tried = not-going None refl;
+        tried = λ x. crash x;
         spared = λ x. clash (ap statuses.done (sym x));
       });
-      calm = none-all (λ k u. Calm (Quiet [] 0) 0 (applyView u)) (λ k. record { change = λ x. crash x; rollback = λ x. crash x });
+      calm = none-all (λ k u. Calm (Quiet (unfolded []) 0) 0 (applyView u)) (λ k. record { change = λ x. crash x; rollback = λ x. crash x });
       reach = omega arith;
       sub = done;
       split = refl;
@@ -288,20 +293,59 @@ fresh-applied =
       clear = λ k x y. refl;
     }
 
-pub reached : (cs : List Call) → Reached (run cs .state) (run cs .events)
-unfolding run opsOf
-reached [] =
+fresh-reached : Reached fresh []
+unfolding opsOf
+fresh-reached =
     record {
       bad = [];
       inv = record {
-        sides = none-all (λ k u. Sides u) (λ k. record { change = (refl, refl); rollback = (refl, refl); unasked = λ x. refl });
+        sides = none-all (λ k u. Sides u) (λ k. record { change = (refl, refl); rollback = (refl, refl); unasked = λ x. refl; orderly = refl });
         numbered = none-all (λ k u. Numbered [] k (u .change .ordinal .0) (u .rollback .ordinal .0)) (λ k. record { change = λ o x. absurd (omega arith); rollback = λ o x. absurd (omega arith) });
         committed = fresh-committed;
         applied = fresh-applied;
         line = fresh-wired;
       };
     }
-reached (c ∷ cs) = let r = reached cs in step-keeps (run cs .state) (run cs .events) (r .bad) (r .inv) c
+
+-- ---- nothing is lost by a fold: the state is the whole with its front folded away
+pub record Folded (cs : List Call) : Type 0 where
+  pub fold : ℕ
+  pub base : List ℕ
+  pub shows : run cs .state ≡ shown (whole cs) fold base
+  pub front : Front (whole cs .log) fold base
+  pub passed : Passed (whole cs) fold
+  pub reached : Reached (whole cs) (run cs .events)
+
+-- one call more, whatever it is
+follows : (cs : List Call) → Folded cs → (P : Reply → State → Type 0) → ((a : ℕ) → P (refusal a) (whole cs)) → (c : Call) → Calls (whole cs) P (λ ps. c ≡ append ps)
+    → Followed P (step (run cs .state) c .reply) (step (run cs .state) c .next) (whole (c ∷ cs))
+unfolding whole
+follows cs x P same c k =
+    let i = x .reached .inv in
+    subst (λ s. Followed P (step s c .reply) (step s c .next) (afters (whole cs) (unlessFold c (outcome s c .stores)))) (sym (x .shows))
+    (follow (whole cs) (x .fold) (x .base) (x .front) (x .passed) (rest-seen i (x .fold) (x .base) (x .front)) (settled-seen i (x .fold) (x .base) (x .front)) P same c k
+    (fold-front i (x .fold) (x .base) (x .front)) (λ c p q m. fold-passed i (x .fold) (x .base) (x .front) c p q m (x .passed)))
+
+fresh-front : Front (fresh .log) 0 absent
+unfolding highest
+fresh-front = record { whole = refl; absent = refl; within = omega arith; finished = λ k p q. absurd (omega arith); base = λ p q. refl; room = refl }
+
+pub folded : (cs : List Call) → Folded cs
+unfolding run whole
+folded [] = record { fold = 0; base = absent; shows = refl; front = fresh-front; passed = record { change = omega arith; entries = λ k p q. absurd (omega arith) }; reached = fresh-reached }
+folded (c ∷ cs) =
+    let x = folded cs in
+    let y = follows cs x (Keeps (whole cs) (run cs .events) (x .reached .bad) (x .reached .inv)) (λ a. still (whole cs) (run cs .events) (x .reached .bad) (x .reached .inv) (whole cs) (x .reached .inv)) c
+    (calls (whole cs) (run cs .events) (x .reached .bad) (x .reached .inv)) in
+    record { fold = y .fold; base = y .base; shows = y .shows; front = y .front; passed = y .passed; reached = y .holds }
+
+pub reached : (cs : List Call) → Reached (whole cs) (run cs .events)
+reached cs = folded cs .reached
+
+-- what every way to accept a call keeps of the whole, every call keeps
+pub by-history : (cs : List Call) (P : Reply → State → Type 0) → ((a : ℕ) → P (refusal a) (whole cs)) → (c : Call) → Calls (whole cs) P (λ ps. c ≡ append ps)
+    → P (step (run cs .state) c .reply) (whole (c ∷ cs))
+by-history cs P same c k = follows cs (folded cs) P same c k .holds
 
 -- ---- demand 3
 -- live at a stage, by its ops
@@ -319,31 +363,123 @@ module _ (s : State) (es : List Event) (r : Reached s es) where
   pub live-applied : (k : ℕ) → mem k (held (opsOf Complete 2 es)) ≡ live es 2 k
   live-applied k = holding k (r .inv .applied .sub) (first-rises (opsOf Complete 1 es) (s .applied .head .ordinal .0) (co .rising)) ∙ sym (live-ops es 2 k)
 
-  stack-in : top (stack (opsOf Complete 1 es)) ≤ length (s .log)
+  stack-in : top (stack (opsOf Complete 1 es)) ≤ last (s .log)
   stack-in = omega (arith, stack-low (opsOf Complete 1 es) (co .rising), co .newest, co .high)
 
-  held-in : top (held (opsOf Complete 2 es)) ≤ length (s .log)
+  held-in : top (held (opsOf Complete 2 es)) ≤ last (s .log)
   held-in = omega (arith, held-low (jobs.side (r .inv)), co .newest, co .high)
 
   held-down : Falls (held (opsOf Complete 2 es))
   held-down = held-falls (jobs.side (r .inv))
 
-  stack-list : list.live s ≡ stack (opsOf Complete 1 es)
-  stack-list =
-      ap (λ v. hops v (s .log) v) (co .tip)
-      ∙ hops-list (s .log) _ (stack (opsOf Complete 1 es)) (stack-falls _ (co .rising)) (stack-linked (s .log) _ (co .rising) (co .linked)) (omega arith)
+  -- with the first b folded away; demand 3 of the whole is that with b 0
+  module _ (b : ℕ) (vs : List ℕ) (f : Front (s .log) b vs) where
+    none : (p : ℕ) → p < 32 → getD (s .log .base) p 0 ≡ 0
+    none p q = ap (λ us. getD us p 0) (f .absent) ∙ getD-replicate 32 p 0 0 q
 
-  reached-demand : Demand3 s es
-  reached-demand =
-      record {
-        committed = λ p b. co .holds p b ∙ val-highest (s .log) (live es 1) (length (s .log)) (stack (opsOf Complete 1 es)) (stack-falls _ (co .rising)) stack-in live-committed p;
-        applied = λ p b. r .inv .applied .holds p b ∙ val-highest (s .log) (live es 2) (length (s .log)) (held (opsOf Complete 2 es)) held-down held-in live-applied p;
-        line = open-holds (s .net) (s .applied .values) (r .inv .line);
-        live = stack-list ∙ list-newest (live es 1) (length (s .log)) (stack (opsOf Complete 1 es)) (stack-falls _ (co .rising)) stack-in live-committed;
-        hops = ap (λ ks. hopped (s .log) (length ks) (s .committed .head .revision .0)) stack-list ∙ ap (hopped (s .log) (length (stack (opsOf Complete 1 es)))) (co .tip)
-            ∙ hopped-list (s .log) (stack (opsOf Complete 1 es)) (stack-linked (s .log) _ (co .rising) (co .linked));
-      }
+    -- the base is what those live at a stage set
+    pub base-committed : (p : ℕ) → p < 32 → getD vs p 0 ≡ highest (s .log) (live es 1) b p
+    base-committed p q =
+        f .base p q
+        ∙ highest-same (s .log) (λ k. stays (entryOf (s .log) k)) (live es 1) b p (λ k u v. sym (live-ops es 1 k ∙ live-commit (r .inv) k (f .finished k u v)))
+
+    pub base-applied : (p : ℕ) → p < 32 → getD vs p 0 ≡ highest (s .log) (live es 2) b p
+    base-applied p q =
+        f .base p q
+        ∙ highest-same (s .log) (λ k. stays (entryOf (s .log) k)) (live es 2) b p (λ k u v. sym (live-ops es 2 k ∙ live-apply (r .inv) k (f .finished k u v)))
+
+    -- what the whole holds, what is shown holds
+    read-on : (g : ℕ → Bool) (p : ℕ) → getD vs p 0 ≡ highest (s .log) g b p
+        → highest (s .log) g (last (s .log)) p ≡ highest (shownLog (s .log) b vs) (λ k. ltb b k && g k) (last (shownLog (s .log) b vs)) p
+    read-on g p e =
+        sym (up (shownLog (s .log) b vs) (s .log) (entry-seen s b vs f) g p e (last (s .log)) (f .within))
+        ∙ ap (λ n. highest (shownLog (s .log) b vs) (λ k. ltb b k && g k) n p) (sym (last-seen s b vs f))
+
+    shown-demand : Demand3 (shown s b vs) es
+    shown-demand =
+        record {
+          committed = λ p q. co .holds p q
+              ∙ val-highest (s .log) (live es 1) (last (s .log)) (stack (opsOf Complete 1 es)) (stack-falls _ (co .rising)) stack-in live-committed p (none p q)
+              ∙ read-on (live es 1) p (base-committed p q);
+          applied = λ p q. r .inv .applied .holds p q
+              ∙ val-highest (s .log) (live es 2) (last (s .log)) (held (opsOf Complete 2 es)) held-down held-in live-applied p (none p q)
+              ∙ read-on (live es 2) p (base-applied p q);
+          line = open-holds (s .net) (s .applied .values) (r .inv .line);
+          live = live-seen (r .inv) b vs f (live es 1) live-committed ∙ ap (newestFirst (λ k. ltb b k && live es 1 k)) (sym (last-seen s b vs f));
+          hops = subst (λ ks. hopped (shownLog (s .log) b vs) (length ks) (s .committed .head .revision .0) ≤ b) (sym (live-above (r .inv) b vs f))
+              (subst (λ v. hopped (shownLog (s .log) b vs) (length (above b (stack (opsOf Complete 1 es)))) v ≤ b) (sym (co .tip))
+              (hopped-above (shownLog (s .log) b vs) (s .log) (entry-seen s b vs f) (stack (opsOf Complete 1 es)) (stack-linked (s .log) _ (co .rising) (co .linked))));
+        }
 
 -- demand 3, after any calls from fresh
 pub demand-3 : (cs : List Call) → Demand3 (run cs .state) (run cs .events)
-demand-3 cs = reached-demand (run cs .state) (run cs .events) (reached cs)
+demand-3 cs =
+    let x = folded cs in
+    subst (λ s. Demand3 s (run cs .events)) (sym (x .shows)) (shown-demand (whole cs) (run cs .events) (x .reached) (x .fold) (x .base) (x .front))
+
+-- ---- and of the whole: over all numbers ever given, with no base
+log-shown : (l : Log) → l .folded .0 ≡ 0 → l .base ≡ absent → l ≡ shownLog l 0 absent
+log-shown l z a =
+    ap (λ n. record { folded = num n; base = l .base; entries = l .entries }) z
+    ∙ ap (λ vs. record { folded = num 0; base = vs; entries = l .entries }) a
+    ∙ ap (λ n. record { folded = num 0; base = absent; entries = drop n (l .entries) }) (let e : 0 ≡ 0 - l .folded .0 = omega arith in e)
+
+front-zero : {l : Log} {b : ℕ} {vs : List ℕ} → Front l b vs → Front l 0 absent
+unfolding highest
+front-zero f =
+    record { whole = f .whole; absent = f .absent; within = omega arith; finished = λ k p q. absurd (omega arith); base = λ p q. ap (λ us. getD us p 0) (sym (f .absent)); room = refl }
+
+pub demand-3-whole : (cs : List Call) → Demand3 (whole cs) (run cs .events)
+demand-3-whole cs =
+    let x = folded cs in
+    let f = front-zero (x .front) in
+    subst (λ l. Demand3 (withLog (whole cs) l) (run cs .events)) (sym (log-shown (whole cs .log) (f .whole) (f .absent)))
+    (shown-demand (whole cs) (run cs .events) (x .reached) 0 absent f)
+
+-- the base values are what the changes folded away gave, by the whole history: those live at commit, and those live at apply
+pub base-is-committed : (cs : List Call) (p : ℕ) → p < 32
+    → getD (run cs .state .log .base) p 0 ≡ highest (whole cs .log) (live (run cs .events) 1) (run cs .state .log .folded .0) p
+base-is-committed cs p q =
+    let x = folded cs in
+    subst (λ s. getD (s .log .base) p 0 ≡ highest (whole cs .log) (live (run cs .events) 1) (s .log .folded .0) p) (sym (x .shows))
+    (base-committed (whole cs) (run cs .events) (x .reached) (x .fold) (x .base) (x .front) p q)
+
+pub base-is-applied : (cs : List Call) (p : ℕ) → p < 32
+    → getD (run cs .state .log .base) p 0 ≡ highest (whole cs .log) (live (run cs .events) 2) (run cs .state .log .folded .0) p
+base-is-applied cs p q =
+    let x = folded cs in
+    subst (λ s. getD (s .log .base) p 0 ≡ highest (whole cs .log) (live (run cs .events) 2) (s .log .folded .0) p) (sym (x .shows))
+    (base-applied (whole cs) (run cs .events) (x .reached) (x .fold) (x .base) (x .front) p q)
+
+-- a refused fold makes no store
+none-folded : (w k m : Bool) (es : List Store) → eqb (unless 1 w (unless 5 k (unless 17 m (accepted es))) .reply .answer) 0 ≡ false
+    → unless 1 w (unless 5 k (unless 17 m (accepted es))) .stores ≡ []
+none-folded true true true es e = clash e
+none-folded true true false es e = refl
+none-folded true false m es e = refl
+none-folded false k m es e = refl
+
+all-made : (s : State) (c : Call) → foldedBy c (outcome s c .reply .answer) ≡ false → unlessFold c (outcome s c .stores) ≡ outcome s c .stores
+unfolding outcome decide
+all-made s (append ps) e = refl
+all-made s (rollback i) e = refl
+all-made s start e = refl
+all-made s stop e = refl
+all-made s (connect n) e = refl
+all-made s (disconnect n) e = refl
+all-made s (master n) e = refl
+all-made s (sync n) e = refl
+all-made s (work n j i r c) e = refl
+all-made s (foldTo b) e = sym (none-folded (wellFormed s) (isKept s b && leb b (last (s .log))) (mayFold s b) (baseRow (s .log) b (list.live s) ++ (fold (num b) ∷ [])) e)
+
+-- where no fold was accepted, the state is the whole: the history is what it was before there were folds
+pub unfolded-whole : (cs : List Call) → folds cs ≡ false → run cs .state ≡ whole cs
+unfolding run whole folds step
+unfolded-whole [] e = refl
+unfolded-whole (c ∷ cs) e =
+    go (foldedBy c (outcome (run cs .state) c .reply .answer)) refl e (unfolded-whole cs)
+  where
+    go : (b : Bool) → foldedBy c (outcome (run cs .state) c .reply .answer) ≡ b → (b || folds cs) ≡ false → (folds cs ≡ false → run cs .state ≡ whole cs)
+        → afters (run cs .state) (outcome (run cs .state) c .stores) ≡ afters (whole cs) (unlessFold c (outcome (run cs .state) c .stores))
+    go true x y r = clash y
+    go false x y r = ap (λ s. afters s (outcome (run cs .state) c .stores)) (r y) ∙ ap (afters (whole cs)) (sym (all-made (run cs .state) c x))

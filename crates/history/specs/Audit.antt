@@ -1,17 +1,16 @@
 -- What the log shows, stated: each status tied to the events, and the changes that the switch has taken
 -- and that were not undone, read off the log and the applied ordinal. Proved in Audited. Assumes nothing.
-use Prim.Native.Nat.{ℕ}
+use Prim.Native.Nat.{ℕ, _<_}
 use mathlib.Core.List.{List}
 use mathlib.Core.Bool.{Bool, true, false, not, _&&_, _||_}
 use mathlib.Core.Path.{_≡_}
 use lib.Dec.{eqb}
-use lib.ListN.{length}
 use Rattle.kinds.specs.declared.Transaction.{Transaction}
 use Rattle.kinds.specs.declared.Event.{Event}
 use Rattle.kinds.specs.declared.Status.{Status}
 use Rattle.kinds.specs.declared.Status.the-variants.{None, Pending, InProgress, Complete, Aborted, Canceled, Failed}
 use Rattle.kinds.specs.Numbers.{num}
-use Rattle.kinds.specs.Statuses.{isComplete}
+use Rattle.kinds.specs.Statuses.{isComplete, isFailed}
 use Rattle.rules.specs.declared.CommitChangeRule.{CommitChangeRule}
 use Rattle.rules.specs.declared.CommitChangeRule.the-variants as change
 use Rattle.rules.specs.declared.CommitRollbackRule.{CommitRollbackRule}
@@ -25,11 +24,11 @@ use Rattle.rules.specs.CommitRollback as job3
 use Rattle.rules.specs.ApplyChange as job2
 use Rattle.rules.specs.ApplyRollback as job4
 use Rattle.rules.specs.ApplyRollback.{isAborted}
-use Rattle.machine.specs.State.{State, entryOf, lineOpenFor}
+use Rattle.machine.specs.State.{State, Log, entryOf, last, lineOpenFor}
 use Rattle.machine.specs.Settled.{settled}
-use Rattle.machine.specs.Calls.{restOf}
-use Rattle.history.specs.Demand3.{told, completed, live, newestFirst}
-use Rattle.history.specs.Marks.{isFailed, isCanceled}
+use Rattle.machine.specs.Rest.{restOf}
+use Rattle.history.specs.Demand3.{told, completed, live, newestFirst, kept}
+use Rattle.history.specs.Marks.{isCanceled}
 
 -- ---- the closing rule: the last "then" of a job, which writes the status that a cut left out
 abbrev pub closes1 : CommitChangeRule → Bool
@@ -88,7 +87,7 @@ module _ (s : State) (k : ℕ) where
   closing4 n ok =
       closes4 (job4.rule (entryOf (s .log) k .rollback .apply) (job4.tests (entryOf (s .log) k) (s .applied .head) (settled s) (lineOpenFor (s .net) n) ok))
 
--- ---- each status, tied to the events, for every number
+-- ---- each status, tied to the events, for every number kept
 pub record Shown (s : State) (es : List Event) (k : ℕ) : Type 0 where
   -- the Complete event was given exactly where the status is Complete or the closing rule is to write it
   pub committed : (ok : Bool) → completed es 1 1 k ≡ (isComplete (entryOf (s .log) k .change .commit) || closing1 s k ok)
@@ -120,11 +119,11 @@ landed Canceled a o = false
 landed Failed a o = false
 
 -- which changes did the switch take
-abbrev pub took : List Transaction → (appliedOrdinal : ℕ) → ℕ → Bool
+abbrev pub took : Log → (appliedOrdinal : ℕ) → ℕ → Bool
 took l a k = landed (entryOf l k .change .apply) a (entryOf l k .change .ordinal .0)
 
 -- and which had been undone
-abbrev pub undid : List Transaction → (appliedOrdinal : ℕ) → ℕ → Bool
+abbrev pub undid : Log → (appliedOrdinal : ℕ) → ℕ → Bool
 undid l a k = landed (entryOf l k .rollback .apply) a (entryOf l k .rollback .ordinal .0)
 
 -- those taken and not undone
@@ -132,7 +131,7 @@ abbrev pub holds : State → ℕ → Bool
 holds s k = took (s .log) (s .applied .head .ordinal .0) k && not (undid (s .log) (s .applied .head .ordinal .0) k)
 
 pub record Audited (s : State) (es : List Event) : Type 0 where
-  pub took : (k : ℕ) → took (s .log) (s .applied .head .ordinal .0) k ≡ completed es 1 2 k
-  pub undid : (k : ℕ) → undid (s .log) (s .applied .head .ordinal .0) k ≡ completed es 2 2 k
-  -- the set of the log is the set of the history
-  pub set : newestFirst (holds s) (length (s .log)) ≡ newestFirst (live es 2) (length (s .log))
+  pub took : (k : ℕ) → s .log .folded .0 < k → took (s .log) (s .applied .head .ordinal .0) k ≡ completed es 1 2 k
+  pub undid : (k : ℕ) → s .log .folded .0 < k → undid (s .log) (s .applied .head .ordinal .0) k ≡ completed es 2 2 k
+  -- the set of the log is the set of the history, as far as it is kept
+  pub set : newestFirst (holds s) (last (s .log)) ≡ newestFirst (kept s (live es 2)) (last (s .log))

@@ -1,6 +1,6 @@
 -- Demand 3, stated: what the committed values, the applied values, an open line and the live list are, after any calls, by
 -- the events that were given. The statuses in the log are not looked at. Proved in Reached. Assumes nothing.
-use Prim.Native.Nat.{ℕ, zero, suc, _<_}
+use Prim.Native.Nat.{ℕ, zero, suc, _≤_, _<_}
 use mathlib.Core.List.{List, [], _∷_}
 use mathlib.Core.Bool.{Bool, true, false, not, _&&_, _||_, cond}
 use mathlib.Core.Path.{_≡_}
@@ -11,7 +11,7 @@ use Rattle.kinds.specs.declared.Event.{Event}
 use Rattle.kinds.specs.declared.Status.{Status}
 use Rattle.kinds.specs.declared.Status.the-variants.{Complete}
 use Rattle.kinds.specs.Statuses.{codeOf}
-use Rattle.machine.specs.State.{State, entryOf, lineOpenFor}
+use Rattle.machine.specs.State.{State, Log, entryOf, last, isKept, lineOpenFor}
 use Rattle.machine.specs.LiveList as list
 
 -- ---- completed: an event with this status was given for a phase (1 Change, 2 Rollback), a stage (1 Commit, 2 Apply) and
@@ -42,9 +42,10 @@ abbrev pub valueAt : Transaction → ℕ → ℕ
 valueAt t p =
     cond (names t p 3) (getD (t .values) 3 0) (cond (names t p 2) (getD (t .values) 2 0) (cond (names t p 1) (getD (t .values) 1 0) (getD (t .values) 0 0)))
 
--- ---- highest-numbered: of changes 1 to n, the value of the highest that f holds of and that sets p; absent where none does
-unfoldable pub highest : List Transaction → (ℕ → Bool) → ℕ → ℕ → ℕ
-highest l f zero p = 0
+-- ---- highest-numbered: of changes 1 to n, the value of the highest that f holds of and that sets p; the base value where
+-- none does
+unfoldable pub highest : Log → (ℕ → Bool) → ℕ → ℕ → ℕ
+highest l f zero p = getD (l .base) p 0
 highest l f (suc n) p = cond (f (suc n) && sets (entryOf l (suc n)) p) (valueAt (entryOf l (suc n)) p) (highest l f n p)
 
 -- the changes 1 to n that f holds of, newest first
@@ -56,21 +57,25 @@ unfoldable pub newestFirst : (ℕ → Bool) → ℕ → List ℕ
 newestFirst f zero = []
 newestFirst f (suc n) = listIf (f (suc n)) (suc n) (newestFirst f n)
 
+-- of the changes kept (order 10)
+abbrev pub kept : State → (ℕ → Bool) → ℕ → Bool
+kept s f k = isKept s k && f k
+
 -- where k hops from v lead
-unfoldable pub hopped : List Transaction → ℕ → ℕ → ℕ
+unfoldable pub hopped : Log → ℕ → ℕ → ℕ
 hopped l zero v = v
 hopped l (suc k) v = hopped l k (entryOf l v .index .0)
 
 -- ---- the demand
 pub record Demand3 (s : State) (es : List Event) : Type 0 where
-  -- the committed value of every path is that of the highest-numbered change setting it whose commit Complete event has
-  -- been given and whose rollback commit Complete event has not, or absent
-  pub committed : (p : ℕ) → p < 32 → getD (s .committed .values) p 0 ≡ highest (s .log) (live es 1) (length (s .log)) p
+  -- the committed value of every path is that of the highest-numbered change kept and setting it whose commit Complete
+  -- event has been given and whose rollback commit Complete event has not, or the base value (absent, if nothing is folded)
+  pub committed : (p : ℕ) → p < 32 → getD (s .committed .values) p 0 ≡ highest (s .log) (kept s (live es 1)) (last (s .log)) p
   -- the same, with apply
-  pub applied : (p : ℕ) → p < 32 → getD (s .applied .values) p 0 ≡ highest (s .log) (live es 2) (length (s .log)) p
+  pub applied : (p : ℕ) → p < 32 → getD (s .applied .values) p 0 ≡ highest (s .log) (kept s (live es 2)) (last (s .log)) p
   -- whenever the line is open for some node, the target's values are the applied values
   pub line : (n : ℕ) → lineOpenFor (s .net) n ≡ true → s .net .values ≡ s .applied .values
   -- the live list is exactly the changes of the first part, newest first
-  pub live : list.live s ≡ newestFirst (live es 1) (length (s .log))
-  -- and its length is the number of hops until 0
-  pub hops : hopped (s .log) (length (list.live s)) (s .committed .head .revision .0) ≡ 0
+  pub live : list.live s ≡ newestFirst (kept s (live es 1)) (last (s .log))
+  -- and its length is the number of hops until 0 or a folded number
+  pub hops : hopped (s .log) (length (list.live s)) (s .committed .head .revision .0) ≤ s .log .folded .0

@@ -11,7 +11,7 @@ use Rattle.kinds.specs.declared.Transaction.{Transaction}
 use Rattle.kinds.specs.declared.Status.{Status}
 use Rattle.kinds.specs.declared.Status.the-variants.{None, Pending, InProgress, Complete, Aborted, Canceled, Failed}
 use Rattle.kinds.specs.Statuses.{isComplete}
-use Rattle.machine.specs.State.{entryOf, putEntry}
+use Rattle.machine.specs.State.{Log, entryOf, putEntry}
 use Rattle.machine.proofs.Entries.{put-all}
 use Rattle.history.specs.Ops.{Op, push, pop, none, top, tail, stack, newest, Rising, Falls, stack-low, stack-falls, clash}
 use Rattle.history.specs.Invariant.{val, Link, Linked, isGoing, complete, Paired}
@@ -27,7 +27,7 @@ pub record Same (t u : Transaction) : Type 0 where
 pub same : (t : Transaction) → Same t t
 same t = record { count = refl; paths = refl; values = refl; kept = refl; index = refl }
 
-module _ (l m : List Transaction) (n : ℕ) (s : (k : ℕ) → k ≤ n → Same (entryOf l k) (entryOf m k)) where
+module _ (l m : Log) (n : ℕ) (s : (k : ℕ) → k ≤ n → Same (entryOf l k) (entryOf m k)) where
   pub val-same : (ks : List ℕ) → Falls ks → top ks ≤ n → (p : ℕ) → val m ks p ≡ val l ks p
   unfolding val Falls
   val-same [] f b p = refl
@@ -47,15 +47,15 @@ module _ (l m : List Transaction) (n : ℕ) (s : (k : ℕ) → k ≤ n → Same 
   linked-same (none ∷ o) r b h = absurd r
 
 -- one entry stored, its pairs as they were if its number is at most n
-pub put-same : (l : List Transaction) (i : ℕ) (t : Transaction) (n : ℕ) → (i ≤ n → Same (entryOf l i) t) → (k : ℕ) → k ≤ n → Same (entryOf l k) (entryOf (putEntry l i t) k)
+pub put-same : (l : Log) (i : ℕ) (t : Transaction) (n : ℕ) → (i ≤ n → Same (entryOf l i) t) → (k : ℕ) → k ≤ n → Same (entryOf l k) (entryOf (putEntry l i t) k)
 put-same l i t n q = put-all (λ k u. k ≤ n → Same (entryOf l k) u) l i t (λ k b. same (entryOf l k)) q
 
 -- ---- every change on the stack was committed over those under it
-unfoldable pub LinkedStack : List Transaction → List ℕ → Type 0
+unfoldable pub LinkedStack : Log → List ℕ → Type 0
 LinkedStack l [] = Unit {0}
 LinkedStack l (k ∷ ks) = Link l k ks × LinkedStack l ks
 
-pub stack-linked : (l : List Transaction) (o : List Op) → Rising o → Linked l o → LinkedStack l (stack o)
+pub stack-linked : (l : Log) (o : List Op) → Rising o → Linked l o → LinkedStack l (stack o)
 unfolding Linked LinkedStack stack Rising
 stack-linked l [] r h = tt
 stack-linked l (push k ∷ o) r h = (h .0, stack-linked l o (r .1) (h .1))

@@ -3,7 +3,7 @@
 -- Assumes nothing.
 use Prim.Native.Nat.{ℕ, suc, _≤_, _<_}
 use mathlib.Core.List.{List, [], _∷_, _++_}
-use mathlib.Core.Bool.{Bool, true, false, _&&_, _||_}
+use mathlib.Core.Bool.{Bool, true, false, not, _&&_, _||_}
 use mathlib.Core.Path.{_≡_}
 use lib.Dec.{eqb}
 use lib.ListN.{length, getD}
@@ -15,7 +15,7 @@ use Rattle.kinds.specs.declared.Status.{Status}
 use Rattle.kinds.specs.declared.Status.the-variants.{None, Pending, InProgress, Complete, Aborted, Canceled, Failed}
 use Rattle.kinds.specs.Statuses.{isComplete}
 use Rattle.rules.specs.ApplyRollback.{wasTried}
-use Rattle.machine.specs.State.{State, Part, Net, entryOf, nodeOf}
+use Rattle.machine.specs.State.{State, Part, Net, Log, entryOf, last, nodeOf}
 use Rattle.history.specs.Values.{look}
 use Rattle.history.specs.Ops.{Op, push, pop, none, pushed, popped, top, stack, newest, Rising, opAt, first, Sub, held}
 
@@ -28,22 +28,31 @@ abbrev pub returns : Transaction → ℕ → ℕ → ℕ
 returns t p d = look (t .paths) (t .count) (t .kept) p d
 
 -- the value that the newest of these changes setting p gives it
-unfoldable pub val : List Transaction → List ℕ → ℕ → ℕ
+unfoldable pub val : Log → List ℕ → ℕ → ℕ
 val l [] p = 0
 val l (k ∷ ks) p = says (entryOf l k) p (val l ks p)
 
 -- change k was committed over the changes ks: it returns to the newest of them, and its rollback puts back their values
-pub record Link (l : List Transaction) (k : ℕ) (ks : List ℕ) : Type 0 where
+pub record Link (l : Log) (k : ℕ) (ks : List ℕ) : Type 0 where
   pub back : entryOf l k .index .0 ≡ top ks
   pub keeps : (p : ℕ) → p < 32 → returns (entryOf l k) p (says (entryOf l k) p (val l ks p)) ≡ val l ks p
 
-unfoldable pub Linked : List Transaction → List Op → Type 0
+unfoldable pub Linked : Log → List Op → Type 0
 Linked l [] = Unit {0}
 Linked l (push k ∷ o) = Link l k (stack o) × Linked l o
 Linked l (pop k ∷ o) = Linked l o
 Linked l (none ∷ o) = Linked l o
 
 -- ---- statuses
+abbrev pub isNone : Status → Bool
+isNone None = true
+isNone Pending = false
+isNone InProgress = false
+isNone Complete = false
+isNone Aborted = false
+isNone Canceled = false
+isNone Failed = false
+
 abbrev pub isGoing : Status → Bool
 isGoing None = false
 isGoing Pending = false
@@ -67,10 +76,25 @@ Paired Failed a o = (a ≡ Canceled) × (o ≡ 0)
 Paired Aborted a o = ⊥
 Paired Canceled a o = ⊥
 
+-- a change that the switch did not take
+abbrev pub isEnded : Status → Bool
+isEnded None = false
+isEnded Pending = false
+isEnded InProgress = false
+isEnded Complete = false
+isEnded Aborted = true
+isEnded Canceled = false
+isEnded Failed = true
+
+-- a rollback is asked only of a change committed; neither its commit nor its apply is aborted or fails
+abbrev pub orderly : Status → Status → Status → Bool
+orderly c r a = ((isComplete c || isNone r) && not (isEnded r)) && not (isEnded a)
+
 pub record Sides (t : Transaction) : Type 0 where
   pub change : Paired (t .change .commit) (t .change .apply) (t .change .ordinal .0)
   pub rollback : Paired (t .rollback .commit) (t .rollback .apply) (t .rollback .ordinal .0)
   pub unasked : t .phase ≡ 1 → t .rollback .commit ≡ None
+  pub orderly : orderly (t .change .commit) (t .rollback .commit) (t .rollback .apply) ≡ true
 
 -- an ordinal is its place in the commits
 pub record Numbered (ops : List Op) (k c r : ℕ) : Type 0 where
@@ -131,7 +155,7 @@ pub record CommitEntry (h : Head) (c : ℕ) (vs : List ℕ) (ops : List Op) (k :
   pub done : pushed k ops ≡ complete (x .change) c k
   pub undone : popped k ops ≡ complete (x .rollback) (h .revision .0) (x .index)
 
-pub record Committed (l : List Transaction) (c : ℕ) (part : Part) (ops : List Op) : Type 0 where
+pub record Committed (l : Log) (c : ℕ) (part : Part) (ops : List Op) : Type 0 where
   pub entries : (k : ℕ) → CommitEntry (part .head) c (part .values) ops k (commitView (entryOf l k))
   pub rising : Rising ops
   pub linked : Linked l ops
@@ -142,7 +166,8 @@ pub record Committed (l : List Transaction) (c : ℕ) (part : Part) (ops : List 
   pub room : length (part .values) ≡ 32
   pub low : part .head .revision .0 ≤ part .head .index .0
   pub mid : part .head .index .0 ≤ c
-  pub high : c ≤ length l
+  pub high : c ≤ last l
+  pub behind : part .head .target .0 ≡ part .head .revision .0 → part .head .revision .0 < part .head .index .0 → popped (part .head .index .0) ops ≡ true
 
 -- ---- the apply side
 pub record ApplyView : Type 0 where
@@ -161,16 +186,6 @@ applyView t =
       rollbackOrdinal = t .rollback .ordinal .0;
       index = t .index .0;
     }
-
--- a change that the switch did not take
-abbrev pub isEnded : Status → Bool
-isEnded None = false
-isEnded Pending = false
-isEnded InProgress = false
-isEnded Complete = false
-isEnded Aborted = true
-isEnded Canceled = false
-isEnded Failed = true
 
 -- its push was tried, and not taken or not yet
 abbrev pub isStarted : Status → Bool
@@ -201,6 +216,16 @@ rollbackTouched Aborted = false
 rollbackTouched Canceled = true
 rollbackTouched Failed = false
 
+-- a rollback that was begun, or has completed
+abbrev pub wasPushed : Status → Bool
+wasPushed None = false
+wasPushed Pending = false
+wasPushed InProgress = true
+wasPushed Complete = true
+wasPushed Aborted = false
+wasPushed Canceled = false
+wasPushed Failed = false
+
 -- change k, with Applied's ordinal a and target g: its apply status c and its ordinal o
 pub record ChangeEntry (a g : ℕ) (acts : List Op) (k : ℕ) (c : Status) (o : ℕ) : Type 0 where
   pub low : changeTouched c ≡ true → o ≤ suc a
@@ -216,7 +241,7 @@ pub record RollbackEntry (a g : ℕ) (acts : List Op) (k : ℕ) (r : Status) (o 
 pub record ApplyEntry (a g : ℕ) (acts : List Op) (k : ℕ) (x : ApplyView) : Type 0 where
   pub change : ChangeEntry a g acts k (x .change) (x .changeOrdinal)
   pub rollback : RollbackEntry a g acts k (x .rollback) (x .rollbackOrdinal) (x .index)
-  pub tried : x .rollback ≡ InProgress → wasTried (x .change) ≡ true
+  pub tried : wasPushed (x .rollback) ≡ true → wasTried (x .change) ≡ true
   pub spared : x .rollback ≡ Canceled → x .change ≡ Aborted
 
 -- settled: no status of the op with ordinal a is yet to be stored
@@ -224,7 +249,7 @@ pub record Still (a : ℕ) (x : ApplyView) : Type 0 where
   pub change : x .change ≡ InProgress → x .changeOrdinal ≡ a → ⊥
   pub rollback : x .rollback ≡ InProgress → x .rollbackOrdinal ≡ a → ⊥
 
-abbrev pub Quiet : List Transaction → ℕ → Type 0
+abbrev pub Quiet : Log → ℕ → Type 0
 Quiet l a = (k : ℕ) → Still a (applyView (entryOf l k))
 
 -- the next op is begun, or ended, only then
@@ -233,7 +258,7 @@ pub record Calm (Q : Type 0) (a : ℕ) (x : ApplyView) : Type 0 where
   pub rollback : rollbackTouched (x .rollback) ≡ true → x .rollbackOrdinal ≡ suc a → Q
 
 -- the changes passed and not taken: Aborted, or Failed and then the lowest
-unfoldable pub Fell : List Transaction → List ℕ → Type 0
+unfoldable pub Fell : Log → List ℕ → Type 0
 Fell l [] = Unit {0}
 Fell l (k ∷ ks) = (isEnded (entryOf l k .change .apply) ≡ true) × (entryOf l k .change .apply ≡ Failed → ks ≡ []) × Fell l ks
 
@@ -242,12 +267,12 @@ abbrev pub led : List Op → ℕ → ℕ
 led ops a = top (stack (first ops a))
 
 -- the target has left for the next op
-pub record Ahead (l : List Transaction) (ops : List Op) (a g : ℕ) : Type 0 where
+pub record Ahead (l : Log) (ops : List Op) (a g : ℕ) : Type 0 where
   pub there : g ≡ led ops (suc a)
   pub reach : suc a ≤ length ops
   pub quiet : Quiet l a
 
-pub record Applied (l : List Transaction) (part : Part) (ops acts : List Op) (bad : List ℕ) : Type 0 where
+pub record Applied (l : Log) (part : Part) (ops acts : List Op) (bad : List ℕ) : Type 0 where
   pub entries : (k : ℕ) → ApplyEntry (part .head .ordinal .0) (part .head .target .0) acts k (applyView (entryOf l k))
   pub calm : (k : ℕ) → Calm (Quiet l (part .head .ordinal .0)) (part .head .ordinal .0) (applyView (entryOf l k))
   pub reach : part .head .ordinal .0 ≤ length ops

@@ -3,6 +3,8 @@ pub mod Values
 pub mod Ops
 pub mod Invariant
 pub mod Frames
+pub mod Whole
+pub mod Given
 pub mod Marks
 pub mod Audit
 pub mod Guarantees

@@ -1,6 +1,6 @@
 -- Where a status says that a change or a rollback began, failed, was aborted or canceled, the events say the same; and
 -- every rollback passed by the switch was pushed to it or canceled. Assumes nothing.
-use Prim.Native.Nat.{ℕ, suc, _≤_}
+use Prim.Native.Nat.{ℕ, suc, _≤_, _<_}
 use mathlib.Core.List.{List, _∷_}
 use mathlib.Core.Bool.{Bool, true, false, _&&_, _||_}
 use mathlib.Core.Path.{_≡_, refl, sym, ap, _∙_}
@@ -11,24 +11,15 @@ use Rattle.kinds.specs.declared.Transaction.{Transaction}
 use Rattle.kinds.specs.declared.Event.{Event}
 use Rattle.kinds.specs.declared.Status.{Status}
 use Rattle.kinds.specs.declared.Status.the-variants.{None, Pending, InProgress, Complete, Aborted, Canceled, Failed}
-use Rattle.kinds.specs.Statuses.{codeOf}
+use Rattle.kinds.specs.Statuses.{codeOf, isPending, isFailed}
 use Rattle.rules.specs.ApplyRollback.{wasTried, isAborted}
-use Rattle.machine.specs.State.{entryOf, putEntry}
+use Rattle.machine.specs.State.{Log, entryOf, putEntry, last}
 use Rattle.machine.proofs.Entries.{put-all, entry-put}
 use Rattle.history.specs.Demand3.{tells, told}
 use Rattle.history.specs.Ops.{Op, popped}
 use Rattle.history.specs.Frames.{by-eq}
 
 -- ---- statuses
-abbrev pub isFailed : Status → Bool
-isFailed None = false
-isFailed Pending = false
-isFailed InProgress = false
-isFailed Complete = false
-isFailed Aborted = false
-isFailed Canceled = false
-isFailed Failed = true
-
 abbrev pub isCanceled : Status → Bool
 isCanceled None = false
 isCanceled Pending = false
@@ -37,15 +28,6 @@ isCanceled Complete = false
 isCanceled Aborted = false
 isCanceled Canceled = true
 isCanceled Failed = false
-
-abbrev pub isPending : Status → Bool
-isPending None = false
-isPending Pending = true
-isPending InProgress = false
-isPending Complete = false
-isPending Aborted = false
-isPending Canceled = false
-isPending Failed = false
 
 -- a status that an apply has before it begins, or where it never does
 abbrev pub neverBegun : Status → Bool
@@ -120,7 +102,7 @@ other-number a g o es e k t n m =
     same-told a g o es (e ∷ es) k t (silent-number Failed e es 1 1 k d) (λ x p. silent-number x e es p 2 k d) m
 
 -- ---- one entry stored, with an event of its number
-pub put-marks : (a g : ℕ) (o : List Op) (es : List Event) (e : Event) (l : List Transaction) (i : ℕ) (t : Transaction) → 1 ≤ i → i ≤ length l → e .number .0 ≡ i
+pub put-marks : (a g : ℕ) (o : List Op) (es : List Event) (e : Event) (l : Log) (i : ℕ) (t : Transaction) → l .folded .0 < i → i ≤ last l → e .number .0 ≡ i
     → ((k : ℕ) → Mark a g o es k (entryOf l k))
     → Mark a g o (e ∷ es) i t
     → (k : ℕ)

@@ -19,9 +19,9 @@ trm n = record { 0 = n }
 abbrev pub follows : ℕ → ℕ → Bool
 follows a b = eqb (a + 1) b
 
--- ordinals run to 256
+-- ordinals run to 131,070
 abbrev pub isFull : ℕ → Bool
-isFull o = leb 256 o
+isFull o = leb 131070 o
 
 -- terms, connection ids and target ids are 32-bit
 abbrev pub isLast : ℕ → Bool

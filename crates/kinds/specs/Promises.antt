@@ -8,7 +8,7 @@ use Rattle.kinds.specs.Events.{noEvent, refusal}
 use Rattle.kinds.specs.Numbers.{num, follows, ord, isFull, nextOrdinal, trm, isLast, nextTerm}
 use Rattle.kinds.specs.Outcome.{one}
 use Rattle.kinds.specs.Records.{withChange, withRollback}
-use Rattle.kinds.specs.Statuses.{codeOf, statusOf, done, isComplete, progressCode, progressOf}
+use Rattle.kinds.specs.Statuses.{codeOf, statusOf, done, isComplete, isPending, isFailed, progressCode, progressOf}
 use Rattle.kinds.specs.declared.Event.{Event}
 use Rattle.kinds.specs.declared.Number.{Number}
 use Rattle.kinds.specs.declared.Ordinal.{Ordinal}
@@ -144,6 +144,18 @@ TellsComplete x r = r ≡ isComplete x
 
 pub tells-complete-only : (x : Status) (r q : Bool) → TellsComplete x r → TellsComplete x q → r ≡ q
 tells-complete-only x r q = one
+
+abbrev pub TellsPending : Status → Bool → Type 0
+TellsPending x r = r ≡ isPending x
+
+pub tells-pending-only : (x : Status) (r q : Bool) → TellsPending x r → TellsPending x q → r ≡ q
+tells-pending-only x r q = one
+
+abbrev pub TellsFailed : Status → Bool → Type 0
+TellsFailed x r = r ≡ isFailed x
+
+pub tells-failed-only : (x : Status) (r q : Bool) → TellsFailed x r → TellsFailed x q → r ≡ q
+tells-failed-only x r q = one
 
 abbrev pub ShowsProgress : Progress → ℕ → Type 0
 ShowsProgress x r = r ≡ progressCode x

@@ -40,6 +40,24 @@ isComplete Aborted = false
 isComplete Canceled = false
 isComplete Failed = false
 
+abbrev pub isPending : Status → Bool
+isPending None = false
+isPending Pending = true
+isPending InProgress = false
+isPending Complete = false
+isPending Aborted = false
+isPending Canceled = false
+isPending Failed = false
+
+abbrev pub isFailed : Status → Bool
+isFailed None = false
+isFailed Pending = false
+isFailed InProgress = false
+isFailed Complete = false
+isFailed Aborted = false
+isFailed Canceled = false
+isFailed Failed = true
+
 -- the configuration's states are coded as the statuses of the same names
 abbrev pub progressCode : Progress → ℕ
 progressCode progress.Pending = 1

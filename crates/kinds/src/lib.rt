@@ -1,11 +1,11 @@
 // The paper's numbers, statuses and small records. A log number, an ordinal and a term are three types with private
 // fields: none can be compared with another, and only the methods below read inside.
-ghost use Rattle.kinds.specs.Promises.{MakesNumber, ShowsNumber, SameNumber, BelowNumber, FollowsNumber, MakesOrdinal, ShowsOrdinal, SameOrdinal, FollowsOrdinal, TellsFull, MakesNextOrdinal, MakesTerm, ShowsTerm, SameTerm, BelowTerm, TellsLast, MakesNextTerm, ShowsStatus, ReadsStatus, TellsDone, TellsComplete, ShowsProgress, ReadsProgress, PutsChange, PutsRollback, MakesNoEvent, Refuses};
+ghost use Rattle.kinds.specs.Promises.{MakesNumber, ShowsNumber, SameNumber, BelowNumber, FollowsNumber, MakesOrdinal, ShowsOrdinal, SameOrdinal, FollowsOrdinal, TellsFull, MakesNextOrdinal, MakesTerm, ShowsTerm, SameTerm, BelowTerm, TellsLast, MakesNextTerm, ShowsStatus, ReadsStatus, TellsDone, TellsComplete, TellsPending, TellsFailed, ShowsProgress, ReadsProgress, PutsChange, PutsRollback, MakesNoEvent, Refuses};
 
-// A log number: 0 none, else 1 to 128.
+// A log number: 0 none, else 1 to 65,535.
 pub struct Number(u16);
 
-// An ordinal: 0 none, else 1 to 256.
+// An ordinal: 0 none, else 1 to 131,070.
 pub struct Ordinal(u32);
 
 // A term of mastership.
@@ -77,7 +77,7 @@ impl Ordinal {
     pub fn full(self) -> bool
         ensures { λ r. ⌜ TellsFull self r ⌝ }
     {
-        256 <= self.0
+        131070 <= self.0
     }
 
     // The ordinal after this one; a full one stays.
@@ -85,7 +85,7 @@ impl Ordinal {
         ensures { λ r. ⌜ MakesNextOrdinal self r ⌝ }
     {
         let n = self.0;
-        if 256 <= n {
+        if 131070 <= n {
             return Ordinal(n);
         }
         Ordinal(n + 1)
@@ -200,6 +200,34 @@ impl Status {
             Status::Aborted => false,
             Status::Canceled => false,
             Status::Failed => false,
+        }
+    }
+
+    pub fn pending(self) -> bool
+        ensures { λ r. ⌜ TellsPending self r ⌝ }
+    {
+        match self {
+            Status::None => false,
+            Status::Pending => true,
+            Status::InProgress => false,
+            Status::Complete => false,
+            Status::Aborted => false,
+            Status::Canceled => false,
+            Status::Failed => false,
+        }
+    }
+
+    pub fn failed(self) -> bool
+        ensures { λ r. ⌜ TellsFailed self r ⌝ }
+    {
+        match self {
+            Status::None => false,
+            Status::Pending => false,
+            Status::InProgress => false,
+            Status::Complete => false,
+            Status::Aborted => false,
+            Status::Canceled => false,
+            Status::Failed => true,
         }
     }
 }

@@ -16,13 +16,16 @@ use Rattle.kinds.specs.Numbers.{isLast, termUnless, nextTerm}
 use Rattle.kinds.specs.Events.{numbered, refusal}
 use Rattle.rules.specs.declared.Plan.{Plan}
 use Rattle.rules.specs.Outside as outside
-use Rattle.machine.specs.State.{State, Net, absent, entryOf, inLog, isNode, nodeOf, putNode, isMaster, reachesTarget, lineOpenFor}
+use Rattle.machine.specs.State.{State, Net, absent, entryOf, grown, last, inLog, isKept, isNode, nodeOf, putNode, isMaster, reachesTarget, lineOpenFor}
 use Rattle.machine.specs.Stores.{targetValues, configuration, mastership, connections, target, withLog, withNet, after, afters}
 use Rattle.machine.specs.WellFormed.{wellFormed}
 use Rattle.machine.specs.Settled.{settled}
-use Rattle.machine.specs.Calls.{Pair, Call, Outcome, append, rollback, start, stop, connect, disconnect, master, sync, work, refused, unless, answers, validChange, appended, restOf, present, job1, job2, job3, job4, planOf, commits, planned, workOk, copyRow, decide}
+use Rattle.machine.specs.Rest.{restOf}
+use Rattle.machine.specs.LiveList.{live}
+use Rattle.machine.specs.Folding.{mayFold}
+use Rattle.machine.specs.Calls.{Pair, Call, Outcome, append, rollback, start, stop, connect, disconnect, master, sync, work, foldTo, refused, unless, answers, validChange, appended, present, job1, job2, job3, job4, planOf, commits, planned, workOk, copyRow, decide}
 use Rattle.machine.specs.Step.{outcome, step}
-use Rattle.machine.proofs.Next.{putting, performed, rows-performed, withConfiguration, withMastership, withConnections, withTarget}
+use Rattle.machine.proofs.Next.{putting, performed, rows-performed, folding, row-folding, withConfiguration, withMastership, withConnections, withTarget}
 use Rattle.machine.proofs.Cases.{and-left, and-right, CommitChange, commit-change, CommitRollback, commit-rollback, ApplyChange, apply-change, ApplyRollback, apply-rollback}
 
 -- ---- the nodes' side after its calls
@@ -77,11 +80,12 @@ module _ (s : State) (P : Reply → State → Type 0) where
   abbrev pub Does : Bool → ℕ → Bool → Plan → Type 0
   Does commits i cut p = P (record { answer = p .answer; event = p .event }) (performed commits s p i cut)
 
-  pub record Calls : Type 0 where
+  -- `Room` is what is told of an append
+  pub record Calls (Room : List Pair → Type 0) : Type 0 where
     pub refused : (a : ℕ) → 2 ≤ a → P (refusal a) s
-    pub append : (ps : List Pair) → validChange ps ≡ true → length (s .log) < 128
-        → P (record { answer = 0; event = numbered (length (s .log) + 1) }) (withLog s (s .log ++ (appended ps ∷ [])))
-    pub rollback : (i : ℕ) → 1 ≤ i → i ≤ length (s .log) → outside.mayRollBack (entryOf (s .log) i) ≡ true
+    pub append : (ps : List Pair) → validChange ps ≡ true → Room ps
+        → P (record { answer = 0; event = numbered (last (s .log) + 1) }) (withLog s (grown (s .log) (appended ps)))
+    pub rollback : (i : ℕ) → s .log .folded .0 < i → i ≤ last (s .log) → outside.mayRollBack (entryOf (s .log) i) ≡ true
         → P (refusal 0) (putting s i (outside.rolledBack (entryOf (s .log) i)))
     pub start : s .net .target .running ≡ false → P (refusal 0) (withNet s (started (s .net)))
     pub stop : P (refusal 0) (withNet s (stopped (s .net)))
@@ -91,25 +95,29 @@ module _ (s : State) (P : Reply → State → Type 0) where
     pub resign : P (refusal 0) (withNet s (resigned (s .net)))
     pub syncing : P (refusal 0) (withNet s (syncing (s .net)))
     pub synced : P (refusal 0) (withNet s (synced (s .net) (s .applied .values)))
-    pub job1 : (i : ℕ) → 1 ≤ i → i ≤ length (s .log) → (cut : Bool)
+    pub job1 : (i : ℕ) → s .log .folded .0 < i → i ≤ last (s .log) → (cut : Bool)
         → CommitChange (entryOf (s .log) i) (s .committed .head) i (Does true i cut) (s .change) (restOf s) (present (s .committed .values) (entryOf (s .log) i))
-    pub job2 : (n i : ℕ) → 1 ≤ i → i ≤ length (s .log) → (cut : Bool)
+    pub job2 : (n i : ℕ) → s .log .folded .0 < i → i ≤ last (s .log) → (cut : Bool)
         → ApplyChange (entryOf (s .log) i) (s .applied .head) i (Does false i cut) (settled s) (lineOpenFor (s .net) n)
-    pub job3 : (i : ℕ) → 1 ≤ i → i ≤ length (s .log) → (cut : Bool)
+    pub job3 : (i : ℕ) → s .log .folded .0 < i → i ≤ last (s .log) → (cut : Bool)
         → CommitRollback (entryOf (s .log) i) (s .committed .head) i (Does true i cut) (restOf s)
-    pub job4 : (n i : ℕ) → 1 ≤ i → i ≤ length (s .log) → (cut : Bool)
+    pub job4 : (n i : ℕ) → s .log .folded .0 < i → i ≤ last (s .log) → (cut : Bool)
         → ApplyRollback (entryOf (s .log) i) (s .applied .head) i (Does false i cut) (settled s) (lineOpenFor (s .net) n)
 
+  -- a fold stands apart: it keeps no entry's place
+  abbrev pub Folds : Type 0
+  Folds = (b : ℕ) → s .log .folded .0 < b → b ≤ last (s .log) → mayFold s b ≡ true → P (refusal 0) (folding s b)
+
   -- of an outcome
-  abbrev Of : Outcome → Type 0
+  abbrev pub Of : Outcome → Type 0
   Of o = P (o .reply) (afters s (o .stores))
 
-  module _ (k : Calls) where
+  module _ {Room : List Pair → Type 0} (k : Calls Room) where
     refuses : (a : ℕ) → 2 ≤ a → Of (refused a)
     unfolding afters
     refuses a n = k .refused a n
 
-    unless-of : (a : ℕ) → 2 ≤ a → (b : Bool) (o : Outcome) → (b ≡ true → Of o) → Of (unless a b o)
+    pub unless-of : (a : ℕ) → 2 ≤ a → (b : Bool) (o : Outcome) → (b ≡ true → Of o) → Of (unless a b o)
     unless-of a n true o f = f refl
     unless-of a n false o f = refuses a n
 
@@ -119,7 +127,7 @@ module _ (s : State) (P : Reply → State → Type 0) where
     node-high : (n : ℕ) → isNode n ≡ true → n ≤ 8
     node-high n e = leb-true n 8 (and-right (leb 1 n) _ e)
 
-    start-of : Of (decide s start)
+    pub start-of : Of (decide s start)
     unfolding decide afters after
     start-of = go (s .net .target .running) refl (isLast (s .net .target .id))
       where
@@ -131,7 +139,7 @@ module _ (s : State) (P : Reply → State → Type 0) where
         go false e true = refuses 9 (omega arith)
         go false e false = k .start e
 
-    stop-of : Of (decide s stop)
+    pub stop-of : Of (decide s stop)
     unfolding decide afters after
     stop-of = go (s .net .target .running)
       where
@@ -142,7 +150,7 @@ module _ (s : State) (P : Reply → State → Type 0) where
         go true = k .stop
         go false = refuses 7 (omega arith)
 
-    connect-of : (n : ℕ) → Of (decide s (connect n))
+    pub connect-of : (n : ℕ) → Of (decide s (connect n))
     unfolding decide afters after
     connect-of n = unless-of 2 (omega arith) (isNode n) _ (λ e. go e (nodeOf (s .net .connections) n .connected) (s .net .target .running) refl (isLast (nodeOf (s .net .connections) n .id)))
       where
@@ -156,7 +164,7 @@ module _ (s : State) (P : Reply → State → Type 0) where
         go e false true f false = k .connect n (node-low n e) f
         go e false false f l = refuses 8 (omega arith)
 
-    disconnect-of : (n : ℕ) → Of (decide s (disconnect n))
+    pub disconnect-of : (n : ℕ) → Of (decide s (disconnect n))
     unfolding decide afters after
     disconnect-of n = unless-of 2 (omega arith) (isNode n) _ (λ e. go (nodeOf (s .net .connections) n .connected))
       where
@@ -167,7 +175,7 @@ module _ (s : State) (P : Reply → State → Type 0) where
         go true = k .disconnect n
         go false = refuses 7 (omega arith)
 
-    master-of : (n : ℕ) → Of (decide s (master n))
+    pub master-of : (n : ℕ) → Of (decide s (master n))
     unfolding decide afters after
     master-of n =
         unless-of 2 (omega arith) (isNode n) _
@@ -188,7 +196,7 @@ module _ (s : State) (P : Reply → State → Type 0) where
         go e false l f true false = k .resign
         go e false l f false h = refuses 11 (omega arith)
 
-    sync-of : (n : ℕ) → Of (decide s (sync n))
+    pub sync-of : (n : ℕ) → Of (decide s (sync n))
     unfolding decide afters after
     sync-of n =
         unless-of 2 (omega arith) (isNode n) _
@@ -210,46 +218,74 @@ module _ (s : State) (P : Reply → State → Type 0) where
     performs : (j : ℕ) (p : Plan) (i c : ℕ) → Does (commits j) i (eqb c 1) p → Of (planned j p i c)
     performs j p i c d = subst (P (record { answer = p .answer; event = p .event })) (sym (rows-performed (commits j) s p i (eqb c 1))) d
 
-    work-of : (n j i r c : ℕ) → Of (decide s (work n j i r c))
-    unfolding decide planOf
-    work-of n j i r c =
-        unless-of 2 (omega arith) (workOk n j r c) _
-        (λ e. unless-of 5 (omega arith) (inLog s i) _
-        (λ f. unless-of 10 (omega arith) (isMaster (s .net) n) _
-        (λ g. performs j _ i c (go (leb-true 1 i (and-left (leb 1 i) _ f)) (leb-true i _ (and-right (leb 1 i) _ f)) (eqb j 1) (eqb j 2) refl (eqb j 3) refl))))
+    -- job j of node n for a number kept
+    pub job-of : (n j i r c : ℕ) → s .log .folded .0 < i → i ≤ last (s .log) → Of (planned j (planOf s n j i (eqb r 0)) i c)
+    unfolding planOf
+    job-of n j i r c p q = performs j _ i c (go (eqb j 1) (eqb j 2) refl (eqb j 3) refl)
       where
-        go : 1 ≤ i → i ≤ length (s .log) → (a b : Bool) → eqb j 2 ≡ b → (d : Bool) → eqb j 3 ≡ d
+        go : (a b : Bool) → eqb j 2 ≡ b → (d : Bool) → eqb j 3 ≡ d
             → Does (Rattle.machine.specs.Calls.sideIf a d) i (eqb c 1)
             (cond a (Rattle.machine.specs.Calls.job1 s i (eqb r 0))
             (cond b (Rattle.machine.specs.Calls.job2 s n i (eqb r 0)) (cond d (Rattle.machine.specs.Calls.job3 s i) (Rattle.machine.specs.Calls.job4 s n i (eqb r 0)))))
-        go p q true b x d y = commit-change _ _ i _ (s .change) (restOf s) _ (eqb r 0) (k .job1 i p q (eqb c 1))
-        go p q false true x false y = apply-change _ _ i _ (settled s) (lineOpenFor (s .net) n) (eqb r 0) (k .job2 n i p q (eqb c 1))
-        go p q false true x true y = absurd (omega (arith, eqb-true j 2 x, eqb-true j 3 y))
-        go p q false false x true y = commit-rollback _ _ i _ (restOf s) (k .job3 i p q (eqb c 1))
-        go p q false false x false y = apply-rollback _ _ i _ (settled s) (lineOpenFor (s .net) n) (eqb r 0) (k .job4 n i p q (eqb c 1))
+        go true b x d y = commit-change _ _ i _ (s .change) (restOf s) _ (eqb r 0) (k .job1 i p q (eqb c 1))
+        go false true x false y = apply-change _ _ i _ (settled s) (lineOpenFor (s .net) n) (eqb r 0) (k .job2 n i p q (eqb c 1))
+        go false true x true y = absurd (omega (arith, eqb-true j 2 x, eqb-true j 3 y))
+        go false false x true y = commit-rollback _ _ i _ (restOf s) (k .job3 i p q (eqb c 1))
+        go false false x false y = apply-rollback _ _ i _ (settled s) (lineOpenFor (s .net) n) (eqb r 0) (k .job4 n i p q (eqb c 1))
 
-    decide-of : (c : Call) → Of (decide s c)
+    work-of : (n j i r c : ℕ) → Of (decide s (work n j i r c))
+    unfolding decide
+    work-of n j i r c =
+        unless-of 2 (omega arith) (workOk n j r c) _
+        (λ e. unless-of 5 (omega arith) (inLog s i) _
+        (λ f. unless-of 18 (omega arith) (isKept s i) _
+        (λ u. unless-of 10 (omega arith) (isMaster (s .net) n) _ (λ g. job-of n j i r c (ltb-true _ i u) (leb-true i _ (and-right (leb 1 i) _ f))))))
+
+    append-of : (ps : List Pair) → (length (s .log .entries) < 128 → last (s .log) < 65535 → Room ps) → Of (decide s (append ps))
     unfolding decide afters after
-    decide-of (append ps) =
+    append-of ps m =
         unless-of 3 (omega arith) (validChange ps) _
-        (λ e. unless-of 4 (omega arith) (ltb (length (s .log)) 128) _ (λ f. k .append ps e (ltb-true _ _ f)))
-    decide-of (rollback i) =
+        (λ e. unless-of 4 (omega arith) (ltb (length (s .log .entries)) 128) _
+        (λ f. unless-of 9 (omega arith) (ltb (last (s .log)) 65535) _ (λ g. k .append ps e (m (ltb-true _ _ f) (ltb-true _ _ g)))))
+
+    rollback-of : (i : ℕ) → Of (decide s (rollback i))
+    unfolding decide afters after
+    rollback-of i =
         unless-of 5 (omega arith) (inLog s i) _
-        (λ e. unless-of 6 (omega arith) (outside.mayRollBack (entryOf (s .log) i)) _
-        (λ f. k .rollback i (leb-true 1 i (and-left (leb 1 i) _ e)) (leb-true i _ (and-right (leb 1 i) _ e)) f))
-    decide-of start = start-of
-    decide-of stop = stop-of
-    decide-of (connect n) = connect-of n
-    decide-of (disconnect n) = disconnect-of n
-    decide-of (master n) = master-of n
-    decide-of (sync n) = sync-of n
-    decide-of (work n j i r c) = work-of n j i r c
+        (λ e. unless-of 18 (omega arith) (isKept s i) _
+        (λ u. unless-of 6 (omega arith) (outside.mayRollBack (entryOf (s .log) i)) _
+        (λ f. k .rollback i (ltb-true _ i u) (leb-true i _ (and-right (leb 1 i) _ e)) f)))
+
+    fold-of : Folds → (b : ℕ) → Of (decide s (foldTo b))
+    unfolding decide
+    fold-of w b =
+        unless-of 5 (omega arith) (isKept s b && leb b (last (s .log))) _
+        (λ e. unless-of 17 (omega arith) (mayFold s b) _
+        (λ f. subst (P (refusal 0)) (sym (row-folding s b))
+        (w b (ltb-true _ b (and-left (isKept s b) _ e)) (leb-true b _ (and-right (isKept s b) _ e)) f)))
+
+  -- there is room for one more
+  abbrev pub HasRoom : List Pair → Type 0
+  HasRoom ps = (length (s .log .entries) < 128) × (last (s .log) < 65535)
+
+  decide-of : Calls HasRoom → Folds → (c : Call) → Of (decide s c)
+  decide-of k w (append ps) = append-of k ps (λ x y. (x, y))
+  decide-of k w (rollback i) = rollback-of k i
+  decide-of k w start = start-of k
+  decide-of k w stop = stop-of k
+  decide-of k w (connect n) = connect-of k n
+  decide-of k w (disconnect n) = disconnect-of k n
+  decide-of k w (master n) = master-of k n
+  decide-of k w (sync n) = sync-of k n
+  decide-of k w (work n j i r c) = work-of k n j i r c
+  decide-of k w (foldTo b) = fold-of k w b
 
   -- any call, in any state: where it is not well-formed, refusal 1
-  pub by-call : (wellFormed s ≡ false → P (refusal 1) s) → (wellFormed s ≡ true → Calls) → (c : Call) → P (step s c .reply) (step s c .next)
+  pub by-call : (wellFormed s ≡ false → P (refusal 1) s) → (wellFormed s ≡ true → Calls HasRoom) → (wellFormed s ≡ true → Folds) → (c : Call)
+      → P (step s c .reply) (step s c .next)
   unfolding step outcome afters
-  by-call r k c = go (wellFormed s) refl
+  by-call r k w c = go (wellFormed s) refl
     where
       go : (b : Bool) → wellFormed s ≡ b → Of (unless 1 b (decide s c))
-      go true e = decide-of (k e) c
+      go true e = decide-of (k e) (w e) c
       go false e = r e

@@ -72,10 +72,10 @@ module _ (t : Transaction) (h : Head) (i : ℕ) (P : Plan → Type 0) where
   module _ (c : Number) (rest : Bool) (present : List ℕ) where
     pub record CommitChange : Type 0 where
       pub wait : P (refuse 11 t h)
-      pub full : t .change .commit ≡ InProgress → i ≡ suc (c .0) → 256 ≤ h .ordinal .0 → P (refuse 9 t h)
+      pub full : t .change .commit ≡ InProgress → i ≡ suc (c .0) → 131070 ≤ h .ordinal .0 → P (refuse 9 t h)
       pub begin : t .change .commit ≡ Pending → i ≡ suc (c .0) → h .target .0 ≡ i → P (job1.plans change.Begin t h (num i) (ord 0) present)
       pub aim : t .change .commit ≡ Pending → i ≡ suc (c .0) → rest ≡ true → P (job1.plans change.Aim t h (num i) (ord 0) present)
-      pub land : t .change .commit ≡ InProgress → i ≡ suc (c .0) → h .ordinal .0 < 256 → (o : Ordinal) → o .0 ≡ suc (h .ordinal .0)
+      pub land : t .change .commit ≡ InProgress → i ≡ suc (c .0) → h .ordinal .0 < 131070 → (o : Ordinal) → o .0 ≡ suc (h .ordinal .0)
           → P (job1.plans change.Land t h (num i) o present)
       pub reject : t .change .commit ≡ InProgress → i ≡ suc (c .0) → P (job1.plans change.Reject t h (num i) (ord 0) present)
       pub finish : t .change .commit ≡ InProgress → c .0 ≡ i → P (job1.plans change.Finish t h (num i) (ord 0) present)
@@ -111,10 +111,10 @@ module _ (t : Transaction) (h : Head) (i : ℕ) (P : Plan → Type 0) where
   module _ (rest : Bool) where
     pub record CommitRollback : Type 0 where
       pub wait : P (refuse 11 t h)
-      pub full : t .rollback .commit ≡ InProgress → h .revision .0 ≡ i → 256 ≤ h .ordinal .0 → P (refuse 9 t h)
+      pub full : t .rollback .commit ≡ InProgress → h .revision .0 ≡ i → 131070 ≤ h .ordinal .0 → P (refuse 9 t h)
       pub begin : t .rollback .commit ≡ Pending → h .revision .0 ≡ i → h .target .0 ≡ t .index .0 → P (job3.plans rollback.Begin t h (num i) (ord 0))
       pub aim : t .rollback .commit ≡ Pending → h .revision .0 ≡ i → rest ≡ true → P (job3.plans rollback.Aim t h (num i) (ord 0))
-      pub land : t .rollback .commit ≡ InProgress → h .revision .0 ≡ i → h .ordinal .0 < 256 → (o : Ordinal) → o .0 ≡ suc (h .ordinal .0)
+      pub land : t .rollback .commit ≡ InProgress → h .revision .0 ≡ i → h .ordinal .0 < 131070 → (o : Ordinal) → o .0 ≡ suc (h .ordinal .0)
           → P (job3.plans rollback.Land t h (num i) o)
       pub finish : t .rollback .commit ≡ InProgress → (h .revision .0 ≡ i → ⊥) → h .revision .0 ≡ t .index .0 → P (job3.plans rollback.Finish t h (num i) (ord 0))
 

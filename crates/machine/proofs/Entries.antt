@@ -1,19 +1,22 @@
 -- Laws of entries and of values: a fact of every entry after one is stored or appended; the pairs laid over values.
 -- Assumes nothing.
-use Prim.Native.Nat.{ℕ, zero, suc, _+_, _≤_, _<_}
+use Prim.Native.Nat.{ℕ, zero, suc, _+_, _-_, _≤_, _<_}
 use native.Mathlib.Omega.{arith}
 use mathlib.Core.List.{List, [], _∷_, _++_}
 use mathlib.Core.Bool.{Bool, true, false, _&&_}
-use mathlib.Core.Path.{_≡_, refl, _∙_}
-use lib.Dec.{ltb}
-use lib.ListN.{length, getD, set, length-append, length-set}
-use lib.Seq.{getD-set-same}
+use mathlib.Core.Path.{_≡_, refl, ap, _∙_}
+use lib.Dec.{ltb, leb}
+use lib.ListN.{length, getD, set, drop, length-drop, length-append, length-set, List·getD-eq-default}
+use lib.Seq.{getD-set-same, getD-drop}
+use borrow.Author.Tests.{leb-true, leb-false}
 use Rattle.kinds.specs.declared.Transaction.{Transaction}
 use Rattle.rules.specs.declared.Lay.{Lay}
 use Rattle.rules.specs.declared.Lay.the-variants.{Nothing, Values, Kept}
-use Rattle.machine.specs.State.{blank, entryOf, putEntry}
-use Rattle.machine.specs.WellFormed.{allFrom}
-use Rattle.machine.proofs.Next.{laying, over, laidOver}
+use Rattle.machine.specs.State.{Log, unfolded, blank, placeOf, putPlace, entryOf, putEntry, grown, foldedTo, last}
+use Rattle.machine.specs.Stores.{withBase}
+use Rattle.kinds.specs.Numbers.{num}
+use Rattle.machine.specs.WellFormed.{allFrom, allEntries}
+use Rattle.machine.proofs.Next.{laying, over, laidOver, layingIf, baseOver}
 use Rattle.machine.proofs.Cases.{and-left, and-right}
 
 -- ---- what holds of every element, and of the new one, holds of every element after it is stored
@@ -24,11 +27,11 @@ set-all P (y ∷ ys) zero a d h x (suc k) = h (suc k)
 set-all P (y ∷ ys) (suc i) a d h x zero = h zero
 set-all P (y ∷ ys) (suc i) a d h x (suc k) = set-all (λ k. P (suc k)) ys i a d (λ k. h (suc k)) x k
 
-pub put-all : (P : ℕ → Transaction → Type 0) (l : List Transaction) (i : ℕ) (t : Transaction) → ((k : ℕ) → P k (entryOf l k)) → P i t
-    → (k : ℕ) → P k (entryOf (putEntry l i t) k)
-put-all P l zero t h x k = h k
-put-all P l (suc i) t h x zero = h zero
-put-all P l (suc i) t h x (suc k) = set-all (λ k. P (suc k)) l i t blank (λ k. h (suc k)) x k
+put-place : (P : ℕ → Transaction → Type 0) (ts : List Transaction) (i : ℕ) (t : Transaction) → ((k : ℕ) → P k (placeOf ts k)) → P i t
+    → (k : ℕ) → P k (placeOf (putPlace ts i t) k)
+put-place P ts zero t h x k = h k
+put-place P ts (suc i) t h x zero = h zero
+put-place P ts (suc i) t h x (suc k) = set-all (λ k. P (suc k)) ts i t blank (λ k. h (suc k)) x k
 
 snoc-all : {A : Type 0} (P : ℕ → A → Type 0) (l : List A) (a d : A) → ((k : ℕ) → P k (getD l k d)) → P (length l) a → (k : ℕ) → P k (getD (l ++ (a ∷ [])) k d)
 snoc-all P [] a d h x zero = x
@@ -36,32 +39,115 @@ snoc-all P [] a d h x (suc k) = h (suc k)
 snoc-all P (y ∷ ys) a d h x zero = h zero
 snoc-all P (y ∷ ys) a d h x (suc k) = snoc-all (λ k. P (suc k)) ys a d (λ k. h (suc k)) x k
 
-pub add-all : (P : ℕ → Transaction → Type 0) (l : List Transaction) (t : Transaction) → ((k : ℕ) → P k (entryOf l k)) → P (suc (length l)) t
-    → (k : ℕ) → P k (entryOf (l ++ (t ∷ [])) k)
-add-all P l t h x zero = h zero
-add-all P l t h x (suc k) = snoc-all (λ k. P (suc k)) l t blank (λ k. h (suc k)) x k
+add-place : (P : ℕ → Transaction → Type 0) (ts : List Transaction) (t : Transaction) → ((k : ℕ) → P k (placeOf ts k)) → P (suc (length ts)) t
+    → (k : ℕ) → P k (placeOf (ts ++ (t ∷ [])) k)
+add-place P ts t h x zero = h zero
+add-place P ts t h x (suc k) = snoc-all (λ k. P (suc k)) ts t blank (λ k. h (suc k)) x k
 
-pub none-all : (P : ℕ → Transaction → Type 0) → ((k : ℕ) → P k blank) → (k : ℕ) → P k (entryOf [] k)
-none-all P h zero = h zero
-none-all P h (suc k) = h (suc k)
+-- ---- an entry by its number, with b folded: place j is number b + j
+module _ (P : ℕ → Transaction → Type 0) (b : ℕ) where
+  -- of every number, from the folded ones and the places
+  by-place : (ts : List Transaction) → ((k : ℕ) → k ≤ b → P k blank) → ((j : ℕ) → 1 ≤ j → P (b + j) (placeOf ts j)) → (k : ℕ) → P k (placeOf ts (k - b))
+  by-place ts f h k = go (leb k b) refl
+    where
+      go : (x : Bool) → leb k b ≡ x → P k (placeOf ts (k - b))
+      go true e = let z : k - b ≡ 0 = omega (arith, leb-true k b e) in rw z (f k (leb-true k b e))
+      go false e = let z : b + (k - b) ≡ k = omega (arith, leb-false k b e) in rw z at (h (k - b) (omega (arith, leb-false k b e)))
 
-pub length-put : (l : List Transaction) (i : ℕ) (t : Transaction) → length (putEntry l i t) ≡ length l
-length-put l zero t = refl
-length-put l (suc i) t = length-set l i t
+  at-place : (ts : List Transaction) → ((k : ℕ) → P k (placeOf ts (k - b))) → (j : ℕ) → P (b + j) (placeOf ts j)
+  at-place ts h j = let z : b + j - b ≡ j = omega arith in rw z at (h (b + j))
 
-pub entry-put : (l : List Transaction) (i : ℕ) (t : Transaction) → 1 ≤ i → i ≤ length l → entryOf (putEntry l i t) i ≡ t
-entry-put l zero t p q = absurd (omega arith)
-entry-put l (suc i) t p q = getD-set-same l i t blank q
+  front : (ts : List Transaction) → ((k : ℕ) → P k (placeOf ts (k - b))) → (k : ℕ) → k ≤ b → P k blank
+  front ts h k e = let z : k - b ≡ 0 = omega arith in rw z at (h k)
 
-pub length-add : (l : List Transaction) (t : Transaction) → length (l ++ (t ∷ [])) ≡ suc (length l)
-length-add l t = length-append l (t ∷ []) ∙ (let z : length l + 1 ≡ suc (length l) = omega arith in z)
+pub put-all : (P : ℕ → Transaction → Type 0) (l : Log) (i : ℕ) (t : Transaction) → ((k : ℕ) → P k (entryOf l k)) → P i t
+    → (k : ℕ) → P k (entryOf (putEntry l i t) k)
+put-all P l i t h x = go (leb i (l .folded .0)) refl
+  where
+    go : (y : Bool) → leb i (l .folded .0) ≡ y → (k : ℕ) → P k (entryOf (putEntry l i t) k)
+    go true e = let z : i - l .folded .0 ≡ 0 = omega (arith, leb-true i (l .folded .0) e) in rw z h
+    go false e =
+        let b = l .folded .0 in
+        let z : b + (i - b) ≡ i = omega (arith, leb-false i b e) in
+        by-place P b _ (front P b (l .entries) h) (λ j p. put-place (λ j. P (b + j)) (l .entries) (i - b) t (at-place P b (l .entries) h) (rw z x) j)
 
-last : (l : List Transaction) (t : Transaction) → getD (l ++ (t ∷ [])) (length l) blank ≡ t
-last [] t = refl
-last (x ∷ xs) t = last xs t
+pub add-all : (P : ℕ → Transaction → Type 0) (l : Log) (t : Transaction) → ((k : ℕ) → P k (entryOf l k)) → P (suc (last l)) t
+    → (k : ℕ) → P k (entryOf (grown l t) k)
+add-all P l t h x =
+    let b = l .folded .0 in
+    let z : b + suc (length (l .entries)) ≡ suc (last l) = omega arith in
+    by-place P b _ (front P b (l .entries) h) (λ j p. add-place (λ j. P (b + j)) (l .entries) t (at-place P b (l .entries) h) (rw z x) j)
 
-pub entry-add : (l : List Transaction) (t : Transaction) → entryOf (l ++ (t ∷ [])) (suc (length l)) ≡ t
-entry-add l t = last l t
+pub none-all : (P : ℕ → Transaction → Type 0) → ((k : ℕ) → P k blank) → (k : ℕ) → P k (entryOf (unfolded []) k)
+none-all P h = by-place P 0 [] (λ k b. h k) (λ j b. let z : 0 + j ≡ j = omega arith in rw z (none j))
+  where
+    none : (j : ℕ) → P j (placeOf [] j)
+    none zero = h zero
+    none (suc j) = h (suc j)
+
+pub length-place : (ts : List Transaction) (i : ℕ) (t : Transaction) → length (putPlace ts i t) ≡ length ts
+length-place ts zero t = refl
+length-place ts (suc i) t = length-set ts i t
+
+pub last-put : (l : Log) (i : ℕ) (t : Transaction) → last (putEntry l i t) ≡ last l
+last-put l i t = ap (λ n. l .folded .0 + n) (length-place (l .entries) (i - l .folded .0) t)
+
+pub entry-put : (l : Log) (i : ℕ) (t : Transaction) → l .folded .0 < i → i ≤ last l → entryOf (putEntry l i t) i ≡ t
+entry-put l i t p q = go (i - l .folded .0) (omega arith) (omega arith)
+  where
+    go : (j : ℕ) → 1 ≤ j → j ≤ length (l .entries) → placeOf (putPlace (l .entries) j t) j ≡ t
+    go zero p q = absurd (omega arith)
+    go (suc j) p q = getD-set-same (l .entries) j t blank q
+
+pub length-add : (ts : List Transaction) (t : Transaction) → length (ts ++ (t ∷ [])) ≡ suc (length ts)
+length-add ts t = length-append ts (t ∷ []) ∙ (let z : length ts + 1 ≡ suc (length ts) = omega arith in z)
+
+pub last-add : (l : Log) (t : Transaction) → last (grown l t) ≡ suc (last l)
+last-add l t = let e = length-add (l .entries) t in omega (arith, e)
+
+-- an entry is blank but where it is kept
+pub entry-cases : (P : Transaction → Type 0) (l : Log) (k : ℕ) → P blank → (l .folded .0 < k → k ≤ last l → P (entryOf l k)) → P (entryOf l k)
+entry-cases P l k h f = go (k - l .folded .0) refl (leb k (last l)) refl
+  where
+    past : (j : ℕ) → length (l .entries) < j → placeOf (l .entries) j ≡ blank
+    past zero p = refl
+    past (suc j) p = List·getD-eq-default (l .entries) blank (omega arith)
+
+    go : (j : ℕ) → k - l .folded .0 ≡ j → (b : Bool) → leb k (last l) ≡ b → P (entryOf l k)
+    go zero e b x = rw e h
+    go (suc j) e true x = f (omega arith) (leb-true k (last l) x)
+    go (suc j) e false x = rw (past (k - l .folded .0) (omega (arith, leb-false k (last l) x))) h
+
+snoc-last : (ts : List Transaction) (t : Transaction) → getD (ts ++ (t ∷ [])) (length ts) blank ≡ t
+snoc-last [] t = refl
+snoc-last (x ∷ xs) t = snoc-last xs t
+
+pub entry-add : (l : Log) (t : Transaction) → entryOf (grown l t) (suc (last l)) ≡ t
+entry-add l t = let z : suc (last l) - l .folded .0 ≡ suc (length (l .entries)) = omega arith in rw z (snoc-last (l .entries) t)
+
+-- nothing stands at 0, nor past the last number
+pub entry-zero : (l : Log) → entryOf l 0 ≡ blank
+entry-zero l = let z : 0 - l .folded .0 ≡ 0 = omega arith in rw z refl
+
+pub entry-folded : (l : Log) (k : ℕ) → k ≤ l .folded .0 → entryOf l k ≡ blank
+entry-folded l k b = entry-cases (λ t. t ≡ blank) l k refl (λ p q. absurd (omega arith))
+
+pub entry-past : (l : Log) → entryOf l (suc (last l)) ≡ blank
+entry-past l = entry-cases (λ t. t ≡ blank) l (suc (last l)) refl (λ p q. absurd (omega arith))
+
+-- a fold up to b keeps the entries after b, by their numbers
+pub entry-fold : (l : Log) (vs : List ℕ) (b : ℕ) → l .folded .0 ≤ b → (k : ℕ) → b < k → entryOf (foldedTo (withBase l vs) (num b)) k ≡ entryOf l k
+entry-fold l vs b p k q = go (k - b) refl (k - l .folded .0) refl
+  where
+    go : (j : ℕ) → k - b ≡ j → (i : ℕ) → k - l .folded .0 ≡ i → placeOf (drop (b - l .folded .0) (l .entries)) j ≡ placeOf (l .entries) i
+    go zero x i y = absurd (omega arith)
+    go (suc j) x zero y = absurd (omega arith)
+    go (suc j) x (suc i) y =
+        let z : b - l .folded .0 + j ≡ i = omega arith in
+        getD-drop (b - l .folded .0) (l .entries) j blank ∙ ap (λ n. getD (l .entries) n blank) z
+
+pub last-fold : (l : Log) (vs : List ℕ) (b : ℕ) → l .folded .0 ≤ b → b ≤ last l → last (foldedTo (withBase l vs) (num b)) ≡ last l
+last-fold l vs b p q = let e = length-drop (b - l .folded .0) (l .entries) in omega (arith, e)
 
 -- ---- a test of every entry
 pub all-true : (p : ℕ → Transaction → Bool) (k : ℕ) (l : List Transaction) → allFrom p k l ≡ true → (j : ℕ) → j < length l → p (k + j) (getD l j blank) ≡ true
@@ -80,6 +166,19 @@ true-all p k (t ∷ ts) h =
     and-both (p k t) _ (let z : k ≡ k + 0 = omega arith in rw z (h 0 (omega arith)))
     (true-all p (k + 1) ts (λ j b. let z : k + 1 + j ≡ k + suc j = omega arith in rw z (h (suc j) (omega arith))))
 
+-- of every entry kept, by its number
+pub entries-true : (p : ℕ → Transaction → Bool) (l : Log) → allEntries p l ≡ true → (k : ℕ) → l .folded .0 < k → k ≤ last l → p k (entryOf l k) ≡ true
+entries-true p l e k a b = go (k - l .folded .0) (omega arith)
+  where
+    go : (j : ℕ) → l .folded .0 + j ≡ k → p k (placeOf (l .entries) j) ≡ true
+    go zero z = absurd (omega arith)
+    go (suc j) z = let y : suc (l .folded .0) + j ≡ k = omega arith in rw y at (all-true p (suc (l .folded .0)) (l .entries) e j (omega arith))
+
+pub true-entries : (p : ℕ → Transaction → Bool) (l : Log) → ((k : ℕ) → l .folded .0 < k → k ≤ last l → p k (entryOf l k) ≡ true) → allEntries p l ≡ true
+true-entries p l h =
+    true-all p (suc (l .folded .0)) (l .entries)
+    (λ j b. let z : suc (l .folded .0) + j - l .folded .0 ≡ suc j = omega arith in rw z at (h (suc (l .folded .0) + j) (omega arith) (omega arith)))
+
 -- ---- values keep their number
 length-laying : (b : Bool) (l : List ℕ) (p v : ℕ) → length (laying b l p v) ≡ length l
 length-laying true l p v = length-set l p v
@@ -97,3 +196,12 @@ pub length-laid : (v : Lay) (t : Transaction) (l : List ℕ) → length (laidOve
 length-laid Nothing t l = refl
 length-laid Values t l = length-over (t .paths) (t .values) (t .count) l
 length-laid Kept t l = length-over (t .paths) (t .kept) (t .count) l
+
+length-if : (c : Bool) (t : Transaction) (vs : List ℕ) → length (layingIf c t vs) ≡ length vs
+length-if true t vs = length-over (t .paths) (t .values) (t .count) vs
+length-if false t vs = refl
+
+pub length-base : (l : Log) (b : ℕ) (ks vs : List ℕ) → length (baseOver l b ks vs) ≡ length vs
+unfolding baseOver
+length-base l b [] vs = refl
+length-base l b (k ∷ ks) vs = length-if (leb k b) (entryOf l k) (baseOver l b ks vs) ∙ length-base l b ks vs

@@ -1,12 +1,12 @@
 -- What every call keeps, in any state, reached or not: a well-formed state stays well-formed, and a refused call leaves
 -- the state as it is and gives no event. Assumes nothing.
-use Prim.Native.Nat.{ℕ, zero, suc, _+_, _≤_, _<_}
+use Prim.Native.Nat.{ℕ, zero, suc, _+_, _-_, _≤_, _<_}
 use native.Mathlib.Omega.{arith}
-use mathlib.Core.List.{List, [], _∷_, _++_, map}
+use mathlib.Core.List.{List, [], _∷_, map}
 use mathlib.Core.Bool.{Bool, true, false, _&&_}
 use mathlib.Core.Path.{_≡_, refl, _∙_}
 use lib.Dec.{eqb, ltb, leb}
-use lib.ListN.{length, length-set, length-map}
+use lib.ListN.{length, drop, length-set, length-map, length-drop}
 use borrow.Author.Tests.{eqb-true, leb-true, leb-false, ltb-true, eq-eqb, le-leb, lt-ltb}
 use Rattle.kinds.specs.declared.Transaction.{Transaction}
 use Rattle.kinds.specs.declared.Head.{Head}
@@ -32,15 +32,16 @@ use Rattle.rules.specs.ApplyChange as job2
 use Rattle.rules.specs.ApplyRollback as job4
 use Rattle.rules.specs.CommitChange.{beginning}
 use Rattle.rules.specs.Outside as outside
-use Rattle.machine.specs.State.{State, Net, fresh, entryOf, putEntry, putNode}
+use Rattle.machine.specs.State.{State, Net, Log, fresh, entryOf, putEntry, grown, last, putNode}
 use Rattle.machine.specs.Stores.{withLog, withNet}
-use Rattle.machine.specs.WellFormed.{allFrom, pairsOk, entryOk, headOk, sizesOk, headsOk, wellFormed}
+use Rattle.machine.specs.WellFormed.{allFrom, allEntries, pairsOk, entryOk, headOk, sizesOk, headsOk, logOk, wellFormed}
+use Rattle.machine.specs.LiveList.{live}
 use Rattle.machine.specs.Calls.{Pair, Call, validChange, appended, pathOf, valuesOk, present}
 use Rattle.machine.specs.Step.{step, run}
-use Rattle.machine.proofs.Next.{putting, changeIf, heading, performedBy}
+use Rattle.machine.proofs.Next.{putting, changeIf, heading, performedBy, layingIf, baseOver, folding}
 use Rattle.machine.proofs.Cases.{and-left, and-right}
-use Rattle.machine.proofs.Entries.{put-all, add-all, length-put, length-add, entry-add, all-true, true-all, and-both, length-laid}
-use Rattle.machine.proofs.ByCall.{Calls, by-call, syncing, synced}
+use Rattle.machine.proofs.Entries.{put-all, add-all, last-fold, entry-fold, length-base, length-place, last-put, length-add, last-add, entry-add, entries-true, true-entries, and-both, length-laid}
+use Rattle.machine.proofs.ByCall.{Calls, HasRoom, by-call, syncing, synced}
 
 -- ---- a refusal changes nothing, and 1 is for a state that is not well-formed
 pub record Answered (s : State) (r : Reply) (next : State) : Type 0 where
@@ -110,6 +111,7 @@ answered s c =
         push = λ a b d. accepts s _ _ refl;
       };
     })
+    (λ w b p q e. accepts s _ _ refl)
     c
 
 pub refused-changes-nothing : (s : State) (c : Call) → (step s c .reply .answer ≡ 0 → ⊥) → (step s c .next ≡ s) × (step s c .reply .event ≡ noEvent)
@@ -122,15 +124,15 @@ refusal-one s c = answered s c .one
 pub record EntryFormed (i : ℕ) (t : Transaction) : Type 0 where
   pub phase : (1 ≤ t .phase) × (t .phase ≤ 2)
   pub below : t .index .0 < i
-  pub change : t .change .ordinal .0 ≤ 256
-  pub rollback : t .rollback .ordinal .0 ≤ 256
+  pub change : t .change .ordinal .0 ≤ 131070
+  pub rollback : t .rollback .ordinal .0 ≤ 131070
   pub pairs : pairsOk (t .count) (t .paths) ≡ true
 
 pub record HeadFormed (n : ℕ) (h : Head) : Type 0 where
   pub index : h .index .0 ≤ n
   pub target : h .target .0 ≤ n
   pub revision : h .revision .0 ≤ n
-  pub ordinal : h .ordinal .0 ≤ 256
+  pub ordinal : h .ordinal .0 ≤ 131070
 
 -- Committed's change c against its revision and the log's length
 pub record ChangeFormed (n c : ℕ) (h : Head) : Type 0 where
@@ -142,12 +144,17 @@ pub record NetFormed (w : Net) : Type 0 where
   pub values : length (w .values) ≡ 32
   pub connections : length (w .connections) ≡ 8
 
+pub record LogFormed (l : Log) : Type 0 where
+  pub size : length (l .entries) ≤ 128
+  pub last : last l ≤ 65535
+  pub base : length (l .base) ≡ 32
+
 pub record Formed (s : State) : Type 0 where
-  pub size : length (s .log) ≤ 128
-  pub entries : (k : ℕ) → 1 ≤ k → k ≤ length (s .log) → EntryFormed k (entryOf (s .log) k)
-  pub committed : HeadFormed (length (s .log)) (s .committed .head)
-  pub change : ChangeFormed (length (s .log)) (s .change .0) (s .committed .head)
-  pub applied : HeadFormed (length (s .log)) (s .applied .head)
+  pub log : LogFormed (s .log)
+  pub entries : (k : ℕ) → s .log .folded .0 < k → k ≤ last (s .log) → EntryFormed k (entryOf (s .log) k)
+  pub committed : HeadFormed (last (s .log)) (s .committed .head)
+  pub change : ChangeFormed (last (s .log)) (s .change .0) (s .committed .head)
+  pub applied : HeadFormed (last (s .log)) (s .applied .head)
   pub committedValues : length (s .committed .values) ≡ 32
   pub appliedValues : length (s .applied .values) ≡ 32
   pub net : NetFormed (s .net)
@@ -158,8 +165,8 @@ entry-formed i t e =
     let p = leb 1 (t .phase) in
     let q = leb (t .phase) 2 in
     let b = ltb (t .index .0) i in
-    let c = leb (t .change .ordinal .0) 256 in
-    let r = leb (t .rollback .ordinal .0) 256 in
+    let c = leb (t .change .ordinal .0) 131070 in
+    let r = leb (t .rollback .ordinal .0) 131070 in
     let o = pairsOk (t .count) (t .paths) in
     let f : (p && q) ≡ true = and-left (p && q) _ e in
     let g : (b && ((c && r) && o)) ≡ true = and-right (p && q) _ e in
@@ -185,7 +192,7 @@ head-formed n h e =
     let i = leb (h .index .0) n in
     let t = leb (h .target .0) n in
     let r = leb (h .revision .0) n in
-    let o = leb (h .ordinal .0) 256 in
+    let o = leb (h .ordinal .0) 131070 in
     let f : (i && (t && r)) ≡ true = and-left (i && (t && r)) o e in
     let g : (t && r) ≡ true = and-right i _ f in
     record {
@@ -203,10 +210,11 @@ formed-head n h f =
 pub formed : (s : State) → wellFormed s ≡ true → Formed s
 unfolding wellFormed
 formed s e =
-    let n = length (s .log) in
-    let l = leb n 128 in
+    let n = last (s .log) in
+    let l = logOk (s .log) in
     let hs = headsOk s n in
-    let es = allFrom entryOk 1 (s .log) in
+    let es = allEntries entryOk (s .log) in
+    let k : l ≡ true = and-left l _ e in
     let a : (hs && (es && sizesOk s)) ≡ true = and-right l _ e in
     let b : (es && sizesOk s) ≡ true = and-right hs _ a in
     let hh = headOk n (s .committed .head) && headOk n (s .applied .head) in
@@ -217,12 +225,18 @@ formed s e =
     let h : ch ≡ true = and-left ch _ g in
     let vs = eqb (length (s .committed .values)) 32 && eqb (length (s .applied .values)) 32 in
     let z : sizesOk s ≡ true = and-right es _ b in
-    let ns = eqb (length (s .net .values)) 32 && eqb (length (s .net .connections)) 8 in
+    let bs = eqb (length (s .log .base)) 32 && eqb (length (s .net .connections)) 8 in
+    let ns = eqb (length (s .net .values)) 32 && bs in
     let y : vs ≡ true = and-left vs ns z in
     let x : ns ≡ true = and-right vs ns z in
+    let w : bs ≡ true = and-right (eqb (length (s .net .values)) 32) bs x in
     record {
-      size = leb-true _ _ (and-left l _ e);
-      entries = entries (and-left es _ b);
+      log = record {
+        size = leb-true _ _ (and-left (leb (length (s .log .entries)) 128) _ k);
+        last = leb-true _ _ (and-right (leb (length (s .log .entries)) 128) _ k);
+        base = eqb-true _ _ (and-left (eqb (length (s .log .base)) 32) _ w);
+      };
+      entries = λ j p q. entry-formed j _ (entries-true entryOk (s .log) (and-left es _ b) j p q);
       committed = head-formed n (s .committed .head) (and-left (headOk n (s .committed .head)) _ d);
       change = record { inLog = leb-true _ _ (and-left (leb (s .change .0) n) _ h); behind = leb-true _ _ (and-right (leb (s .change .0) n) _ h) };
       applied = head-formed n (s .applied .head) (and-right (headOk n (s .committed .head)) _ d);
@@ -231,34 +245,29 @@ formed s e =
       net = record {
         master = leb-true _ _ (and-right ch _ g);
         values = eqb-true _ _ (and-left (eqb (length (s .net .values)) 32) _ x);
-        connections = eqb-true _ _ (and-right (eqb (length (s .net .values)) 32) _ x);
+        connections = eqb-true _ _ (and-right (eqb (length (s .log .base)) 32) _ w);
       };
     }
-  where
-    entries : allFrom entryOk 1 (s .log) ≡ true → (k : ℕ) → 1 ≤ k → k ≤ length (s .log) → EntryFormed k (entryOf (s .log) k)
-    entries e zero p q = absurd (omega arith)
-    entries e (suc k) p q = entry-formed (suc k) _ (let z : suc k ≡ 1 + k = omega arith in rw z (all-true entryOk 1 (s .log) e k q))
 
 pub well-formed : (s : State) → Formed s → wellFormed s ≡ true
 unfolding wellFormed
 well-formed s f =
-    and-both _ _ (le-leb _ _ (f .size))
+    and-both _ _ (and-both _ _ (le-leb _ _ (f .log .size)) (le-leb _ _ (f .log .last)))
     (and-both _ _
     (and-both _ _ (and-both _ _ (formed-head _ _ (f .committed)) (formed-head _ _ (f .applied)))
     (and-both _ _ (and-both _ _ (le-leb _ _ (f .change .inLog)) (le-leb _ _ (f .change .behind))) (le-leb _ _ (f .net .master))))
-    (and-both _ _
-    (true-all entryOk 1 (s .log) (λ j b. let z : 1 + j ≡ suc j = omega arith in rw z (formed-entry (suc j) _ (f .entries (suc j) (omega arith) b))))
+    (and-both _ _ (true-entries entryOk (s .log) (λ k p q. formed-entry k _ (f .entries k p q)))
     (and-both _ _ (and-both _ _ (eq-eqb _ _ (f .committedValues)) (eq-eqb _ _ (f .appliedValues)))
-    (and-both _ _ (eq-eqb _ _ (f .net .values)) (eq-eqb _ _ (f .net .connections))))))
+    (and-both _ _ (eq-eqb _ _ (f .net .values)) (and-both _ _ (eq-eqb _ _ (f .log .base)) (eq-eqb _ _ (f .net .connections)))))))
 
 -- ---- the stores of a plan
 module _ (s : State) (f : Formed s) where
   put-formed : (i : ℕ) (t : Transaction) → EntryFormed i t → Formed (putting s i t)
   put-formed i t e =
-      let n : length (putEntry (s .log) i t) ≡ length (s .log) = length-put (s .log) i t in
+      let n : last (putEntry (s .log) i t) ≡ last (s .log) = last-put (s .log) i t in
       record {
-        size = rw n (f .size);
-        entries = rw n (put-all (λ k u. 1 ≤ k → k ≤ length (s .log) → EntryFormed k u) (s .log) i t (f .entries) (λ a b. e));
+        log = record { size = rw (length-place (s .log .entries) (i - s .log .folded .0) t) (f .log .size); last = rw n (f .log .last); base = f .log .base };
+        entries = rw n (put-all (λ k u. s .log .folded .0 < k → k ≤ last (s .log) → EntryFormed k u) (s .log) i t (f .entries) (λ a b. e));
         committed = rw n (f .committed);
         change = rw n (f .change);
         applied = rw n (f .applied);
@@ -267,11 +276,11 @@ module _ (s : State) (f : Formed s) where
         net = f .net;
       }
 
-  committed-formed : (p : Plan) (i : ℕ) → HeadFormed (length (s .log)) (p .head) → ChangeFormed (length (s .log)) (changeIf (p .change) i (s .change) .0) (p .head)
+  committed-formed : (p : Plan) (i : ℕ) → HeadFormed (last (s .log)) (p .head) → ChangeFormed (last (s .log)) (changeIf (p .change) i (s .change) .0) (p .head)
       → Formed (heading true s p i)
   committed-formed p i h c =
       record {
-        size = f .size;
+        log = f .log;
         entries = f .entries;
         committed = h;
         change = c;
@@ -281,10 +290,10 @@ module _ (s : State) (f : Formed s) where
         net = f .net;
       }
 
-  applied-formed : (p : Plan) (i : ℕ) → HeadFormed (length (s .log)) (p .head) → Formed (heading false s p i)
+  applied-formed : (p : Plan) (i : ℕ) → HeadFormed (last (s .log)) (p .head) → Formed (heading false s p i)
   applied-formed p i h =
       record {
-        size = f .size;
+        log = f .log;
         entries = f .entries;
         committed = f .committed;
         change = f .change;
@@ -299,26 +308,26 @@ module _ (s : State) (f : Formed s) where
       }
 
 module _ (s : State) (f : Formed s) (i : ℕ) where
-  commit-formed : (o : Order) (p : Plan) (cut : Bool) → EntryFormed i (p .entry) → HeadFormed (length (s .log)) (p .head)
-      → ChangeFormed (length (s .log)) (changeIf (p .change) i (s .change) .0) (p .head)
+  commit-formed : (o : Order) (p : Plan) (cut : Bool) → EntryFormed i (p .entry) → HeadFormed (last (s .log)) (p .head)
+      → ChangeFormed (last (s .log)) (changeIf (p .change) i (s .change) .0) (p .head)
       → Formed (performedBy o true s p i cut)
   commit-formed Neither p cut e h c = f
   commit-formed EntryOnly p cut e h c = put-formed s f i (p .entry) e
   commit-formed HeadOnly p cut e h c = committed-formed s f p i h c
   commit-formed EntryThenHead p true e h c = put-formed s f i (p .entry) e
   commit-formed EntryThenHead p false e h c =
-      let n : length (putEntry (s .log) i (p .entry)) ≡ length (s .log) = length-put (s .log) i (p .entry) in
+      let n : last (putEntry (s .log) i (p .entry)) ≡ last (s .log) = last-put (s .log) i (p .entry) in
       committed-formed (putting s i (p .entry)) (put-formed s f i (p .entry) e) p i (rw n h) (rw n c)
   commit-formed HeadThenEntry p true e h c = committed-formed s f p i h c
   commit-formed HeadThenEntry p false e h c = put-formed (heading true s p i) (committed-formed s f p i h c) i (p .entry) e
 
-  apply-formed : (o : Order) (p : Plan) (cut : Bool) → EntryFormed i (p .entry) → HeadFormed (length (s .log)) (p .head) → Formed (performedBy o false s p i cut)
+  apply-formed : (o : Order) (p : Plan) (cut : Bool) → EntryFormed i (p .entry) → HeadFormed (last (s .log)) (p .head) → Formed (performedBy o false s p i cut)
   apply-formed Neither p cut e h = f
   apply-formed EntryOnly p cut e h = put-formed s f i (p .entry) e
   apply-formed HeadOnly p cut e h = applied-formed s f p i h
   apply-formed EntryThenHead p true e h = put-formed s f i (p .entry) e
   apply-formed EntryThenHead p false e h =
-      let n : length (putEntry (s .log) i (p .entry)) ≡ length (s .log) = length-put (s .log) i (p .entry) in
+      let n : last (putEntry (s .log) i (p .entry)) ≡ last (s .log) = last-put (s .log) i (p .entry) in
       applied-formed (putting s i (p .entry)) (put-formed s f i (p .entry) e) p i (rw n h)
   apply-formed HeadThenEntry p true e h = applied-formed s f p i h
   apply-formed HeadThenEntry p false e h = put-formed (heading false s p i) (applied-formed s f p i h) i (p .entry) e
@@ -343,7 +352,7 @@ module _ (s : State) (f : Formed s) where
   net-formed : (w : Net) → NetFormed w → Formed (withNet s w)
   net-formed w n =
       record {
-        size = f .size;
+        log = f .log;
         entries = f .entries;
         committed = f .committed;
         change = f .change;
@@ -353,12 +362,12 @@ module _ (s : State) (f : Formed s) where
         net = n;
       }
 
-  append-formed : (ps : List Pair) → validChange ps ≡ true → length (s .log) < 128 → Formed (withLog s (s .log ++ (appended ps ∷ [])))
-  append-formed ps e b =
-      let n : length (s .log ++ (appended ps ∷ [])) ≡ suc (length (s .log)) = length-add (s .log) (appended ps) in
+  append-formed : (ps : List Pair) → validChange ps ≡ true → length (s .log .entries) < 128 → last (s .log) < 65535 → Formed (withLog s (grown (s .log) (appended ps)))
+  append-formed ps e b c =
+      let n : last (grown (s .log) (appended ps)) ≡ suc (last (s .log)) = last-add (s .log) (appended ps) in
       record {
-        size = rw n b;
-        entries = λ k p q. go k p (rw n at q) (leb k (length (s .log))) refl;
+        log = record { size = rw (length-add (s .log .entries) (appended ps)) b; last = rw n c; base = f .log .base };
+        entries = λ k p q. go k p (rw n at q) (leb k (last (s .log))) refl;
         committed = rw n (grown-head _ _ (f .committed));
         change = rw n (record { inLog = omega (arith, f .change .inLog); behind = f .change .behind });
         applied = rw n (grown-head _ _ (f .applied));
@@ -367,51 +376,66 @@ module _ (s : State) (f : Formed s) where
         net = f .net;
       }
     where
-      old : (k : ℕ) → 1 ≤ k → k ≤ length (s .log) → EntryFormed k (entryOf (s .log ++ (appended ps ∷ [])) k)
-      old = add-all (λ k u. 1 ≤ k → k ≤ length (s .log) → EntryFormed k u) (s .log) (appended ps) (f .entries) (λ a c. absurd (omega arith))
+      old : (k : ℕ) → s .log .folded .0 < k → k ≤ last (s .log) → EntryFormed k (entryOf (grown (s .log) (appended ps)) k)
+      old = add-all (λ k u. s .log .folded .0 < k → k ≤ last (s .log) → EntryFormed k u) (s .log) (appended ps) (f .entries) (λ a c. absurd (omega arith))
 
-      go : (k : ℕ) → 1 ≤ k → k ≤ suc (length (s .log)) → (t : Bool) → leb k (length (s .log)) ≡ t → EntryFormed k (entryOf (s .log ++ (appended ps ∷ [])) k)
+      go : (k : ℕ) → s .log .folded .0 < k → k ≤ suc (last (s .log)) → (t : Bool) → leb k (last (s .log)) ≡ t → EntryFormed k (entryOf (grown (s .log) (appended ps)) k)
       go k p q true x = old k p (leb-true _ _ x)
       go k p q false x =
-          let z : k ≡ suc (length (s .log)) = omega (arith, leb-false k (length (s .log)) x) in
-          rw z (rw (entry-add (s .log) (appended ps)) (appended-formed (suc (length (s .log))) ps (omega arith) e))
+          let z : k ≡ suc (last (s .log)) = omega (arith, leb-false k (last (s .log)) x) in
+          rw z (rw (entry-add (s .log) (appended ps)) (appended-formed (suc (last (s .log))) ps (omega arith) e))
+
+  -- a fold: what is kept after b is as it was
+  fold-formed : (b : ℕ) → s .log .folded .0 < b → b ≤ last (s .log) → Formed (folding s b)
+  fold-formed b p q =
+      let n : last (folding s b .log) ≡ last (s .log) = last-fold (s .log) (baseOver (s .log) b (live s) (s .log .base)) b (omega arith) q in
+      record {
+        log = record { size = omega (arith, length-drop (b - s .log .folded .0) (s .log .entries), f .log .size); last = rw n (f .log .last); base = length-base (s .log) b (live s) (s .log .base) ∙ f .log .base };
+        entries = λ k x y. rw (entry-fold (s .log) (baseOver (s .log) b (live s) (s .log .base)) b (omega arith) k x) (f .entries k (omega arith) (rw n at y));
+        committed = rw n (f .committed);
+        change = rw n (f .change);
+        applied = rw n (f .applied);
+        committedValues = f .committedValues;
+        appliedValues = f .appliedValues;
+        net = f .net;
+      }
 
   -- an entry of the log, its sides, what is kept and the revision to return to anew
-  module _ (i : ℕ) (p : 1 ≤ i) (q : i ≤ length (s .log)) where
-    remade : (c r : Side) (x : Number) (vs : List ℕ) → c .ordinal .0 ≤ 256 → r .ordinal .0 ≤ 256 → x .0 < i
+  module _ (i : ℕ) (p : s .log .folded .0 < i) (q : i ≤ last (s .log)) where
+    remade : (c r : Side) (x : Number) (vs : List ℕ) → c .ordinal .0 ≤ 131070 → r .ordinal .0 ≤ 131070 → x .0 < i
         → EntryFormed i
         (let t = entryOf (s .log) i in
         record { phase = t .phase; count = t .count; paths = t .paths; values = t .values; change = c; rollback = r; index = x; kept = vs })
     remade c r x vs a b d = let e = f .entries i p q in record { phase = e .phase; below = d; change = a; rollback = b; pairs = e .pairs }
 
     -- with other statuses
-    changed : (c : Side) → c .ordinal .0 ≤ 256 → EntryFormed i (withChange (entryOf (s .log) i) c)
+    changed : (c : Side) → c .ordinal .0 ≤ 131070 → EntryFormed i (withChange (entryOf (s .log) i) c)
     changed c a = let e = f .entries i p q in remade c (entryOf (s .log) i .rollback) _ _ a (e .rollback) (e .below)
 
-    returned : (r : Side) → r .ordinal .0 ≤ 256 → EntryFormed i (withRollback (entryOf (s .log) i) r)
+    returned : (r : Side) → r .ordinal .0 ≤ 131070 → EntryFormed i (withRollback (entryOf (s .log) i) r)
     returned r b = let e = f .entries i p q in remade (entryOf (s .log) i .change) r _ _ (e .change) b (e .below)
 
-    back : entryOf (s .log) i .index .0 ≤ length (s .log)
+    back : entryOf (s .log) i .index .0 ≤ last (s .log)
     back = omega (arith, f .entries i p q .below)
 
     -- the head of Applied where a rule closes at an aim
-    shut : (aim : Number) (o : Ordinal) → aim .0 ≤ length (s .log) → o .0 ≤ 256 → HeadFormed (length (s .log)) (closed (s .applied .head) (num i) aim o)
+    shut : (aim : Number) (o : Ordinal) → aim .0 ≤ last (s .log) → o .0 ≤ 131070 → HeadFormed (last (s .log)) (closed (s .applied .head) (num i) aim o)
     shut aim o a b = record { index = q; target = a; revision = f .applied .revision; ordinal = b }
 
-    came : (h : Head) (aim : Number) (o : Ordinal) → HeadFormed (length (s .log)) h → aim .0 ≤ length (s .log) → o .0 ≤ 256 → HeadFormed (length (s .log)) (landed h (num i) aim o)
+    came : (h : Head) (aim : Number) (o : Ordinal) → HeadFormed (last (s .log)) h → aim .0 ≤ last (s .log) → o .0 ≤ 131070 → HeadFormed (last (s .log)) (landed h (num i) aim o)
     came h aim o g a b = record { index = q; target = g .target; revision = a; ordinal = b }
 
-    turned : (h : Head) (aim : Number) → HeadFormed (length (s .log)) h → aim .0 ≤ length (s .log) → HeadFormed (length (s .log)) (aimed h aim)
+    turned : (h : Head) (aim : Number) → HeadFormed (last (s .log)) h → aim .0 ≤ last (s .log) → HeadFormed (last (s .log)) (aimed h aim)
     turned h aim g a = record { index = g .index; target = a; revision = g .revision; ordinal = g .ordinal }
 
-    gone : HeadFormed (length (s .log)) (passed (s .committed .head) (num i))
+    gone : HeadFormed (last (s .log)) (passed (s .committed .head) (num i))
     gone = record { index = q; target = f .committed .target; revision = f .committed .revision; ordinal = f .committed .ordinal }
 
-  calls : Calls s Next
+  calls : Calls s Next (HasRoom s Next)
   calls =
       record {
         refused = λ a n. f;
-        append = append-formed;
+        append = λ ps e r. append-formed ps e (r .0) (r .1);
         rollback = λ i p q e. put-formed s f i _ (let g = f .entries i p q in record { phase = (omega arith, omega arith); below = g .below; change = g .change; rollback = g .rollback; pairs = g .pairs });
         start = λ e. net-formed _ (record { master = f .net .master; values = f .net .values; connections = f .net .connections });
         stop = net-formed _ (record { master = f .net .master; values = refl; connections = length-map (s .net .connections) outside.off ∙ f .net .connections });
@@ -426,7 +450,7 @@ module _ (s : State) (f : Formed s) where
           full = λ a b d. f;
           begin = λ a b d. put-formed s f i _ (begins b);
           aim = λ a b d. commit-formed s f i HeadThenEntry (job1.plans change.Aim t h (num i) (ord 0) vs) cut (begins b) (turned i p q (s .committed .head) (num i) (f .committed) q) (record { inLog = f .change .inLog; behind = f .change .behind });
-          land = λ a b d o g. let x : o .0 ≤ 256 = omega arith in let y : i ≤ i = omega arith in commit-formed s f i HeadThenEntry (job1.plans change.Land t h (num i) o vs) cut (changed i p q _ x) (came i p q (s .committed .head) (num i) o (f .committed) q x) (record { inLog = q; behind = y });
+          land = λ a b d o g. let x : o .0 ≤ 131070 = omega arith in let y : i ≤ i = omega arith in commit-formed s f i HeadThenEntry (job1.plans change.Land t h (num i) o vs) cut (changed i p q _ x) (came i p q (s .committed .head) (num i) o (f .committed) q x) (record { inLog = q; behind = y });
           reject = λ a b. let x : s .committed .head .revision .0 ≤ i = omega (arith, f .change .behind) in commit-formed s f i EntryThenHead (job1.plans change.Reject t h (num i) (ord 0) vs) cut (changed i p q _ (e .change)) (gone i p q) (record { inLog = q; behind = x });
           finish = λ a b. put-formed s f i _ (changed i p q _ (f .committed .ordinal));
           close = λ a b. let x : s .committed .head .revision .0 ≤ i = omega (arith, f .change .behind) in committed-formed s f (job1.plans change.Close t h (num i) (ord 0) vs) i (gone i p q) (record { inLog = q; behind = x });
@@ -448,7 +472,7 @@ module _ (s : State) (f : Formed s) where
           full = λ a b d. f;
           begin = λ a b d. put-formed s f i _ (returned i p q _ (e .rollback));
           aim = λ a b d. commit-formed s f i HeadThenEntry (job3.plans rollback.Aim t h (num i) (ord 0)) cut (returned i p q _ (e .rollback)) (turned i p q (s .committed .head) _ (f .committed) (back i p q)) (record { inLog = f .change .inLog; behind = f .change .behind });
-          land = λ a b d o g. let x : o .0 ≤ 256 = omega arith in let y : entryOf (s .log) i .index .0 ≤ s .change .0 = omega (arith, f .change .behind, e .below) in commit-formed s f i HeadThenEntry (job3.plans rollback.Land t h (num i) o) cut (returned i p q _ x) (came i p q (s .committed .head) _ o (f .committed) (back i p q) x) (record { inLog = f .change .inLog; behind = y });
+          land = λ a b d o g. let x : o .0 ≤ 131070 = omega arith in let y : entryOf (s .log) i .index .0 ≤ s .change .0 = omega (arith, f .change .behind, e .below) in commit-formed s f i HeadThenEntry (job3.plans rollback.Land t h (num i) o) cut (returned i p q _ x) (came i p q (s .committed .head) _ o (f .committed) (back i p q) x) (record { inLog = f .change .inLog; behind = y });
           finish = λ a b d. put-formed s f i _ (returned i p q _ (f .committed .ordinal));
         };
         job4 = λ n i p q cut. let e = f .entries i p q in let t = entryOf (s .log) i in let h = s .applied .head in record {
@@ -466,7 +490,8 @@ module _ (s : State) (f : Formed s) where
 
 -- a well-formed state stays well-formed, whatever is called
 pub step-keeps-well-formed : (s : State) (c : Call) → wellFormed s ≡ true → wellFormed (step s c .next) ≡ true
-step-keeps-well-formed s c w = well-formed _ (by-call s Next (λ e. formed s w) (λ e. calls s (formed s w)) c)
+step-keeps-well-formed s c w =
+    well-formed _ (by-call s Next (λ e. formed s w) (λ e. calls s (formed s w)) (λ e b p q x. fold-formed s (formed s w) b p q) c)
 
 pub fresh-well-formed : wellFormed fresh ≡ true
 unfolding wellFormed allFrom headOk

@@ -1,7 +1,9 @@
 pub mod Next
 pub mod Cases
+pub mod Onward
 pub mod ByCall
 pub mod Entries
 pub mod Kept
+pub mod FoldWitnesses
 pub mod Traps
 pub mod Reconnected

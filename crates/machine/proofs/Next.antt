@@ -1,10 +1,10 @@
 -- The state after each row of stores, as a record (Stores, Rows, Calls say which rows there are). Assumes nothing.
-use Prim.Native.Nat.{ℕ}
+use Prim.Native.Nat.{ℕ, _-_}
 use mathlib.Core.List.{List, [], _∷_, _++_}
 use mathlib.Core.Bool.{Bool, true, false}
 use mathlib.Core.Path.{_≡_, refl, ap, _∙_}
-use lib.Dec.{ltb}
-use lib.ListN.{getD, set}
+use lib.Dec.{ltb, leb}
+use lib.ListN.{getD, set, drop}
 use Rattle.kinds.specs.declared.Transaction.{Transaction}
 use Rattle.kinds.specs.declared.Number.{Number}
 use Rattle.kinds.specs.declared.Configuration.{Configuration}
@@ -17,8 +17,10 @@ use Rattle.rules.specs.declared.Lay.{Lay}
 use Rattle.rules.specs.declared.Lay.the-variants.{Nothing, Values, Kept}
 use Rattle.rules.specs.declared.Order.{Order}
 use Rattle.rules.specs.declared.Order.the-variants.{Neither, EntryOnly, HeadOnly, EntryThenHead, HeadThenEntry}
-use Rattle.machine.specs.State.{State, Net, putEntry}
-use Rattle.machine.specs.Stores.{Table, ofCommitted, ofApplied, ofTarget, Store, withLog, withCommitted, withApplied, withNet, withTargetValues, after, afters}
+use Rattle.machine.specs.State.{State, Net, Log, entryOf, putEntry, foldedTo}
+use Rattle.machine.specs.Stores.{Table, ofCommitted, ofApplied, ofTarget, ofBase, Store, fold, withLog, withBase, withCommitted, withApplied, withNet, withTargetValues, after, afters}
+use Rattle.machine.specs.LiveList.{live}
+use Rattle.machine.specs.Folding.{baseIf, baseRow}
 use Rattle.machine.specs.Rows.{layOne, layAt, overlay, laid, changeRow, headRow, entryRow, rowsBy, rowsOf}
 
 -- ---- values with the first n pairs laid over them, place by place
@@ -77,6 +79,18 @@ performedBy HeadThenEntry commits s p i false = putting (heading commits s p i) 
 abbrev pub performed : Bool → State → Plan → ℕ → Bool → State
 performed commits s p i cut = performedBy (p .order) commits s p i cut
 
+-- ---- a fold: the base with the live ones up to b laid over it, and the entries after b
+abbrev pub layingIf : Bool → Transaction → List ℕ → List ℕ
+layingIf true t l = laidOver Values t l
+layingIf false t l = l
+
+unfoldable pub baseOver : Log → ℕ → List ℕ → List ℕ → List ℕ
+baseOver l b [] vs = vs
+baseOver l b (k ∷ ks) vs = layingIf (leb k b) (entryOf l k) (baseOver l b ks vs)
+
+abbrev pub folding : State → ℕ → State
+folding s b = withLog s (foldedTo (withBase (s .log) (baseOver (s .log) b (live s) (s .log .base))) (num b))
+
 -- ---- the nodes' side after its calls
 abbrev pub withConfiguration : Net → Configuration → Net
 withConfiguration w g = record { configuration = g; mastership = w .mastership; connections = w .connections; target = w .target; values = w .values }
@@ -100,11 +114,13 @@ abbrev tableOf : State → Table → List ℕ
 tableOf s ofCommitted = s .committed .values
 tableOf s ofApplied = s .applied .values
 tableOf s ofTarget = s .net .values
+tableOf s ofBase = s .log .base
 
 abbrev withTable : State → Table → List ℕ → State
 withTable s ofCommitted l = withCommitted s (record { head = s .committed .head; values = l })
 withTable s ofApplied l = withApplied s (record { head = s .applied .head; values = l })
 withTable s ofTarget l = withNet s (withTargetValues (s .net) l)
+withTable s ofBase l = withLog s (withBase (s .log) l)
 
 module _ (s : State) where
   lay : (t : Table) (b : Bool) (l : List ℕ) (p v : ℕ) → afters (withTable s t l) (layOne b t p v) ≡ withTable s t (laying b l p v)
@@ -115,11 +131,14 @@ module _ (s : State) where
   lay ofApplied false l p v = refl
   lay ofTarget true l p v = refl
   lay ofTarget false l p v = refl
+  lay ofBase true l p v = refl
+  lay ofBase false l p v = refl
 
   same : (t : Table) → s ≡ withTable s t (tableOf s t)
   same ofCommitted = refl
   same ofApplied = refl
   same ofTarget = refl
+  same ofBase = refl
 
   lays : (t : Table) (ps vs : List ℕ) (n k : ℕ) (l : List ℕ) (es : List Store)
       → afters (withTable s t l) (layAt t ps vs n k ++ es) ≡ afters (withTable s t (layingAt ps vs n l k)) es
@@ -178,3 +197,19 @@ rows-performed c s p i cut = go (p .order) cut
     go HeadThenEntry true = head-heading c s p i
     go HeadThenEntry false =
         afters-append s (headRow c p i) (entryRow p i) ∙ ap (λ x. afters x (entryRow p i)) (head-heading c s p i) ∙ entry-putting (heading c s p i) p i
+
+-- what a fold's row does
+base-over : (s : State) (l : Log) (b : ℕ) (ks : List ℕ) → afters s (baseRow l b ks) ≡ withTable s ofBase (baseOver l b ks (s .log .base))
+unfolding baseRow baseOver afters
+base-over s l b [] = refl
+base-over s l b (k ∷ ks) =
+    afters-append s (baseRow l b ks) _ ∙ ap (λ x. afters x (baseIf (leb k b) (entryOf l k))) (base-over s l b ks) ∙ go (leb k b) (baseOver l b ks (s .log .base))
+  where
+    go : (c : Bool) (vs : List ℕ) → afters (withTable s ofBase vs) (baseIf c (entryOf l k)) ≡ withTable s ofBase (layingIf c (entryOf l k) vs)
+    go true vs = laid-over (withTable s ofBase vs) ofBase Values (entryOf l k)
+    go false vs = refl
+
+pub row-folding : (s : State) (b : ℕ) → afters s (baseRow (s .log) b (live s) ++ (fold (num b) ∷ [])) ≡ folding s b
+unfolding afters after
+row-folding s b =
+    afters-append s (baseRow (s .log) b (live s)) _ ∙ ap (λ x. afters x (fold (num b) ∷ [])) (base-over s (s .log) b (live s))

@@ -1,7 +1,7 @@
 -- The calls, and what each decides: a reply, and a row of stores (paper: Refusal numbers, Calls from outside, The four
 -- jobs). A refusal's row is empty. Assumes nothing.
 use Prim.Native.Nat.{ℕ, _+_}
-use mathlib.Core.List.{List, [], _∷_, map}
+use mathlib.Core.List.{List, [], _∷_, _++_, map}
 use mathlib.Core.Bool.{Bool, true, false, _&&_, cond}
 use lib.Dec.{eqb, ltb, leb}
 use lib.ListN.{length, getD}
@@ -11,17 +11,19 @@ use Rattle.kinds.specs.Numbers.{num}
 use Rattle.kinds.specs.Events.{numbered, refusal}
 use Rattle.rules.specs.declared.Plan.{Plan}
 use Rattle.rules.specs.Sides.{untouched, asked}
-use Rattle.rules.specs.AtRest.{atRest}
 use Rattle.rules.specs.CommitChange.{commitChange}
 use Rattle.rules.specs.CommitRollback.{commitRollback}
 use Rattle.rules.specs.ApplyChange.{applyChange}
 use Rattle.rules.specs.ApplyRollback.{applyRollback}
 use Rattle.rules.specs.Outside as outside
-use Rattle.machine.specs.State.{State, absent, four, entryOf, inLog, isNode, nodeOf, putNode, isMaster, reachesTarget, lineOpenFor}
-use Rattle.machine.specs.Stores.{Store, grow, entry, targetValues, configuration, mastership, connections, target}
+use Rattle.machine.specs.State.{State, absent, four, entryOf, last, inLog, isKept, isNode, nodeOf, putNode, isMaster, reachesTarget, lineOpenFor}
+use Rattle.machine.specs.Stores.{Store, grow, entry, fold, targetValues, configuration, mastership, connections, target}
 use Rattle.machine.specs.Rows.{rowsOf}
 use Rattle.machine.specs.WellFormed.{pairsOk}
+use Rattle.machine.specs.LiveList.{live}
 use Rattle.machine.specs.Settled.{settled}
+use Rattle.machine.specs.Rest.{restOf}
+use Rattle.machine.specs.Folding.{mayFold, baseRow}
 
 -- a path and its value
 pub record Pair : Type 0 where
@@ -34,6 +36,7 @@ pub data Call : Type 0 where
   start stop : Call
   connect disconnect master sync : (node : ℕ) → Call
   work : (node job number outcome cut : ℕ) → Call
+  foldTo : (number : ℕ) → Call
 
 pub record Outcome : Type 0 where
   pub reply : Reply
@@ -89,12 +92,6 @@ appended ps =
     }
 
 -- ---- the jobs
--- the committed side at rest: the entry at its index says
-abbrev pub restOf : State → Bool
-restOf s =
-    atRest (s .committed .head) (entryOf (s .log) (s .committed .head .index .0) .change .commit)
-    (entryOf (s .log) (s .committed .head .index .0) .rollback .commit)
-
 abbrev pub presentOne : Bool → List ℕ → ℕ → ℕ
 presentOne true vs p = getD vs p 0
 presentOne false vs p = 0
@@ -148,11 +145,13 @@ copyRow false vs = []
 unfoldable pub decide : State → Call → Outcome
 decide s (append ps) =
     unless 3 (validChange ps)
-    (unless 4 (ltb (length (s .log)) 128)
-    (record { reply = record { answer = 0; event = numbered (length (s .log) + 1) }; stores = grow (appended ps) ∷ [] }))
+    (unless 4 (ltb (length (s .log .entries)) 128)
+    (unless 9 (ltb (last (s .log)) 65535)
+    (record { reply = record { answer = 0; event = numbered (last (s .log) + 1) }; stores = grow (appended ps) ∷ [] })))
 decide s (rollback i) =
     unless 5 (inLog s i)
-    (unless 6 (outside.mayRollBack (entryOf (s .log) i)) (accepted (entry i (outside.rolledBack (entryOf (s .log) i)) ∷ [])))
+    (unless 18 (isKept s i)
+    (unless 6 (outside.mayRollBack (entryOf (s .log) i)) (accepted (entry i (outside.rolledBack (entryOf (s .log) i)) ∷ []))))
 decide s start = let x = outside.start (s .net .target) in answers (x .answer) (target (x .target) ∷ [])
 decide s stop =
     let x = outside.stop (s .net .target) in
@@ -170,4 +169,7 @@ decide s (sync n) =
     let x = outside.synchronise (s .net .configuration) (s .net .mastership .term) (isMaster (s .net) n) (reachesTarget (s .net) n) in
     unless 2 (isNode n) (answers (x .answer) (configuration (x .configuration) ∷ copyRow (x .copies) (s .applied .values)))
 decide s (work n j i r c) =
-    unless 2 (workOk n j r c) (unless 5 (inLog s i) (unless 10 (isMaster (s .net) n) (planned j (planOf s n j i (eqb r 0)) i c)))
+    unless 2 (workOk n j r c)
+    (unless 5 (inLog s i) (unless 18 (isKept s i) (unless 10 (isMaster (s .net) n) (planned j (planOf s n j i (eqb r 0)) i c))))
+decide s (foldTo b) =
+    unless 5 (isKept s b && leb b (last (s .log))) (unless 17 (mayFold s b) (accepted (baseRow (s .log) b (live s) ++ (fold (num b) ∷ []))))

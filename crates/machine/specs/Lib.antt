@@ -3,8 +3,11 @@ pub mod Stores
 pub mod Rows
 pub mod WellFormed
 pub mod Settled
+pub mod Rest
+pub mod Folding
 pub mod LiveList
 pub mod Reads
 pub mod Calls
 pub mod Step
 pub mod Sessions
+pub mod FoldSessions

@@ -1,5 +1,5 @@
 -- The reads: one number of a state at a time, for the server and the auditor (paper: The state). They refuse as the calls
--- do: 2 for what is out of range, 5 for a number outside the log. Assumes nothing.
+-- do: 2 for what is out of range, 5 for a number outside the log, 18 for a folded one. Assumes nothing.
 use Prim.Native.Nat.{ℕ, _-_}
 use mathlib.Core.List.{List, [], _∷_}
 use mathlib.Core.Bool.{Bool, true, false, _&&_, cond}
@@ -8,11 +8,11 @@ use lib.ListN.{length, getD}
 use Rattle.kinds.specs.declared.Transaction.{Transaction}
 use Rattle.kinds.specs.declared.Connection.{Connection}
 use Rattle.kinds.specs.Statuses.{codeOf, progressCode}
-use Rattle.machine.specs.State.{State, entryOf, inLog, isNode, nodeOf}
+use Rattle.machine.specs.State.{State, entryOf, last, inLog, isKept, isNode, nodeOf}
 
 -- what is asked; fields are counted from 1, in the order of the numbers below
 pub data Query : Type 0 where
-  ofTable : (table path : ℕ) → Query  -- a path's value: table 1 Committed, 2 Applied, 3 the target
+  ofTable : (table path : ℕ) → Query  -- a path's value: table 1 Committed, 2 Applied, 3 the target, 4 the base
   ofEntry : (number field : ℕ) → Query  -- a transaction's
   ofState : (field : ℕ) → Query  -- what the state has once
   ofNode : (node field : ℕ) → Query  -- a connection's
@@ -55,27 +55,28 @@ entryNumbers t =
     ∷ getD (t .values) 0 0 ∷ getD (t .values) 1 0 ∷ getD (t .values) 2 0 ∷ getD (t .values) 3 0
     ∷ getD (t .kept) 0 0 ∷ getD (t .kept) 1 0 ∷ getD (t .kept) 2 0 ∷ getD (t .kept) 3 0 ∷ []
 
--- 1 the log's length; Committed: 2 index, 3 change, 4 target, 5 revision, 6 ordinal; Applied: 7 index, 8 target, 9
--- revision, 10 ordinal; 11 the configuration's state, 12 its term; 13 master, 14 term, 15 conn; 16 target id, 17 running
+-- 1 the highest number given; Committed: 2 index, 3 change, 4 target, 5 revision, 6 ordinal; Applied: 7 index, 8 target, 9
+-- revision, 10 ordinal; 11 the configuration's state, 12 its term; 13 master, 14 term, 15 conn; 16 target id, 17 running;
+-- 18 the last fold
 unfoldable pub stateNumbers : State → List ℕ
 stateNumbers s =
-    length (s .log)
+    last (s .log)
     ∷ s .committed .head .index .0 ∷ s .change .0 ∷ s .committed .head .target .0 ∷ s .committed .head .revision .0 ∷ s .committed .head .ordinal .0
     ∷ s .applied .head .index .0 ∷ s .applied .head .target .0 ∷ s .applied .head .revision .0 ∷ s .applied .head .ordinal .0
     ∷ progressCode (s .net .configuration .state) ∷ s .net .configuration .term .0
     ∷ s .net .mastership .master ∷ s .net .mastership .term .0 ∷ s .net .mastership .conn
-    ∷ s .net .target .id ∷ flag (s .net .target .running) ∷ []
+    ∷ s .net .target .id ∷ flag (s .net .target .running) ∷ s .log .folded .0 ∷ []
 
 -- 1 id, 2 connected
 abbrev pub nodeNumbers : Connection → List ℕ
 nodeNumbers x = x .id ∷ flag (x .connected) ∷ []
 
 abbrev pub tableNumbers : State → ℕ → List ℕ
-tableNumbers s b = cond (eqb b 1) (s .committed .values) (cond (eqb b 2) (s .applied .values) (s .net .values))
+tableNumbers s b = cond (eqb b 1) (s .committed .values) (cond (eqb b 2) (s .applied .values) (cond (eqb b 3) (s .net .values) (s .log .base)))
 
 -- ---- what is answered (1 comes first, where the state is an image's)
 unfoldable pub read : State → Query → Answer
-read s (ofTable b p) = unless 2 (isField 3 b && ltb p 32) (shows (getD (tableNumbers s b) p 0))
-read s (ofEntry i f) = unless 2 (isField 21 f) (unless 5 (inLog s i) (shows (fieldOf (entryNumbers (entryOf (s .log) i)) f)))
-read s (ofState f) = unless 2 (isField 17 f) (shows (fieldOf (stateNumbers s) f))
+read s (ofTable b p) = unless 2 (isField 4 b && ltb p 32) (shows (getD (tableNumbers s b) p 0))
+read s (ofEntry i f) = unless 2 (isField 21 f) (unless 5 (inLog s i) (unless 18 (isKept s i) (shows (fieldOf (entryNumbers (entryOf (s .log) i)) f))))
+read s (ofState f) = unless 2 (isField 18 f) (shows (fieldOf (stateNumbers s) f))
 read s (ofNode n f) = unless 2 (isNode n && isField 2 f) (shows (fieldOf (nodeNumbers (nodeOf (s .net .connections) n)) f))

@@ -1,9 +1,9 @@
 -- The state of a controller, and a fresh one (paper: The state). Assumes nothing.
-use Prim.Native.Nat.{ℕ, zero, suc}
-use mathlib.Core.List.{List, []}
+use Prim.Native.Nat.{ℕ, zero, suc, _+_, _-_}
+use mathlib.Core.List.{List, [], _∷_, _++_}
 use mathlib.Core.Bool.{Bool, false, _&&_}
-use lib.Dec.{eqb, leb}
-use lib.ListN.{length, getD, set, replicate}
+use lib.Dec.{eqb, ltb, leb}
+use lib.ListN.{length, getD, set, drop, replicate}
 use Rattle.kinds.specs.declared.Transaction.{Transaction}
 use Rattle.kinds.specs.declared.Head.{Head}
 use Rattle.kinds.specs.declared.Number.{Number}
@@ -29,9 +29,15 @@ pub record Net : Type 0 where
   pub target : Target
   pub values : List ℕ
 
+-- the log: the last fold, 0 if none; what the live ones up to it set, 32 values; and the entries after it, which are kept
+pub record Log : Type 0 where
+  pub folded : Number
+  pub base : List ℕ
+  pub entries : List Transaction
+
 -- `change` is Committed's
 pub record State : Type 0 where
-  pub log : List Transaction
+  pub log : Log
   pub change : Number
   pub committed : Part
   pub applied : Part
@@ -57,8 +63,12 @@ freshNet =
       values = absent;
     }
 
+-- a log of which nothing is folded
+abbrev pub unfolded : List Transaction → Log
+unfolded ts = record { folded = num 0; base = absent; entries = ts }
+
 abbrev pub fresh : State
-fresh = record { log = []; change = num 0; committed = freshPart; applied = freshPart; net = freshNet }
+fresh = record { log = unfolded []; change = num 0; committed = freshPart; applied = freshPart; net = freshNet }
 
 -- ---- entries of the log and nodes, both counted from 1
 abbrev pub four : List ℕ
@@ -68,16 +78,39 @@ four = replicate 4 0
 abbrev pub blank : Transaction
 blank = record { phase = 0; count = 0; paths = four; values = four; change = untouched; rollback = untouched; index = num 0; kept = four }
 
-abbrev pub entryOf : List Transaction → ℕ → Transaction
-entryOf l zero = blank
-entryOf l (suc k) = getD l k blank
+-- an entry by its place among those kept, from 1
+abbrev pub placeOf : List Transaction → ℕ → Transaction
+placeOf ts zero = blank
+placeOf ts (suc k) = getD ts k blank
 
-abbrev pub putEntry : List Transaction → ℕ → Transaction → List Transaction
-putEntry l zero t = l
-putEntry l (suc k) t = set l k t
+abbrev pub putPlace : List Transaction → ℕ → Transaction → List Transaction
+putPlace ts zero t = ts
+putPlace ts (suc k) t = set ts k t
+
+-- and by its number: a folded number has none
+abbrev pub entryOf : Log → ℕ → Transaction
+entryOf l k = placeOf (l .entries) (k - l .folded .0)
+
+abbrev pub putEntry : Log → ℕ → Transaction → Log
+putEntry l k t = record { folded = l .folded; base = l .base; entries = putPlace (l .entries) (k - l .folded .0) t }
+
+-- one entry more
+abbrev pub grown : Log → Transaction → Log
+grown l t = record { folded = l .folded; base = l .base; entries = l .entries ++ (t ∷ []) }
+
+-- entries up to b folded away
+abbrev pub foldedTo : Log → Number → Log
+foldedTo l b = record { folded = b; base = l .base; entries = drop (b .0 - l .folded .0) (l .entries) }
+
+-- the highest number given
+abbrev pub last : Log → ℕ
+last l = l .folded .0 + length (l .entries)
 
 abbrev pub inLog : State → ℕ → Bool
-inLog s i = leb 1 i && leb i (length (s .log))
+inLog s i = leb 1 i && leb i (last (s .log))
+
+abbrev pub isKept : State → ℕ → Bool
+isKept s i = ltb (s .log .folded .0) i
 
 abbrev pub isNode : ℕ → Bool
 isNode n = leb 1 n && leb n 8

@@ -1,7 +1,7 @@
 -- The primitive stores, and the state after a row of them. Every change of a state is such a row. Each store is total: an
 -- entry outside the log and a path past the values store nothing. Assumes nothing.
 use Prim.Native.Nat.{ℕ}
-use mathlib.Core.List.{List, [], _∷_, _++_}
+use mathlib.Core.List.{List, [], _∷_}
 use lib.ListN.{set}
 use Rattle.kinds.specs.declared.Transaction.{Transaction}
 use Rattle.kinds.specs.declared.Head.{Head}
@@ -10,15 +10,16 @@ use Rattle.kinds.specs.declared.Configuration.{Configuration}
 use Rattle.kinds.specs.declared.Mastership.{Mastership}
 use Rattle.kinds.specs.declared.Connection.{Connection}
 use Rattle.kinds.specs.declared.Target.{Target}
-use Rattle.machine.specs.State.{Part, Net, State, putEntry}
+use Rattle.machine.specs.State.{Part, Net, Log, State, putEntry, grown, foldedTo}
 
--- the three tables of 32 values; the first two have heads
+-- the four tables of 32 values; the first two have heads, the last is the log's base
 pub data Table : Type 0 where
-  ofCommitted ofApplied ofTarget : Table
+  ofCommitted ofApplied ofTarget ofBase : Table
 
 pub data Store : Type 0 where
   grow : Transaction → Store  -- one entry more, at the log's end
   entry : ℕ → Transaction → Store  -- the entry of a number
+  fold : Number → Store  -- the entries up to a number folded away
   change : Number → Store  -- Committed's change
   committedHead : Head → Store
   appliedHead : Head → Store
@@ -30,7 +31,7 @@ pub data Store : Type 0 where
   target : Target → Store
 
 -- ---- a state with one part anew
-abbrev pub withLog : State → List Transaction → State
+abbrev pub withLog : State → Log → State
 withLog s l = record { log = l; change = s .change; committed = s .committed; applied = s .applied; net = s .net }
 
 abbrev pub withCommitted : State → Part → State
@@ -48,6 +49,9 @@ withHead p h = record { head = h; values = p .values }
 abbrev pub withValue : Part → ℕ → ℕ → Part
 withValue p k v = record { head = p .head; values = set (p .values) k v }
 
+abbrev pub withBase : Log → List ℕ → Log
+withBase l vs = record { folded = l .folded; base = vs; entries = l .entries }
+
 abbrev pub withTargetValues : Net → List ℕ → Net
 withTargetValues w vs =
     record { configuration = w .configuration; mastership = w .mastership; connections = w .connections; target = w .target; values = vs }
@@ -57,10 +61,12 @@ abbrev pub afterValue : State → Table → ℕ → ℕ → State
 afterValue s ofCommitted p v = withCommitted s (withValue (s .committed) p v)
 afterValue s ofApplied p v = withApplied s (withValue (s .applied) p v)
 afterValue s ofTarget p v = withNet s (withTargetValues (s .net) (set (s .net .values) p v))
+afterValue s ofBase p v = withLog s (withBase (s .log) (set (s .log .base) p v))
 
 unfoldable pub after : State → Store → State
-after s (grow t) = withLog s (s .log ++ (t ∷ []))
+after s (grow t) = withLog s (grown (s .log) t)
 after s (entry i t) = withLog s (putEntry (s .log) i t)
+after s (fold b) = withLog s (foldedTo (s .log) b)
 after s (change n) = record { log = s .log; change = n; committed = s .committed; applied = s .applied; net = s .net }
 after s (committedHead h) = withCommitted s (withHead (s .committed) h)
 after s (appliedHead h) = withApplied s (withHead (s .applied) h)
