@@ -1,6 +1,6 @@
 -- What a row of reads gives, and what a row of writes leaves, over variables. Assumes nothing.
-use mathlib.Core.Bool.{cond}
-use Prim.Native.Nat.{ℕ, zero, suc, _+_, _-_, _*_, _<_, _≤_}
+use mathlib.Core.Bool.{Bool, _||_, cond}
+use Prim.Native.Nat.{ℕ, zero, suc, _+_, _-_, _*_, _%_, _<_, _≤_}
 use mathlib.Core.Path.{_≡_, refl, ap, ap₂, sym, _∙_}
 use mathlib.Core.Logic.{inl}
 use mathlib.Core.List.{List, [], _∷_, _++_}
@@ -14,8 +14,9 @@ use lib.Seq.{take-suc, take-all}
 use Rattle.kinds.specs.declared.Transaction.{Transaction}
 use Rattle.kinds.specs.declared.Side.{Side}
 use Rattle.kinds.specs.declared.Number.{Number}
+use Rattle.kinds.specs.declared.Ordinal.{Ordinal}
 use Rattle.kinds.specs.declared.Connection.{Connection}
-use Rattle.kinds.specs.Numbers.{num}
+use Rattle.kinds.specs.Numbers.{num, ord, follows}
 use Rattle.kinds.specs.Statuses.{codeOf}
 use Rattle.fields.specs.Field.{field, putField, fieldsAt, putFields, ones, twos, quad, total}
 use Rattle.fields.proofs.Runs.{table-at, length-fields, length-puts, puts-append, puts-outside, total-twos}
@@ -28,12 +29,19 @@ use Rattle.image.specs.View.{tableOf, write}
 
 -- ---- an entry
 pub loaded : (l : List ℕ) (n : ℕ) (x y : Side) (f g h : ℕ) (i : Number) (p v r : List ℕ)
-    → x ≡ toSide l (36 * (n - 1)) (36 * (n - 1) + 8) → y ≡ toSide l (36 * (n - 1) + 2) (36 * (n - 1) + 12)
-    → f ≡ field l (36 * (n - 1) + 4) 1 → g ≡ field l (36 * (n - 1) + 5) 1 → h ≡ field l (36 * (n - 1) + 6) 2 → i ≡ num h
-    → p ≡ fieldsAt l (36 * (n - 1) + 16) ones → v ≡ fieldsAt l (36 * (n - 1) + 20) twos → r ≡ fieldsAt l (36 * (n - 1) + 28) twos
+    → x ≡ toSide l (36 * ((n - 1) % 128)) (36 * ((n - 1) % 128) + 8) → y ≡ toSide l (36 * ((n - 1) % 128) + 2) (36 * ((n - 1) % 128) + 12)
+    → f ≡ field l (36 * ((n - 1) % 128) + 4) 1 → g ≡ field l (36 * ((n - 1) % 128) + 5) 1 → h ≡ field l (36 * ((n - 1) % 128) + 6) 2 → i ≡ num h
+    → p ≡ fieldsAt l (36 * ((n - 1) % 128) + 16) ones → v ≡ fieldsAt l (36 * ((n - 1) % 128) + 20) twos → r ≡ fieldsAt l (36 * ((n - 1) % 128) + 28) twos
     → _≡_ {A = Transaction} (record { phase = f; count = g; paths = p; values = v; change = x; rollback = y; index = i; kept = r }) (entryAt l n)
 unfolding entryAt fieldsAt
 loaded l n x y f g h i p v r q0 q1 q2 q3 q4 q5 q6 q7 q8 = simp (q0, q1, q2, q3, q5, q4, q6, q7, q8, add-assoc)
+
+-- of which only the ordinals were read
+pub carried : (l : List ℕ) (n : ℕ) (a x y : Ordinal) (p q r : Bool) (f g : ℕ) → f ≡ field l (36 * ((n - 1) % 128) + 8) 4 → x ≡ ord f → g ≡ field l (36 * ((n - 1) % 128) + 12) 4 → y ≡ ord g
+    → p ≡ follows (a .0) (x .0) → q ≡ follows (a .0) (y .0) → r ≡ (p || q)
+    → r ≡ (follows (a .0) (entryAt l n .change .ordinal .0) || follows (a .0) (entryAt l n .rollback .ordinal .0))
+unfolding entryAt fieldsAt
+carried l n a x y p q r f g ef ex eg ey ep eq er = simp (er, ep, eq, ex, ey, ef, eg, add-assoc)
 
 pub coded : (l l1 l2 l3 l4 l5 l6 : List ℕ) (at a b d e : ℕ) (t : Transaction)
     → a ≡ codeOf (t .change .commit) → b ≡ codeOf (t .change .apply) → d ≡ codeOf (t .rollback .commit) → e ≡ codeOf (t .rollback .apply)
@@ -43,9 +51,9 @@ unfolding putFields
 coded l l1 l2 l3 l4 l5 l6 at a b d e t p1 p2 p3 p4 q1 q2 q3 q4 q5 q6 = simp (q6, q5, q4, q3, q2, q1, p1, p2, p3, p4, add-assoc)
 
 pub stored : (l l1 l2 l3 l4 l5 : List ℕ) (n : ℕ) (t : Transaction)
-    → l1 ≡ putFields l (36 * (n - 1)) codeWidths (codes t) → l2 ≡ putFields l1 (36 * (n - 1) + 6) markWidths (marks t)
-    → l3 ≡ putFields l2 (36 * (n - 1) + 16) ones (quad (t .paths)) → l4 ≡ putFields l3 (36 * (n - 1) + 20) twos (quad (t .values))
-    → l5 ≡ putFields l4 (36 * (n - 1) + 28) twos (quad (t .kept)) → l5 ≡ putEntryAt l n t
+    → l1 ≡ putFields l (36 * ((n - 1) % 128)) codeWidths (codes t) → l2 ≡ putFields l1 (36 * ((n - 1) % 128) + 6) markWidths (marks t)
+    → l3 ≡ putFields l2 (36 * ((n - 1) % 128) + 16) ones (quad (t .paths)) → l4 ≡ putFields l3 (36 * ((n - 1) % 128) + 20) twos (quad (t .values))
+    → l5 ≡ putFields l4 (36 * ((n - 1) % 128) + 28) twos (quad (t .kept)) → l5 ≡ putEntryAt l n t
 unfolding putEntryAt putFields
 stored l l1 l2 l3 l4 l5 n t q1 q2 q3 q4 q5 = simp (q5, q4, q3, q2, q1, add-assoc)
 

@@ -1,21 +1,28 @@
 -- What a change of the bytes from a to below e leaves: each part of the view that lies apart. Assumes nothing.
-use Prim.Native.Nat.{ℕ, _+_, _-_, _*_, _≤_}
-use mathlib.Core.Path.{_≡_, ap, _∙_}
+use Prim.Native.Nat.{ℕ, _+_, _-_, _*_, _%_, _≤_, _<_}
+use mathlib.Core.Path.{_≡_, ap, ap₂, _∙_}
 use mathlib.Core.Logic.{_⊎_, inl, inr, ⊎-elim}
 use mathlib.Core.List.{List}
 use native.Mathlib.Omega.{arith}
+use Rattle.kinds.specs.declared.Transaction.{Transaction}
+use Rattle.kinds.specs.Numbers.{num}
 use Rattle.fields.proofs.Laws.{Outside, field-kept}
 use Rattle.fields.proofs.Runs.{fields-kept}
-use Rattle.machine.specs.Stores.{Table, ofTarget}
-use Rattle.image.specs.Layout.{entryWidths, headWidths, tableWidths, configurationWidths, mastershipWidths, targetWidths, connectionsWidths, placeOf, lengthAt, changeAt, valuesAt, configurationAt, mastershipAt, targetAt, connectionsAt, imageLength}
-use Rattle.image.specs.Records.{toEntry, entryAt, logLength, changeOf, toHead, headAt, toConfiguration, configurationOf, toMastership, mastershipOf, toTarget, targetOf, toConnections, connectionsOf}
-use Rattle.image.specs.View.{upTo, tableOf, partOf, netOf}
+use Rattle.machine.specs.Stores.{Table, ofTarget, ofBase}
+use Rattle.image.specs.Layout.{entryWidths, headWidths, tableWidths, configurationWidths, mastershipWidths, targetWidths, connectionsWidths, placeOf, lastAt, changeAt, valuesAt, configurationAt, mastershipAt, targetAt, connectionsAt, foldedAt, imageLength}
+use Rattle.image.specs.Records.{toEntry, entryAt, lastOf, foldedOf, changeOf, toHead, headAt, toConfiguration, configurationOf, toMastership, mastershipOf, toTarget, targetOf, toConnections, connectionsOf}
+use Rattle.image.specs.View.{upFrom, tableOf, entriesOf, logOf, partOf, netOf}
 use Rattle.image.specs.Formed.{statusesOk, flagsOk}
-use Rattle.image.proofs.UpTo.{upTo-same}
+use Rattle.image.proofs.UpTo.{upFrom-same}
 
 -- a record of w bytes at a place lies apart
 abbrev pub Apart : ℕ → ℕ → ℕ → ℕ → Type 0
 Apart a e at w = (at + w ≤ a) ⊎ (e ≤ at)
+
+-- the log, from its three parts
+pub same-log : (l : List ℕ) (b : ℕ) (vs : List ℕ) (ts : List Transaction) → foldedOf l ≡ b → tableOf l ofBase ≡ vs → entriesOf l ≡ ts
+    → logOf l ≡ record { folded = num b; base = vs; entries = ts }
+same-log l b vs ts p q r = ap₂ (λ (x : ℕ) (y : List ℕ). record { folded = num x; base = y; entries = entriesOf l }) p q ∙ ap (λ (z : List Transaction). record { folded = num b; base = vs; entries = z }) r
 
 module _ (l m : List ℕ) (a e : ℕ) (o : Outside l m a e) where
   pub entry-kept : (n : ℕ) → Apart a e (placeOf n) 36 → entryAt m n ≡ entryAt l n
@@ -34,16 +41,13 @@ module _ (l m : List ℕ) (a e : ℕ) (o : Outside l m a e) where
         field-kept l m a e o 1 (placeOf n + 3) (k 3 (omega arith)),
       )
 
-  pub length-kept : Apart a e lengthAt 2 → logLength m ≡ logLength l
-  unfolding logLength
-  length-kept h = field-kept l m a e o 2 lengthAt h
+  pub last-kept : Apart a e lastAt 2 → lastOf m ≡ lastOf l
+  unfolding lastOf
+  last-kept h = field-kept l m a e o 2 lastAt h
 
-  -- the first n entries
-  pub entries-kept : (n : ℕ) → (36 * n ≤ a) ⊎ (e ≤ 0) → upTo (entryAt m) n ≡ upTo (entryAt l) n
-  entries-kept n h = upTo-same (entryAt l) (entryAt m) n (λ k p q. entry-kept k (⊎-elim (λ x. inl (omega arith)) (λ y. inr (omega arith)) h))
-
-  pub log-kept : (lengthAt + 2 ≤ a) → logLength l ≤ 128 → upTo (entryAt m) (logLength m) ≡ upTo (entryAt l) (logLength l)
-  log-kept h f = ap (upTo (entryAt m)) (length-kept (inl h)) ∙ entries-kept (logLength l) (inl (omega arith))
+  pub folded-kept : Apart a e foldedAt 2 → foldedOf m ≡ foldedOf l
+  unfolding foldedOf
+  folded-kept h = field-kept l m a e o 2 foldedAt h
 
   pub change-kept : Apart a e changeAt 2 → changeOf m ≡ changeOf l
   unfolding changeOf
@@ -78,7 +82,7 @@ module _ (l m : List ℕ) (a e : ℕ) (o : Outside l m a e) where
 
   pub net-kept : Apart a e (valuesAt ofTarget) 123 → netOf m ≡ netOf l
   net-kept h =
-      let k : (at w : ℕ) → valuesAt ofTarget ≤ at → at + w ≤ imageLength → Apart a e at w = λ at w p q. ⊎-elim (λ x. inl (omega arith)) (λ y. inr (omega arith)) h in
+      let k : (at w : ℕ) → valuesAt ofTarget ≤ at → at + w ≤ foldedAt → Apart a e at w = λ at w p q. ⊎-elim (λ x. inl (omega arith)) (λ y. inr (omega arith)) h in
       rw (
         configuration-kept (k configurationAt 5 (omega arith) (omega arith)),
         mastership-kept (k mastershipAt 9 (omega arith) (omega arith)),
@@ -86,6 +90,19 @@ module _ (l m : List ℕ) (a e : ℕ) (o : Outside l m a e) where
         target-kept (k targetAt 5 (omega arith) (omega arith)),
         table-kept ofTarget (k (valuesAt ofTarget) 64 (omega arith) (omega arith)),
       )
+
+  -- every entry, past the ring
+  pub entries-kept : (b n : ℕ) → lastAt ≤ a → upFrom (entryAt m) b n ≡ upFrom (entryAt l) b n
+  entries-kept b n h = upFrom-same (entryAt l) (entryAt m) b n (λ k p q. entry-kept k (inl (omega arith)))
+
+  -- the log, between the highest number and the last fold
+  pub ends-kept : lastAt + 2 ≤ a → e ≤ foldedAt → (foldedOf m ≡ foldedOf l) × (lastOf m ≡ lastOf l)
+  ends-kept h k = (folded-kept (inr k), last-kept (inl h))
+
+  pub log-kept : lastAt + 2 ≤ a → e ≤ foldedAt → logOf m ≡ logOf l
+  log-kept h k =
+      same-log m _ _ _ (ends-kept h k .0) (table-kept ofBase (inr (omega arith)))
+      (ap₂ (λ (b n : ℕ). upFrom (entryAt m) b n) (ends-kept h k .0) (ends-kept h k .1) ∙ entries-kept (foldedOf l) (lastOf l) (omega arith))
 
   -- the flags lie in three places
   pub flags-kept : Apart a e configurationAt 5 → Apart a e (targetAt + 4) 1 → Apart a e connectionsAt 40 → flagsOk m ≡ flagsOk l

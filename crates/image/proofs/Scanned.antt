@@ -8,75 +8,120 @@ use native.Mathlib.Omega.{arith}
 use borrow.Author.Tests.{eq-eqb, ne-eqb, lt-leb, le-leb, lt-ltb, le-ltb, eqb-true, leb-true}
 use lib.Dec.{eqb, leb, ltb}
 use lib.ListN.{length}
+use Rattle.kinds.specs.declared.Transaction.{Transaction}
 use Rattle.fields.specs.Field.{field, fieldsAt, ones}
-use Rattle.machine.specs.WellFormed.{allEntries, pairsOk, entryOk, headsOk, sizesOk, wellFormed}
+use Rattle.machine.specs.State.{State, last, entryOf}
+use Rattle.machine.specs.WellFormed.{allEntries, pairsOk, logOk, entryOk, headsOk, sizesOk, wellFormed}
 use Rattle.image.specs.Layout.{imageLength}
-use Rattle.image.specs.Records.{entryAt, logLength, connectionsOf}
-use Rattle.image.specs.View.{tableOf, view}
-use Rattle.image.specs.Formed.{allUpTo, statusesOk, entryStatusesOk, marksOk, flagsOk, entryFormed, codesOk, formed}
-use Rattle.image.proofs.UpTo.{length-upTo, all-same, all-both, all-entries, and-left, and-right}
+use Rattle.image.specs.Records.{entryAt, lastOf, foldedOf, connectionsOf}
+use Rattle.image.specs.View.{upFrom, tableOf, view}
+use Rattle.image.specs.Formed.{allKept, statusesOk, entryStatusesOk, marksOk, flagsOk, entryFormed, codesOk, formed}
+use Rattle.image.proofs.UpTo.{length-upTo, kept-same, kept-both, kept-entries, entry-upFrom, and-left, and-right}
 
 -- ---- an entry
 pub entry-formed-is : (l : List ℕ) (n : ℕ) → entryFormed l n ≡ (entryStatusesOk l n && entryOk n (entryAt l n))
 unfolding entryFormed entryOk marksOk entryAt fieldsAt
 entry-formed-is l n = simp (add-assoc, and-assoc)
 
--- ---- the whole
-pub view-length : (l : List ℕ) → length (view l .log) ≡ logLength l
+-- ---- the log of the view
+pub view-kept : (l : List ℕ) → length (view l .log .entries) ≡ lastOf l - foldedOf l
 unfolding view
-view-length l = length-upTo (entryAt l) (logLength l)
+view-kept l = length-upTo (λ j. entryAt l (foldedOf l + j)) (lastOf l - foldedOf l)
+
+pub view-folded : (l : List ℕ) → view l .log .folded .0 ≡ foldedOf l
+unfolding view
+view-folded l = refl
+
+pub view-last : (l : List ℕ) → foldedOf l ≤ lastOf l → last (view l .log) ≡ lastOf l
+view-last l h = omega (arith, view-kept l, view-folded l)
+
+-- a number kept has the entry at its slot
+pub view-entry : (l : List ℕ) (i : ℕ) → foldedOf l < i → i ≤ lastOf l → entryOf (view l .log) i ≡ entryAt l i
+unfolding view
+view-entry l i p q = entry-upFrom (entryAt l) (foldedOf l) (lastOf l) i p q
 
 sizes : (l : List ℕ) → sizesOk (view l) ≡ true
 unfolding view tableOf connectionsOf fieldsAt
 sizes l = refl
 
-entries : (l : List ℕ) → allEntries entryOk (view l .log) ≡ allUpTo (λ k. entryOk k (entryAt l k)) (logLength l)
+pub view-all : (p : ℕ → Transaction → Bool) (l : List ℕ) → allEntries p (view l .log) ≡ allKept (λ k. p k (entryAt l k)) (foldedOf l) (lastOf l)
 unfolding view
-entries l = all-entries entryOk (entryAt l) (logLength l)
+view-all p l = kept-entries p (entryAt l) (foldedOf l) (lastOf l)
 
+-- ---- the whole
 reorder : (c f n h e : Bool) → ((c && f) && (n && (h && (e && true)))) ≡ (n && ((h && f) && (c && e)))
 reorder true true true h e = ap (λ (x : Bool). h && x) (and-true e) ∙ ap (λ (x : Bool). x && e) (sym (and-true h))
 reorder true true false h e = refl
 reorder true false n h e = sym (ap (λ (x : Bool). n && (x && e)) (and-false h) ∙ and-false n)
 reorder false f n h e = sym (ap (λ (x : Bool). n && x) (and-false (h && f)) ∙ and-false n)
 
--- in the scan's order: the length, the log's length, the heads and flags, the entries
+-- at most 128 kept, numbered up to 65,535
+abbrev pub ringOk : ℕ → ℕ → Bool
+ringOk b n = leb (n - b) 128 && leb n 65535
+
+-- in the scan's order: the length, the last fold and the highest number, the heads and flags, the entries kept
 pub scanned : List ℕ → Bool
-scanned l = eqb (length l) 4883 && (leb (logLength l) 128 && ((headsOk (view l) (logLength l) && flagsOk l) && allUpTo (entryFormed l) (logLength l)))
+scanned l =
+    eqb (length l) 4949
+    && (leb (foldedOf l) (lastOf l)
+    && (ringOk (foldedOf l) (lastOf l) && ((headsOk (view l) (lastOf l) && flagsOk l) && allKept (entryFormed l) (foldedOf l) (lastOf l))))
+
+-- of the entries kept: their codes, and what the state asks of them
+abbrev kepts : List ℕ → Bool
+kepts l = allKept (entryStatusesOk l) (foldedOf l) (lastOf l)
+
+abbrev states : List ℕ → Bool
+states l = allEntries entryOk (view l .log)
 
 pub formed-scanned : (l : List ℕ) → formed l ≡ scanned l
 unfolding formed wellFormed scanned
-formed-scanned l =
-    let n : length (view l .log) ≡ logLength l = view-length l in
-    let a : allUpTo (entryFormed l) (logLength l) ≡ (allUpTo (entryStatusesOk l) (logLength l) && allEntries entryOk (view l .log)) =
-    all-same (entryFormed l) (λ k. entryStatusesOk l k && entryOk k (entryAt l k)) (logLength l) (λ k p q. entry-formed-is l k)
-    ∙ all-both (entryStatusesOk l) (λ k. entryOk k (entryAt l k)) (logLength l)
-    ∙ ap (λ (x : Bool). allUpTo (entryStatusesOk l) (logLength l) && x) (sym (entries l)) in
-    ap (λ (x : Bool). eqb (length l) 4883 && x)
-    (ap₂ (λ (k : ℕ) (x : Bool). (allUpTo (entryStatusesOk l) (logLength l) && flagsOk l) && (leb k 128 && (headsOk (view l) k && (allEntries entryOk (view l .log) && x)))) n (sizes l)
-    ∙ reorder (allUpTo (entryStatusesOk l) (logLength l)) (flagsOk l) (leb (logLength l) 128) (headsOk (view l) (logLength l)) (allEntries entryOk (view l .log))
-    ∙ ap (λ (x : Bool). leb (logLength l) 128 && ((headsOk (view l) (logLength l) && flagsOk l) && x)) (sym a))
+formed-scanned l = ap (λ (x : Bool). eqb (length l) 4949 && x) (go (leb (foldedOf l) (lastOf l)) refl)
+  where
+    a : allKept (entryFormed l) (foldedOf l) (lastOf l) ≡ (kepts l && states l)
+    a =
+        kept-same (entryFormed l) (λ k. entryStatusesOk l k && entryOk k (entryAt l k)) (foldedOf l) (lastOf l) (λ k p q. entry-formed-is l k)
+        ∙ kept-both (entryStatusesOk l) (λ k. entryOk k (entryAt l k)) (foldedOf l) (lastOf l)
+        ∙ ap (λ (x : Bool). kepts l && x) (sym (view-all entryOk l))
+
+    go : (x : Bool) → leb (foldedOf l) (lastOf l) ≡ x
+        → ((x && (kepts l && flagsOk l)) && wellFormed (view l))
+        ≡ (x && (ringOk (foldedOf l) (lastOf l) && ((headsOk (view l) (lastOf l) && flagsOk l) && allKept (entryFormed l) (foldedOf l) (lastOf l))))
+    go false e = refl
+    go true e =
+        let n : last (view l .log) ≡ lastOf l = view-last l (leb-true _ _ e) in
+        ap₂ (λ (k : ℕ) (x : Bool). (kepts l && flagsOk l) && ((leb (length (view l .log .entries)) 128 && leb k 65535) && (headsOk (view l) k && (states l && x)))) n (sizes l)
+        ∙ ap (λ (k : ℕ). (kepts l && flagsOk l) && ((leb k 128 && leb (lastOf l) 65535) && (headsOk (view l) (lastOf l) && (states l && true)))) (view-kept l)
+        ∙ reorder (kepts l) (flagsOk l) (ringOk (foldedOf l) (lastOf l)) (headsOk (view l) (lastOf l)) (states l)
+        ∙ ap (λ (x : Bool). ringOk (foldedOf l) (lastOf l) && ((headsOk (view l) (lastOf l) && flagsOk l) && x)) (sym a)
 
 -- ---- the scan's answers
-pub wrong-length : (l : List ℕ) → (length l ≡ 4883 → ⊥) → false ≡ formed l
+pub wrong-length : (l : List ℕ) → (length l ≡ 4949 → ⊥) → false ≡ formed l
 unfolding scanned
 wrong-length l h = sym (formed-scanned l ∙ rw (ne-eqb _ _ h))
 
-module _ (l : List ℕ) (n : ℕ) (z : length l ≡ 4883) (e : n ≡ field l 4608 2) where
-  pub too-long : 128 < n → false ≡ formed l
-  unfolding scanned logLength
-  too-long h = sym (formed-scanned l ∙ rw (eq-eqb _ _ z, ← e, lt-leb n 128 h))
+module _ (l : List ℕ) (n b : ℕ) (z : length l ≡ 4949) (e : n ≡ field l 4608 2) (f : b ≡ field l 4883 2) where
+  pub past-last : n < b → false ≡ formed l
+  unfolding scanned lastOf foldedOf
+  past-last h = sym (formed-scanned l ∙ rw (eq-eqb _ _ z, ← e, ← f, lt-leb b n h))
 
-  module _ (a b : Bool) (k : n ≤ 128) (p : a ≡ headsOk (view l) n) (q : b ≡ flagsOk l) where
-    pub wrong-heads : (a && b) ≡ false → false ≡ formed l
-    unfolding scanned logLength
-    wrong-heads t = sym (formed-scanned l ∙ rw (eq-eqb _ _ z, ← e, le-leb n 128 k, ← p, ← q, t))
+  pub too-many : b ≤ n → 128 < n - b → false ≡ formed l
+  unfolding scanned lastOf foldedOf
+  too-many g h = sym (formed-scanned l ∙ rw (eq-eqb _ _ z, ← e, ← f, le-leb b n g, lt-leb (n - b) 128 h))
 
-    pub by-entries : (x : Bool) → (a && b) ≡ true → x ≡ allUpTo (entryFormed l) n → x ≡ formed l
-    unfolding scanned logLength
-    by-entries x t r = r ∙ sym (formed-scanned l ∙ rw (eq-eqb _ _ z, ← e, le-leb n 128 k, ← p, ← q, t))
+  module _ (x y : Bool) (g : b ≤ n) (k : n - b ≤ 128) (r : n < 65536) (p : x ≡ headsOk (view l) n) (q : y ≡ flagsOk l) where
+    pub wrong-heads : (x && y) ≡ false → false ≡ formed l
+    unfolding scanned lastOf foldedOf
+    wrong-heads t = sym (formed-scanned l ∙ rw (eq-eqb _ _ z, ← e, ← f, le-leb b n g, le-leb (n - b) 128 k, le-leb n 65535 (omega arith), ← p, ← q, t))
+
+    pub by-entries : (w : Bool) → (x && y) ≡ true → w ≡ allKept (entryFormed l) b n → w ≡ formed l
+    unfolding scanned lastOf foldedOf
+    by-entries w t u = u ∙ sym (formed-scanned l ∙ rw (eq-eqb _ _ z, ← e, ← f, le-leb b n g, le-leb (n - b) 128 k, le-leb n 65535 (omega arith), ← p, ← q, t))
 
 -- ---- what a formed image has
+-- the last fold b and the highest number n: at most 128 kept, numbered up to 65,535
+abbrev pub Room : ℕ → ℕ → Type 0
+Room b n = (b ≤ n) × ((n ≤ b + 128) × (n ≤ 65535))
+
 module _ (l : List ℕ) (h : formed l ≡ true) where
   pub formed-length : length l ≡ imageLength
   unfolding formed
@@ -90,9 +135,14 @@ module _ (l : List ℕ) (h : formed l ≡ true) where
   unfolding formed
   formed-state = and-right (codesOk l) _ (and-right (eqb (length l) imageLength) _ h)
 
-  pub formed-few : logLength l ≤ 128
+  pub formed-room : Room (foldedOf l) (lastOf l)
   unfolding wellFormed
-  formed-few = let w : leb (length (view l .log)) 128 ≡ true = and-left _ _ formed-state in omega (arith, leb-true (length (view l .log)) 128 w, view-length l)
+  formed-room =
+      let p : foldedOf l ≤ lastOf l = leb-true _ _ (and-left _ _ formed-codes) in
+      let w = and-left (logOk (view l .log)) _ formed-state in
+      let a = leb-true (length (view l .log .entries)) 128 (and-left _ _ w) in
+      let b = leb-true (last (view l .log)) 65535 (and-right (leb (length (view l .log .entries)) 128) _ w) in
+      (p, (omega (arith, view-kept l), omega (arith, view-last l p)))
 
 -- ---- an entry's pairs, as the scan reads them
 -- the two paths at a place rise, and stay below 32
@@ -158,6 +208,6 @@ unfolding statusesOk
 last-status l at a b d e p q r s x y z = rw (← p, ← q, ← r, ← s, le-leb a 6 x, le-leb b 6 y, le-leb d 6 z)
 
 pub last-mark : (l : List ℕ) (at n a b d e : ℕ) → a ≡ field l (at + 4) 1 → b ≡ field l (at + 6) 2 → d ≡ field l (at + 8) 4 → e ≡ field l (at + 12) 4
-    → 1 ≤ a → a ≤ 2 → b < n → d ≤ 256 → leb e 256 ≡ marksOk l at n
+    → 1 ≤ a → a ≤ 2 → b < n → d ≤ 131070 → leb e 131070 ≡ marksOk l at n
 unfolding marksOk
-last-mark l at n a b d e p q r s w x y z = rw (← p, ← q, ← r, ← s, le-leb 1 a w, le-leb a 2 x, lt-ltb b n y, le-leb d 256 z)
+last-mark l at n a b d e p q r s w x y z = rw (← p, ← q, ← r, ← s, le-leb 1 a w, le-leb a 2 x, lt-ltb b n y, le-leb d 131070 z)

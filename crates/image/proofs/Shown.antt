@@ -1,6 +1,6 @@
 -- The joint: the view of an image with a row of stores made in it is the view with the same stores made. Assumes nothing.
-use Prim.Native.Nat.{ℕ, zero, suc, _+_, _-_, _*_, _≤_, _<_}
-use mathlib.Core.Path.{_≡_, refl, ap, sym, subst, _∙_}
+use Prim.Native.Nat.{ℕ, zero, suc, _+_, _-_, _*_, _%_, _≤_, _<_}
+use mathlib.Core.Path.{_≡_, refl, ap, ap₂, sym, subst, _∙_}
 use mathlib.Core.Logic.{_⊎_, inl, inr, ⊎-elim}
 use mathlib.Core.Bool.{Bool, true, false, cond}
 use mathlib.Core.List.{List, [], _∷_, _++_}
@@ -8,7 +8,7 @@ use native.Mathlib.Omega.{arith}
 use native.Mathlib.Numerals.{add-one}
 use borrow.Author.Tests.{ltb-true, ltb-false}
 use lib.Dec.{ltb}
-use lib.ListN.{length, set, length-set, length-append}
+use lib.ListN.{length, set, drop}
 use lib.Seq.{set-out}
 use Rattle.kinds.specs.declared.Transaction.{Transaction}
 use Rattle.kinds.specs.declared.Head.{Head}
@@ -21,70 +21,104 @@ use Rattle.kinds.specs.Numbers.{num}
 use Rattle.fields.specs.Field.{putField, putFields}
 use Rattle.fields.proofs.Laws.{Outside, length-put, put-outside, put-same}
 use Rattle.fields.proofs.Runs.{Fit, length-puts, puts-outside, puts-same, table-set}
-use Rattle.machine.specs.State.{Part, Net, State, putEntry}
-use Rattle.machine.specs.Stores.{Table, ofCommitted, ofApplied, ofTarget, Store, grow, entry, change, committedHead, appliedHead, value, targetValues, configuration, mastership, connections, target, withCommitted, withApplied, withNet, afterValue, after, afters}
-use Rattle.image.specs.Layout.{entryWidths, headWidths, tableWidths, configurationWidths, mastershipWidths, targetWidths, connectionsWidths, placeOf, lengthAt, changeAt, committedAt, appliedAt, valuesAt, configurationAt, mastershipAt, targetAt, connectionsAt, imageLength}
-use Rattle.image.specs.Records.{toEntry, entryNumbers, entryAt, putEntryAt, logLength, changeOf, toHead, headNumbers, headAt, putHeadAt, toConfiguration, configurationNumbers, configurationOf, putConfiguration, toMastership, mastershipNumbers, mastershipOf, putMastership, toTarget, targetNumbers, targetOf, putTarget, toConnections, connectionsNumbers, eight, connectionsOf, putConnections}
-use Rattle.image.specs.View.{upTo, tableOf, partOf, netOf, view, write, written}
-use Rattle.image.proofs.UpTo.{upTo-set}
-use Rattle.image.proofs.Scanned.{view-length}
+use Rattle.machine.specs.State.{Part, Net, Log, State, blank, grown, putPlace}
+use Rattle.machine.specs.Stores.{Table, ofCommitted, ofApplied, ofTarget, ofBase, Store, grow, entry, fold, change, committedHead, appliedHead, value, targetValues, configuration, mastership, connections, target, withLog, withCommitted, withApplied, withNet, afterValue, after, afters}
+use Rattle.image.specs.Layout.{entryWidths, headWidths, tableWidths, configurationWidths, mastershipWidths, targetWidths, connectionsWidths, slotOf, placeOf, lastAt, changeAt, committedAt, appliedAt, valuesAt, configurationAt, mastershipAt, targetAt, connectionsAt, foldedAt, imageLength}
+use Rattle.image.specs.Records.{toEntry, entryNumbers, entryAt, putEntryAt, lastOf, foldedOf, changeOf, toHead, headNumbers, headAt, putHeadAt, toConfiguration, configurationNumbers, configurationOf, putConfiguration, toMastership, mastershipNumbers, mastershipOf, putMastership, toTarget, targetNumbers, targetOf, putTarget, toConnections, connectionsNumbers, eight, connectionsOf, putConnections}
+use Rattle.image.specs.View.{upFrom, tableOf, entriesOf, logOf, partOf, netOf, view, write, written}
+use Rattle.image.proofs.UpTo.{upFrom-same, upFrom-more, upFrom-drop, put-upFrom}
+use Rattle.image.proofs.Scanned.{Room}
 use Rattle.image.proofs.Chain.{length-table}
-use Rattle.image.proofs.Kept.{Apart, part-kept, net-kept, entry-kept, length-kept, entries-kept, log-kept, change-kept, head-kept, table-kept, configuration-kept, mastership-kept, target-kept, connections-kept}
+use Rattle.image.proofs.Kept.{Apart, same-log, part-kept, net-kept, entry-kept, last-kept, folded-kept, entries-kept, ends-kept, log-kept, change-kept, head-kept, table-kept, configuration-kept, mastership-kept, target-kept, connections-kept}
 use Rattle.image.proofs.Sized.{SizedEntry, SizedHead, SizedMastership, SizedTable, SizedConnections, entry-room, head-room, configuration-room, mastership-room, target-room, connections-room, table-room, entry-back, configuration-back, target-back, connections-back, eight-all}
 
--- ---- each number of a store has room, and a store of an entry is in the log of n
-abbrev pub Fits : ℕ → Store → Type 0
-Fits n (grow t) = SizedEntry t × (n < 128)
-Fits n (entry i t) = SizedEntry t × ((1 ≤ i) × (i ≤ n))
-Fits n (change k) = k .0 < 65536
-Fits n (committedHead h) = SizedHead h
-Fits n (appliedHead h) = SizedHead h
-Fits n (value b p v) = v < 65536
-Fits n (targetValues vs) = SizedTable vs
-Fits n (configuration g) = g .term .0 < 4294967296
-Fits n (mastership m) = SizedMastership m
-Fits n (connections xs) = SizedConnections xs
-Fits n (target t) = t .id < 4294967296
+-- ---- each number of a store has room, and a store of an entry is of a number kept: b the last fold, n the highest number
+abbrev pub Fits : ℕ → ℕ → Store → Type 0
+Fits b n (grow t) = SizedEntry t × ((n < b + 128) × (n < 65535))
+Fits b n (entry i t) = SizedEntry t × ((b < i) × (i ≤ n))
+Fits b n (fold k) = (b ≤ k .0) × (k .0 ≤ n)
+Fits b n (change k) = k .0 < 65536
+Fits b n (committedHead h) = SizedHead h
+Fits b n (appliedHead h) = SizedHead h
+Fits b n (value c p v) = v < 65536
+Fits b n (targetValues vs) = SizedTable vs
+Fits b n (configuration g) = g .term .0 < 4294967296
+Fits b n (mastership m) = SizedMastership m
+Fits b n (connections xs) = SizedConnections xs
+Fits b n (target t) = t .id < 4294967296
 
--- the log's length after a store
-abbrev pub grown : ℕ → Store → ℕ
-grown n (grow t) = n + 1
-grown n (entry i t) = n
-grown n (change k) = n
-grown n (committedHead h) = n
-grown n (appliedHead h) = n
-grown n (value b p v) = n
-grown n (targetValues vs) = n
-grown n (configuration g) = n
-grown n (mastership m) = n
-grown n (connections xs) = n
-grown n (target t) = n
+-- the highest number after a store
+abbrev pub lastAfter : ℕ → Store → ℕ
+lastAfter n (grow t) = n + 1
+lastAfter n (entry i t) = n
+lastAfter n (fold k) = n
+lastAfter n (change k) = n
+lastAfter n (committedHead h) = n
+lastAfter n (appliedHead h) = n
+lastAfter n (value c p v) = n
+lastAfter n (targetValues vs) = n
+lastAfter n (configuration g) = n
+lastAfter n (mastership m) = n
+lastAfter n (connections xs) = n
+lastAfter n (target t) = n
 
-abbrev pub FitsAll : ℕ → List Store → Type 0
-FitsAll n [] = Unit {0}
-FitsAll n (e ∷ es) = Fits n e × FitsAll (grown n e) es
+-- the last fold after a store
+abbrev pub foldedAfter : ℕ → Store → ℕ
+foldedAfter b (grow t) = b
+foldedAfter b (entry i t) = b
+foldedAfter b (fold k) = k .0
+foldedAfter b (change k) = b
+foldedAfter b (committedHead h) = b
+foldedAfter b (appliedHead h) = b
+foldedAfter b (value c p v) = b
+foldedAfter b (targetValues vs) = b
+foldedAfter b (configuration g) = b
+foldedAfter b (mastership m) = b
+foldedAfter b (connections xs) = b
+foldedAfter b (target t) = b
+
+abbrev pub FitsAll : ℕ → ℕ → List Store → Type 0
+FitsAll b n [] = Unit {0}
+FitsAll b n (e ∷ es) = Fits b n e × FitsAll (foldedAfter b e) (lastAfter n e) es
 
 -- ---- the view, from its five parts
-pub same-view : (l : List ℕ) (log : List Transaction) (n : ℕ) (c a : Part) (w : Net) → upTo (entryAt l) (logLength l) ≡ log → changeOf l ≡ n
+pub same-view : (l : List ℕ) (log : Log) (n : ℕ) (c a : Part) (w : Net) → logOf l ≡ log → changeOf l ≡ n
     → partOf l committedAt ofCommitted ≡ c → partOf l appliedAt ofApplied ≡ a → netOf l ≡ w
     → view l ≡ record { log = log; change = num n; committed = c; applied = a; net = w }
 unfolding view
 same-view l log n c a w p q r s t = cc
 
--- a store inside the log leaves all that lies past its length
-pub shown-log : (l m : List ℕ) (a e : ℕ) → Outside l m a e → e ≤ changeAt → (log : List Transaction) → upTo (entryAt m) (logLength m) ≡ log
-    → view m ≡ record { log = log; change = num (changeOf l); committed = partOf l committedAt ofCommitted; applied = partOf l appliedAt ofApplied; net = netOf l }
-shown-log l m a e o h log q =
-    same-view m _ _ _ _ _ q (change-kept l m a e o (inr (omega arith))) (part-kept l m a e o committedAt ofCommitted (inr (omega arith)) (inr (omega arith)))
+-- a store inside the ring or of the highest number leaves all that lies past it but the log
+pub shown-log : (l m : List ℕ) (a e : ℕ) → Outside l m a e → e ≤ changeAt → (ts : List Transaction) → entriesOf m ≡ ts
+    → view m ≡ withLog (view l) (record { folded = num (foldedOf l); base = tableOf l ofBase; entries = ts })
+unfolding view
+shown-log l m a e o h ts q =
+    same-view m _ _ _ _ _ (same-log m _ _ _ (folded-kept l m a e o (inr (omega arith))) (table-kept l m a e o ofBase (inr (omega arith))) q)
+    (change-kept l m a e o (inr (omega arith))) (part-kept l m a e o committedAt ofCommitted (inr (omega arith)) (inr (omega arith)))
     (part-kept l m a e o appliedAt ofApplied (inr (omega arith)) (inr (omega arith))) (net-kept l m a e o (inr (omega arith)))
 
--- two entries lie apart
-pub entries-apart : (i j : ℕ) → 1 ≤ i → 1 ≤ j → (j ≡ i → ⊥) → Apart (placeOf i) (placeOf i + 36) (placeOf j) 36
-entries-apart i j a b d = go (ltb j i) refl
+-- a store past the nodes' side, of the last fold or the base, leaves all but the log
+shown-base : (l m : List ℕ) (a e : ℕ) → Outside l m a e → foldedAt ≤ a → (log : Log) → logOf m ≡ log → view m ≡ withLog (view l) log
+unfolding view
+shown-base l m a e o h log q =
+    same-view m _ _ _ _ _ q
+    (change-kept l m a e o (inl (omega arith))) (part-kept l m a e o committedAt ofCommitted (inl (omega arith)) (inl (omega arith)))
+    (part-kept l m a e o appliedAt ofApplied (inl (omega arith)) (inl (omega arith))) (net-kept l m a e o (inl (omega arith)))
+
+-- two numbers of which at most 128 are kept lie apart
+pub slots-differ : (b i j : ℕ) → b < i → i ≤ b + 128 → b < j → j ≤ b + 128 → slotOf j ≡ slotOf i → j ≡ i
+slots-differ b i j p q r s e = omega arith
+
+pub entries-apart : (b i j : ℕ) → b < i → i ≤ b + 128 → b < j → j ≤ b + 128 → (j ≡ i → ⊥) → Apart (placeOf i) (placeOf i + 36) (placeOf j) 36
+entries-apart b i j p q r s d = go (ltb (slotOf j) (slotOf i)) refl
   where
-    go : (x : Bool) → ltb j i ≡ x → Apart (placeOf i) (placeOf i + 36) (placeOf j) 36
-    go true e = inl (omega (arith, ltb-true j i e))
-    go false e = let q : i ≤ j = ltb-false j i e in let r : i < j = omega (arith, d) in inr (omega arith)
+    go : (x : Bool) → ltb (slotOf j) (slotOf i) ≡ x → Apart (placeOf i) (placeOf i + 36) (placeOf j) 36
+    go true e = let y : slotOf j < slotOf i = ltb-true (slotOf j) (slotOf i) e in inl (omega arith)
+    go false e =
+        let y : slotOf i ≤ slotOf j = ltb-false (slotOf j) (slotOf i) e in
+        let w : slotOf j ≡ slotOf i → ⊥ = λ x. d (slots-differ b i j p q r s x) in
+        let v : slotOf i < slotOf j = omega (arith, w) in
+        inr (omega arith)
 
 -- what is kept outside a run is kept outside a wider one
 wider : (l m : List ℕ) (a e b d : ℕ) → Outside l m a e → b ≤ a → e ≤ d → Outside l m b d
@@ -98,62 +132,91 @@ same-net g m xs t v g' m' xs' t' v' p q r s u = cc
 same-part : (h : Head) (v : List ℕ) (k : Head) (u : List ℕ) → h ≡ k → v ≡ u → _≡_ {A = Part} (record { head = h; values = v }) (record { head = k; values = u })
 same-part h v k u p q = cc
 
-module _ (l : List ℕ) (z : length l ≡ imageLength) (f : logLength l ≤ 128) where
+module _ (l : List ℕ) (z : length l ≡ imageLength) (f : Room (foldedOf l) (lastOf l)) where
   -- ---- an entry
   pub entry-outside : (n : ℕ) (t : Transaction) → Outside l (putEntryAt l n t) (placeOf n) (placeOf n + 36)
   unfolding putEntryAt
   entry-outside n t = puts-outside entryWidths (entryNumbers t) l (placeOf n)
 
-  pub entry-same : (n : ℕ) (t : Transaction) → SizedEntry t → n ≤ 128 → entryAt (putEntryAt l n t) n ≡ t
+  pub entry-same : (n : ℕ) (t : Transaction) → SizedEntry t → entryAt (putEntryAt l n t) n ≡ t
   unfolding entryAt putEntryAt
-  entry-same n t h k = ap toEntry (puts-same entryWidths (entryNumbers t) l (placeOf n) (entry-room t h) (omega arith)) ∙ entry-back t h
+  entry-same n t h = ap toEntry (puts-same entryWidths (entryNumbers t) l (placeOf n) (entry-room t h) (omega arith)) ∙ entry-back t h
 
-  shown-entry : (i : ℕ) (t : Transaction) → SizedEntry t → (1 ≤ i) × (i ≤ logLength l) → view (write l (entry i t)) ≡ after (view l) (entry i t)
+  -- every other kept
+  pub other-kept : (m : List ℕ) (i : ℕ) → Outside l m (placeOf i) (placeOf i + 36) → foldedOf l < i → i ≤ foldedOf l + 128
+      → (k : ℕ) → foldedOf l < k → k ≤ lastOf l → (k ≡ i → ⊥) → entryAt m k ≡ entryAt l k
+  other-kept m i o p q k u v d = entry-kept l m _ _ o k (entries-apart (foldedOf l) i k p q u (omega (arith, f .1 .0)) d)
+
+  shown-entry : (i : ℕ) (t : Transaction) → SizedEntry t → (foldedOf l < i) × (i ≤ lastOf l) → view (write l (entry i t)) ≡ after (view l) (entry i t)
   unfolding view write after
-  shown-entry zero t h k = absurd (omega (arith, k .0))
-  shown-entry (suc i) t h k =
-      let m = putEntryAt l (suc i) t in
-      let o : Outside l m (placeOf (suc i)) (placeOf (suc i) + 36) = entry-outside (suc i) t in
-      let c : logLength m ≡ logLength l = length-kept l m _ _ o (inr (omega (arith, k .1))) in
-      let q : upTo (entryAt m) (logLength m) ≡ set (upTo (entryAt l) (logLength l)) i t =
-      ap (upTo (entryAt m)) c
-      ∙ upTo-set (entryAt l) (entryAt m) (logLength l) i t (entry-same (suc i) t h (omega (arith, k .1)))
-      (λ j p d. entry-kept l m _ _ o (suc j) (entries-apart (suc i) (suc j) (omega arith) (omega arith) (λ e. d (omega arith)))) in
-      shown-log l m _ _ o (omega (arith, k .1)) _ q
+  shown-entry i t h k =
+      let m = putEntryAt l i t in
+      let o : Outside l m (placeOf i) (placeOf i + 36) = entry-outside i t in
+      let x : placeOf i + 36 ≤ lastAt = omega arith in
+      let p : foldedOf m ≡ foldedOf l = folded-kept l m _ _ o (inr (omega arith)) in
+      let c : lastOf m ≡ lastOf l = last-kept l m _ _ o (inr x) in
+      let q : entriesOf m ≡ putPlace (entriesOf l) (i - foldedOf l) t =
+      ap₂ (λ (b n : ℕ). upFrom (entryAt m) b n) p c
+      ∙ put-upFrom (entryAt l) (entryAt m) (foldedOf l) (lastOf l) i t (k .0) (k .1) (entry-same i t h)
+      (other-kept m i o (k .0) (omega (arith, k .1, f .1 .0))) in
+      shown-log l m _ _ o (omega arith) _ q
 
   -- ---- the log, one longer
-  longer : (m : List ℕ) (n k : ℕ) (t : Transaction) → k ≡ n + 1 → upTo (entryAt m) n ≡ upTo (entryAt l) n → entryAt m (n + 1) ≡ t
-      → upTo (entryAt m) k ≡ upTo (entryAt l) n ++ (t ∷ [])
-  unfolding upTo
-  longer m n k t e p q = let y : entryAt m (suc n) ≡ t = rw (← add-one n) q in rw (e, add-one n, p, y)
-
-  counted : (m : List ℕ) (n : ℕ) → length m ≡ imageLength → n < 128 → logLength (putField m lengthAt 2 (n + 1)) ≡ n + 1
-  unfolding logLength
-  counted m n y h = put-same 2 m lengthAt (n + 1) (omega arith) (omega arith)
+  counted : (m : List ℕ) (n : ℕ) → length m ≡ imageLength → n < 65535 → lastOf (putField m lastAt 2 (n + 1)) ≡ n + 1
+  unfolding lastOf
+  counted m n y h = put-same 2 m lastAt (n + 1) (omega arith) (omega arith)
 
   pub length-entry : (n : ℕ) (t : Transaction) → length (putEntryAt l n t) ≡ imageLength
   unfolding putEntryAt
   length-entry n t = length-puts entryWidths (entryNumbers t) l (placeOf n) ∙ z
 
-  -- both writes of growing lie from the new entry's place to the end of the length
-  pub grow-outside : (t : Transaction) → logLength l < 128
-      → Outside l (putField (putEntryAt l (logLength l + 1) t) lengthAt 2 (logLength l + 1)) (placeOf (logLength l + 1)) (lengthAt + 2)
-  grow-outside t k j h =
-      put-outside 2 (putEntryAt l (logLength l + 1) t) lengthAt (logLength l + 1) j (⊎-elim (λ x. inl (omega arith)) (λ y. inr (omega arith)) h)
-      ∙ entry-outside (logLength l + 1) t j (⊎-elim (λ x. inl (omega arith)) (λ y. inr (omega arith)) h)
+  -- both writes of growing lie in the ring and the highest number
+  pub grow-outside : (t : Transaction) → Outside l (putField (putEntryAt l (lastOf l + 1) t) lastAt 2 (lastOf l + 1)) 0 (lastAt + 2)
+  grow-outside t j h =
+      put-outside 2 (putEntryAt l (lastOf l + 1) t) lastAt (lastOf l + 1) j (⊎-elim (λ x. inl (omega arith)) (λ y. inr (omega arith)) h)
+      ∙ entry-outside (lastOf l + 1) t j (⊎-elim (λ x. inl (omega arith)) (λ y. inr (omega arith)) h)
 
-  shown-grow : (t : Transaction) → SizedEntry t → logLength l < 128 → view (write l (grow t)) ≡ after (view l) (grow t)
+  shown-grow : (t : Transaction) → SizedEntry t → (lastOf l < foldedOf l + 128) × (lastOf l < 65535) → view (write l (grow t)) ≡ after (view l) (grow t)
   unfolding view write after
   shown-grow t h k =
-      let n = logLength l in
+      let n = lastOf l in
       let l1 = putEntryAt l (n + 1) t in
-      let m = putField l1 lengthAt 2 (n + 1) in
-      let o : Outside l m (placeOf (n + 1)) (lengthAt + 2) = grow-outside t k in
-      let u : Outside l1 m lengthAt (lengthAt + 2) = put-outside 2 l1 lengthAt (n + 1) in
-      let q : upTo (entryAt m) (logLength m) ≡ upTo (entryAt l) n ++ (t ∷ []) =
-      longer m n (logLength m) t (counted l1 n (length-entry (n + 1) t) k) (entries-kept l m _ _ o n (inl (omega arith)))
-      (entry-kept l1 m _ _ u (n + 1) (inl (omega arith)) ∙ entry-same (n + 1) t h (omega arith)) in
+      let m = putField l1 lastAt 2 (n + 1) in
+      let o : Outside l m 0 (lastAt + 2) = grow-outside t in
+      let u : Outside l1 m lastAt (lastAt + 2) = put-outside 2 l1 lastAt (n + 1) in
+      let p : foldedOf m ≡ foldedOf l = folded-kept l m _ _ o (inr (omega arith)) in
+      let c : lastOf m ≡ n + 1 = counted l1 n (length-entry (n + 1) t) (k .1) in
+      let g : foldedOf l < n + 1 = omega (arith, f .0) in
+      let q : entriesOf m ≡ entriesOf l ++ (t ∷ []) =
+      ap₂ (λ (b e : ℕ). upFrom (entryAt m) b e) p c
+      ∙ upFrom-more (entryAt m) (foldedOf l) n (f .0)
+      ∙ ap₂ (λ (xs : List Transaction) (x : Transaction). xs ++ (x ∷ []))
+      (entries-kept l1 m _ _ u (foldedOf l) n (omega arith)
+      ∙ upFrom-same (entryAt l) (entryAt l1) (foldedOf l) n
+      (λ j a b. other-kept l1 (n + 1) (entry-outside (n + 1) t) g (omega (arith, k .0)) j a b (λ e. absurd (omega arith))))
+      (entry-kept l1 m _ _ u (n + 1) (inl (omega arith)) ∙ entry-same (n + 1) t h) in
       shown-log l m _ _ o (omega arith) _ q
+
+  -- ---- the last fold
+  fold-outside : (x : ℕ) → Outside l (putField l foldedAt 2 x) foldedAt (foldedAt + 2)
+  fold-outside x = put-outside 2 l foldedAt x
+
+  fold-same : (x : ℕ) → x < 65536 → foldedOf (putField l foldedAt 2 x) ≡ x
+  unfolding foldedOf
+  fold-same x k = put-same 2 l foldedAt x k (omega arith)
+
+  shown-fold : (b : Number) → (foldedOf l ≤ b .0) × (b .0 ≤ lastOf l) → view (write l (fold b)) ≡ after (view l) (fold b)
+  unfolding view write after
+  shown-fold b k =
+      let m = putField l foldedAt 2 (b .0) in
+      let o : Outside l m foldedAt (foldedAt + 2) = fold-outside (b .0) in
+      let p : foldedOf m ≡ b .0 = fold-same (b .0) (omega (arith, k .1, f .1 .1)) in
+      let c : lastOf m ≡ lastOf l = last-kept l m _ _ o (inl (omega arith)) in
+      let q : entriesOf m ≡ drop (b .0 - foldedOf l) (entriesOf l) =
+      ap₂ (λ (x n : ℕ). upFrom (entryAt m) x n) p c
+      ∙ entries-kept l m _ _ o (b .0) (lastOf l) (omega arith)
+      ∙ upFrom-drop (entryAt l) (foldedOf l) (b .0) (lastOf l) blank (k .0) (k .1) in
+      shown-base l m _ _ o (omega arith) _ (same-log m _ _ _ p (table-kept l m _ _ o ofBase (inr (omega arith))) q)
 
   -- ---- past the log: the log is kept, and so is what lies apart
   change-outside : (x : ℕ) → Outside l (putField l changeAt 2 x) changeAt (changeAt + 2)
@@ -168,7 +231,7 @@ module _ (l : List ℕ) (z : length l ≡ imageLength) (f : logLength l ≤ 128)
   shown-change n k =
       let m = putField l changeAt 2 (n .0) in
       let o : Outside l m changeAt (changeAt + 2) = change-outside (n .0) in
-      same-view m _ _ _ _ _ (log-kept l m _ _ o (omega arith) f) (change-same (n .0) k)
+      same-view m _ _ _ _ _ (log-kept l m _ _ o (omega arith) (omega arith)) (change-same (n .0) k)
       (part-kept l m _ _ o committedAt ofCommitted (inr (omega arith)) (inr (omega arith)))
       (part-kept l m _ _ o appliedAt ofApplied (inr (omega arith)) (inr (omega arith)))
       (net-kept l m _ _ o (inr (omega arith)))
@@ -178,7 +241,7 @@ module _ (l : List ℕ) (z : length l ≡ imageLength) (f : logLength l ≤ 128)
     in-committed : view m ≡ withCommitted (view l) c
     unfolding view
     in-committed =
-        same-view m _ _ _ _ _ (log-kept l m _ _ o (omega arith) f) (change-kept l m _ _ o (inl (omega arith))) q
+        same-view m _ _ _ _ _ (log-kept l m _ _ o (omega arith) (omega arith)) (change-kept l m _ _ o (inl (omega arith))) q
         (part-kept l m _ _ o appliedAt ofApplied (inr (omega arith)) (inr (omega arith))) (net-kept l m _ _ o (inr (omega arith)))
 
   -- ---- in Applied
@@ -186,15 +249,15 @@ module _ (l : List ℕ) (z : length l ≡ imageLength) (f : logLength l ≤ 128)
     in-applied : view m ≡ withApplied (view l) c
     unfolding view
     in-applied =
-        same-view m _ _ _ _ _ (log-kept l m _ _ o (omega arith) f) (change-kept l m _ _ o (inl (omega arith)))
+        same-view m _ _ _ _ _ (log-kept l m _ _ o (omega arith) (omega arith)) (change-kept l m _ _ o (inl (omega arith)))
         (part-kept l m _ _ o committedAt ofCommitted (inl (omega arith)) (inl (omega arith))) q (net-kept l m _ _ o (inr (omega arith)))
 
   -- ---- on the nodes' side
-  module _ (m : List ℕ) (o : Outside l m (valuesAt ofTarget) imageLength) (w : Net) (q : netOf m ≡ w) where
+  module _ (m : List ℕ) (o : Outside l m (valuesAt ofTarget) foldedAt) (w : Net) (q : netOf m ≡ w) where
     in-net : view m ≡ withNet (view l) w
     unfolding view
     in-net =
-        same-view m _ _ _ _ _ (log-kept l m _ _ o (omega arith) f) (change-kept l m _ _ o (inl (omega arith)))
+        same-view m _ _ _ _ _ (log-kept l m _ _ o (omega arith) (omega arith)) (change-kept l m _ _ o (inl (omega arith)))
         (part-kept l m _ _ o committedAt ofCommitted (inl (omega arith)) (inl (omega arith)))
         (part-kept l m _ _ o appliedAt ofApplied (inl (omega arith)) (inl (omega arith))) q
 
@@ -256,6 +319,13 @@ module _ (l : List ℕ) (z : length l ≡ imageLength) (f : logLength l ≤ 128)
       let m = putField l (valuesAt ofTarget + 2 * p) 2 v in
       let o : Outside l m (valuesAt ofTarget) (valuesAt ofTarget + 64) = value-outside ofTarget p v h in
       target-values m _ o (value-same ofTarget p v h k (omega arith))
+  value-in ofBase p v k h =
+      let m = putField l (valuesAt ofBase + 2 * p) 2 v in
+      let o : Outside l m (valuesAt ofBase) (valuesAt ofBase + 64) = value-outside ofBase p v h in
+      let e : (foldedOf m ≡ foldedOf l) × (lastOf m ≡ lastOf l) = (folded-kept l m _ _ o (inl (omega arith)), last-kept l m _ _ o (inl (omega arith))) in
+      shown-base l m _ _ o (omega arith) _
+      (same-log m _ _ _ (e .0) (value-same ofBase p v h k (omega arith))
+      (ap₂ (λ (b n : ℕ). upFrom (entryAt m) b n) (e .0) (e .1) ∙ entries-kept l m _ _ o (foldedOf l) (lastOf l) (omega arith)))
 
   value-out : (b : Table) (p v : ℕ) → 32 ≤ p → view l ≡ afterValue (view l) b p v
   unfolding view
@@ -265,6 +335,8 @@ module _ (l : List ℕ) (z : length l ≡ imageLength) (f : logLength l ≤ 128)
       ap (λ (x : List ℕ). withApplied (view l) (record { head = headAt l appliedAt; values = x })) e
   value-out ofTarget p v h = let e : tableOf l ofTarget ≡ set (tableOf l ofTarget) p v = sym (set-out (tableOf l ofTarget) p v (omega (arith, length-table l ofTarget))) in
       ap (λ (x : List ℕ). withNet (view l) (record { configuration = configurationOf l; mastership = mastershipOf l; connections = connectionsOf l; target = targetOf l; values = x })) e
+  value-out ofBase p v h = let e : tableOf l ofBase ≡ set (tableOf l ofBase) p v = sym (set-out (tableOf l ofBase) p v (omega (arith, length-table l ofBase))) in
+      ap (λ (x : List ℕ). withLog (view l) (record { folded = num (foldedOf l); base = x; entries = entriesOf l })) e
 
   shown-value : (b : Table) (p v : ℕ) → v < 65536 → view (write l (value b p v)) ≡ after (view l) (value b p v)
   unfolding write after
@@ -356,9 +428,10 @@ module _ (l : List ℕ) (z : length l ≡ imageLength) (f : logLength l ≤ 128)
       (target-kept l m _ _ o (inl (omega arith))) (table-kept l m _ _ o ofTarget (inl (omega arith))))
 
   -- ---- any store
-  pub shown : (e : Store) → Fits (logLength l) e → view (write l e) ≡ after (view l) e
+  pub shown : (e : Store) → Fits (foldedOf l) (lastOf l) e → view (write l e) ≡ after (view l) e
   shown (grow t) h = shown-grow t (h .0) (h .1)
   shown (entry i t) h = shown-entry i t (h .0) (h .1)
+  shown (fold b) h = shown-fold b h
   shown (change n) h = shown-change n h
   shown (committedHead k) h = shown-committed k h
   shown (appliedHead k) h = shown-applied k h
@@ -376,8 +449,9 @@ module _ (l : List ℕ) (z : length l ≡ imageLength) (f : logLength l ≤ 128)
 
   pub length-write : (e : Store) → length (write l e) ≡ imageLength
   unfolding write putHeadAt putConfiguration putMastership putConnections putTarget
-  length-write (grow t) = length-put 2 (putEntryAt l (logLength l + 1) t) lengthAt (logLength l + 1) ∙ length-entry (logLength l + 1) t
+  length-write (grow t) = length-put 2 (putEntryAt l (lastOf l + 1) t) lastAt (lastOf l + 1) ∙ length-entry (lastOf l + 1) t
   length-write (entry i t) = length-entry i t
+  length-write (fold b) = length-put 2 l foldedAt (b .0) ∙ z
   length-write (change n) = length-put 2 l changeAt (n .0) ∙ z
   length-write (committedHead h) = length-puts headWidths (headNumbers h) l committedAt ∙ z
   length-write (appliedHead h) = length-puts headWidths (headNumbers h) l appliedAt ∙ z
@@ -388,58 +462,77 @@ module _ (l : List ℕ) (z : length l ≡ imageLength) (f : logLength l ≤ 128)
   length-write (connections xs) = length-puts connectionsWidths (connectionsNumbers (eight xs)) l connectionsAt ∙ z
   length-write (target t) = length-puts targetWidths (targetNumbers t) l targetAt ∙ z
 
-log-put : (l : List Transaction) (i : ℕ) (t : Transaction) → length (putEntry l i t) ≡ length l
-log-put l zero t = refl
-log-put l (suc i) t = length-set l i t
+  -- ---- the last fold and the highest number after a store
+  abbrev pub Ends : List ℕ → Store → Type 0
+  Ends m e = (foldedOf m ≡ foldedAfter (foldedOf l) e) × (lastOf m ≡ lastAfter (lastOf l) e)
 
-after-value : (s : State) (b : Table) (p v : ℕ) → afterValue s b p v .log ≡ s .log
-after-value s ofCommitted p v = refl
-after-value s ofApplied p v = refl
-after-value s ofTarget p v = refl
+  ends-value : (b : Table) (p v : ℕ) → (x : Bool) → ltb p 32 ≡ x
+      → (foldedOf (cond x (putField l (valuesAt b + 2 * p) 2 v) l) ≡ foldedOf l) × (lastOf (cond x (putField l (valuesAt b + 2 * p) 2 v) l) ≡ lastOf l)
+  ends-value b p v false e = (refl, refl)
+  ends-value ofCommitted p v true e =
+      ends-kept l (putField l (valuesAt ofCommitted + 2 * p) 2 v) _ _ (value-outside ofCommitted p v (ltb-true p 32 e)) (omega arith) (omega arith)
+  ends-value ofApplied p v true e =
+      ends-kept l (putField l (valuesAt ofApplied + 2 * p) 2 v) _ _ (value-outside ofApplied p v (ltb-true p 32 e)) (omega arith) (omega arith)
+  ends-value ofTarget p v true e =
+      ends-kept l (putField l (valuesAt ofTarget + 2 * p) 2 v) _ _ (value-outside ofTarget p v (ltb-true p 32 e)) (omega arith) (omega arith)
+  ends-value ofBase p v true e =
+      let m = putField l (valuesAt ofBase + 2 * p) 2 v in
+      let o : Outside l m (valuesAt ofBase) (valuesAt ofBase + 64) = value-outside ofBase p v (ltb-true p 32 e) in
+      (folded-kept l m _ _ o (inl (omega arith)), last-kept l m _ _ o (inl (omega arith)))
 
-pub after-length : (s : State) (e : Store) → length (after s e .log) ≡ grown (length (s .log)) e
-unfolding after
-after-length s (grow t) = length-append (s .log) (t ∷ [])
-after-length s (entry i t) = log-put (s .log) i t
-after-length s (change n) = refl
-after-length s (committedHead h) = refl
-after-length s (appliedHead h) = refl
-after-length s (value b p v) = ap length (after-value s b p v)
-after-length s (targetValues vs) = refl
-after-length s (configuration g) = refl
-after-length s (mastership m) = refl
-after-length s (connections xs) = refl
-after-length s (target t) = refl
+  pub ends-write : (e : Store) → Fits (foldedOf l) (lastOf l) e → Ends (write l e) e
+  unfolding write
+  ends-write (grow t) h =
+      (folded-kept l _ _ _ (grow-outside t) (inr (omega arith)), counted (putEntryAt l (lastOf l + 1) t) (lastOf l) (length-entry (lastOf l + 1) t) (h .1 .1))
+  ends-write (entry i t) h =
+      let x : placeOf i + 36 ≤ lastAt = omega arith in
+      (folded-kept l _ _ _ (entry-outside i t) (inr (omega arith)), last-kept l _ _ _ (entry-outside i t) (inr x))
+  ends-write (fold b) h = (fold-same (b .0) (omega (arith, h .1, f .1 .1)), last-kept l _ _ _ (fold-outside (b .0)) (inl (omega arith)))
+  ends-write (change n) h = ends-kept l _ _ _ (change-outside (n .0)) (omega arith) (omega arith)
+  ends-write (committedHead k) h = ends-kept l _ _ _ (head-outside committedAt k) (omega arith) (omega arith)
+  ends-write (appliedHead k) h = ends-kept l _ _ _ (head-outside appliedAt k) (omega arith) (omega arith)
+  ends-write (value b p v) h = ends-value b p v (ltb p 32) refl
+  ends-write (targetValues vs) h = ends-kept l _ _ _ (puts-outside tableWidths vs l (valuesAt ofTarget)) (omega arith) (omega arith)
+  ends-write (configuration g) h = ends-kept l _ _ _ (configuration-outside g) (omega arith) (omega arith)
+  ends-write (mastership x) h = ends-kept l _ _ _ (mastership-outside x) (omega arith) (omega arith)
+  ends-write (connections xs) h = ends-kept l _ _ _ (connections-outside xs) (omega arith) (omega arith)
+  ends-write (target t) h = ends-kept l _ _ _ (target-outside t) (omega arith) (omega arith)
 
-pub count-write : (l : List ℕ) → length l ≡ imageLength → logLength l ≤ 128 → (e : Store) → Fits (logLength l) e → logLength (write l e) ≡ grown (logLength l) e
-count-write l z f e h =
-    sym (view-length (write l e)) ∙ ap (λ (s : State). length (s .log)) (shown l z f e h) ∙ after-length (view l) e ∙ ap (λ (n : ℕ). grown n e) (view-length l)
+-- a store that fits leaves room
+pub room-after : (b n : ℕ) (e : Store) → Fits b n e → Room b n → Room (foldedAfter b e) (lastAfter n e)
+room-after b n (grow t) h k = (omega (arith, k .0), (omega (arith, h .1 .0), omega (arith, h .1 .1)))
+room-after b n (entry i t) h k = k
+room-after b n (fold i) h k = (h .1, (omega (arith, h .0, k .1 .0), k .1 .1))
+room-after b n (change i) h k = k
+room-after b n (committedHead x) h k = k
+room-after b n (appliedHead x) h k = k
+room-after b n (value c p v) h k = k
+room-after b n (targetValues vs) h k = k
+room-after b n (configuration g) h k = k
+room-after b n (mastership m) h k = k
+room-after b n (connections xs) h k = k
+room-after b n (target t) h k = k
 
-pub grown-few : (n : ℕ) (e : Store) → Fits n e → n ≤ 128 → grown n e ≤ 128
-grown-few n (grow t) h k = omega (arith, h .1)
-grown-few n (entry i t) h k = k
-grown-few n (change i) h k = k
-grown-few n (committedHead x) h k = k
-grown-few n (appliedHead x) h k = k
-grown-few n (value b p v) h k = k
-grown-few n (targetValues vs) h k = k
-grown-few n (configuration g) h k = k
-grown-few n (mastership m) h k = k
-grown-few n (connections xs) h k = k
-grown-few n (target t) h k = k
+-- the same of the image with the store made
+pub room-write : (l : List ℕ) → length l ≡ imageLength → Room (foldedOf l) (lastOf l) → (e : Store) → Fits (foldedOf l) (lastOf l) e
+    → Room (foldedOf (write l e)) (lastOf (write l e))
+room-write l z f e h = let c = ends-write l z f e h in rw (c .0, c .1) (room-after (foldedOf l) (lastOf l) e h f)
+
+pub rest-fits : (l : List ℕ) (z : length l ≡ imageLength) (f : Room (foldedOf l) (lastOf l)) (e : Store) (es : List Store)
+    → FitsAll (foldedOf l) (lastOf l) (e ∷ es) → FitsAll (foldedOf (write l e)) (lastOf (write l e)) es
+rest-fits l z f e es h = let c = ends-write l z f e (h .0) in rw (c .0, c .1) (h .1)
 
 -- THE law of the image: what the written image shows is what it showed, with the same stores made
-pub view-written : (es : List Store) (l : List ℕ) → length l ≡ imageLength → logLength l ≤ 128 → FitsAll (logLength l) es → view (written l es) ≡ afters (view l) es
+pub view-written : (es : List Store) (l : List ℕ) → length l ≡ imageLength → Room (foldedOf l) (lastOf l) → FitsAll (foldedOf l) (lastOf l) es
+    → view (written l es) ≡ afters (view l) es
 unfolding written afters
 view-written [] l z f h = refl
 view-written (e ∷ es) l z f h =
-    let c : logLength (write l e) ≡ grown (logLength l) e = count-write l z f e (h .0) in
-    view-written es (write l e) (length-write l z f e) (omega (arith, grown-few (logLength l) e (h .0) f)) (rw c (h .1))
+    view-written es (write l e) (length-write l z f e) (room-write l z f e (h .0)) (rest-fits l z f e es h)
     ∙ ap (λ (s : State). afters s es) (shown l z f e (h .0))
 
-pub length-written : (es : List Store) (l : List ℕ) → length l ≡ imageLength → logLength l ≤ 128 → FitsAll (logLength l) es → length (written l es) ≡ imageLength
+pub length-written : (es : List Store) (l : List ℕ) → length l ≡ imageLength → Room (foldedOf l) (lastOf l) → FitsAll (foldedOf l) (lastOf l) es
+    → length (written l es) ≡ imageLength
 unfolding written
 length-written [] l z f h = z
-length-written (e ∷ es) l z f h =
-    let c : logLength (write l e) ≡ grown (logLength l) e = count-write l z f e (h .0) in
-    length-written es (write l e) (length-write l z f e) (omega (arith, grown-few (logLength l) e (h .0) f)) (rw c (h .1))
+length-written (e ∷ es) l z f h = length-written es (write l e) (length-write l z f e) (room-write l z f e (h .0)) (rest-fits l z f e es h)

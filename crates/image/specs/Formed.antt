@@ -1,6 +1,6 @@
--- A well-formed image: it has the one length, its codes are codes, and the state that it shows is well-formed
--- (paper: The state, Well-formed). Assumes nothing.
-use Prim.Native.Nat.{ℕ, zero, suc, _+_}
+-- A well-formed image: it has the one length, its codes are codes, its last fold is at most the highest number given, and
+-- the state that it shows is well-formed (paper: The state, Well-formed; order 10). Assumes nothing.
+use Prim.Native.Nat.{ℕ, zero, suc, _+_, _-_}
 use mathlib.Core.List.{List}
 use mathlib.Core.Bool.{Bool, true, _&&_}
 use lib.Dec.{eqb, leb, ltb}
@@ -8,13 +8,17 @@ use lib.ListN.{length}
 use Rattle.fields.specs.Field.{field, fieldsAt, ones}
 use Rattle.machine.specs.WellFormed.{pairsOk, wellFormed}
 use Rattle.image.specs.Layout.{placeOf, configurationAt, targetAt, connectionsAt, imageLength}
-use Rattle.image.specs.Records.{logLength}
+use Rattle.image.specs.Records.{lastOf, foldedOf}
 use Rattle.image.specs.View.{view}
 
 -- a test of each number from 1 to n
 unfoldable pub allUpTo : (ℕ → Bool) → ℕ → Bool
 allUpTo p zero = true
 allUpTo p (suc n) = allUpTo p n && p (suc n)
+
+-- of each from b + 1 to n
+unfoldable pub allKept : (ℕ → Bool) → ℕ → ℕ → Bool
+allKept p b n = allUpTo (λ j. p (b + j)) (n - b)
 
 -- the four statuses of the entry at a place
 unfoldable pub statusesOk : List ℕ → ℕ → Bool
@@ -36,7 +40,7 @@ flagsOk l =
     && (flagOk l (connectionsAt + 24) && (flagOk l (connectionsAt + 29) && (flagOk l (connectionsAt + 34) && flagOk l (connectionsAt + 39))))))
 
 abbrev pub codesOk : List ℕ → Bool
-codesOk l = allUpTo (entryStatusesOk l) (logLength l) && flagsOk l
+codesOk l = leb (foldedOf l) (lastOf l) && (allKept (entryStatusesOk l) (foldedOf l) (lastOf l) && flagsOk l)
 
 unfoldable pub formed : List ℕ → Bool
 formed l = eqb (length l) imageLength && (codesOk l && wellFormed (view l))
@@ -45,7 +49,7 @@ formed l = eqb (length l) imageLength && (codesOk l && wellFormed (view l))
 -- the phase, r.index and the two ordinals of entry n at a place
 unfoldable pub marksOk : List ℕ → ℕ → ℕ → Bool
 marksOk l at n =
-    (leb 1 (field l (at + 4) 1) && leb (field l (at + 4) 1) 2) && (ltb (field l (at + 6) 2) n && (leb (field l (at + 8) 4) 256 && leb (field l (at + 12) 4) 256))
+    (leb 1 (field l (at + 4) 1) && leb (field l (at + 4) 1) 2) && (ltb (field l (at + 6) 2) n && (leb (field l (at + 8) 4) 131070 && leb (field l (at + 12) 4) 131070))
 
 -- all that is asked of entry n
 unfoldable pub entryFormed : List ℕ → ℕ → Bool

@@ -1,9 +1,9 @@
 -- Where each record lies in the image: every offset follows from the one before it (docs/IMAGE.md). Assumes nothing.
-use Prim.Native.Nat.{ℕ, zero, suc, _+_, _-_, _*_}
+use Prim.Native.Nat.{ℕ, zero, suc, _+_, _-_, _*_, _%_}
 use mathlib.Core.List.{List, [], _∷_, _++_}
 use lib.ListN.{replicate}
 use Rattle.fields.specs.Field.{ones, twos, total}
-use Rattle.machine.specs.Stores.{Table, ofCommitted, ofApplied, ofTarget}
+use Rattle.machine.specs.Stores.{Table, ofCommitted, ofApplied, ofTarget, ofBase}
 
 -- ---- the widths of each record's numbers
 -- c.commit, c.apply, r.commit, r.apply, phase, number of pairs
@@ -49,18 +49,19 @@ connectionsWidths = nodeWidths 8
 abbrev pub stride : ℕ
 stride = total entryWidths
 
--- at which slot of the log the entry of a number lies: this is the one place that says it
+-- at which slot the entry of a number lies: the log is a ring of 128, and this is the one place that says it
 abbrev pub slotOf : ℕ → ℕ
-slotOf n = n - 1
+slotOf n = (n - 1) % 128
 
 abbrev pub placeOf : ℕ → ℕ
 placeOf n = stride * slotOf n
 
-abbrev pub lengthAt : ℕ
-lengthAt = stride * 128
+-- the highest number given
+abbrev pub lastAt : ℕ
+lastAt = stride * 128
 
 abbrev pub changeAt : ℕ
-changeAt = lengthAt + 2
+changeAt = lastAt + 2
 
 abbrev pub committedAt : ℕ
 committedAt = changeAt + 2
@@ -69,13 +70,11 @@ committedAt = changeAt + 2
 abbrev pub appliedAt : ℕ
 appliedAt = committedAt + total headWidths + total tableWidths
 
-abbrev pub valuesAt : Table → ℕ
-valuesAt ofCommitted = committedAt + total headWidths
-valuesAt ofApplied = appliedAt + total headWidths
-valuesAt ofTarget = appliedAt + total headWidths + total tableWidths
+abbrev pub targetValuesAt : ℕ
+targetValuesAt = appliedAt + total headWidths + total tableWidths
 
 abbrev pub configurationAt : ℕ
-configurationAt = valuesAt ofTarget + total tableWidths
+configurationAt = targetValuesAt + total tableWidths
 
 abbrev pub mastershipAt : ℕ
 mastershipAt = configurationAt + total configurationWidths
@@ -86,6 +85,16 @@ targetAt = mastershipAt + total mastershipWidths
 abbrev pub connectionsAt : ℕ
 connectionsAt = targetAt + total targetWidths
 
--- 4,883
+-- the last fold, then the base
+abbrev pub foldedAt : ℕ
+foldedAt = connectionsAt + total connectionsWidths
+
+abbrev pub valuesAt : Table → ℕ
+valuesAt ofCommitted = committedAt + total headWidths
+valuesAt ofApplied = appliedAt + total headWidths
+valuesAt ofTarget = targetValuesAt
+valuesAt ofBase = foldedAt + 2
+
+-- 4,949
 abbrev pub imageLength : ℕ
-imageLength = connectionsAt + total connectionsWidths
+imageLength = valuesAt ofBase + total tableWidths

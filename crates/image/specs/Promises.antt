@@ -1,27 +1,28 @@
 -- What each public function of this crate promises of its answer r, or of the image s′ that it leaves, and that no second
 -- outcome keeps the promise. Assumes nothing.
 use Prim.Native.Nat.{ℕ, _+_, _*_}
-use mathlib.Core.Bool.{Bool, cond}
+use mathlib.Core.Bool.{Bool, _||_, cond}
 use mathlib.Core.List.{List}
 use mathlib.Core.Path.{_≡_}
 use lib.Dec.{ltb}
 use lib.ListN.{getD}
-use Rattle.kinds.specs.Numbers.{num}
+use Rattle.kinds.specs.Numbers.{num, follows}
 use Rattle.kinds.specs.Outcome.{one}
 use Rattle.kinds.specs.declared.Configuration.{Configuration}
 use Rattle.kinds.specs.declared.Connection.{Connection}
 use Rattle.kinds.specs.declared.Head.{Head}
 use Rattle.kinds.specs.declared.Mastership.{Mastership}
 use Rattle.kinds.specs.declared.Number.{Number}
+use Rattle.kinds.specs.declared.Ordinal.{Ordinal}
 use Rattle.kinds.specs.declared.Target.{Target}
 use Rattle.kinds.specs.declared.Transaction.{Transaction}
 use Rattle.fields.specs.Field.{fieldsAt, putField}
 use Rattle.image.specs.Formed.{formed}
 use Rattle.image.specs.Layout.{tableWidths}
-use Rattle.image.specs.Records.{entryAt, putEntryAt, logLength, changeOf, headAt, putHeadAt, configurationOf, putConfiguration, mastershipOf, putMastership, targetOf, putTarget, connectionsOf, putConnections}
+use Rattle.image.specs.Records.{entryAt, putEntryAt, lastOf, foldedOf, changeOf, headAt, putHeadAt, configurationOf, putConfiguration, mastershipOf, putMastership, targetOf, putTarget, connectionsOf, putConnections}
 use Rattle.image.specs.View.{write, tableOf}
 use Rattle.machine.specs.State.{nodeOf, absent}
-use Rattle.machine.specs.Stores.{grow, change, targetValues, ofApplied}
+use Rattle.machine.specs.Stores.{grow, fold, change, targetValues, ofApplied}
 
 abbrev pub TellsFormed : List ℕ → Bool → Type 0
 TellsFormed s r = r ≡ formed s
@@ -42,11 +43,30 @@ pub stores-entry-only : (s : List ℕ) (n : ℕ) (t : Transaction) (s′ s″ : 
     → StoresEntry s n t s′ → StoresEntry s n t s″ → s′ ≡ s″
 stores-entry-only s n t s′ s″ = one
 
-abbrev pub TellsLength : List ℕ → ℕ → Type 0
-TellsLength s r = r ≡ logLength s
+-- a side carries the ordinal after a
+abbrev pub TellsCarried : List ℕ → ℕ → Ordinal → Bool → Type 0
+TellsCarried s n a r = r ≡ (follows (a .0) (entryAt s n .change .ordinal .0) || follows (a .0) (entryAt s n .rollback .ordinal .0))
 
-pub tells-length-only : (s : List ℕ) (r q : ℕ) → TellsLength s r → TellsLength s q → r ≡ q
-tells-length-only s r q = one
+pub tells-carried-only : (s : List ℕ) (n : ℕ) (a : Ordinal) (r q : Bool) → TellsCarried s n a r → TellsCarried s n a q → r ≡ q
+tells-carried-only s n a r q = one
+
+abbrev pub TellsLast : List ℕ → ℕ → Type 0
+TellsLast s r = r ≡ lastOf s
+
+pub tells-last-only : (s : List ℕ) (r q : ℕ) → TellsLast s r → TellsLast s q → r ≡ q
+tells-last-only s r q = one
+
+abbrev pub TellsFolded : List ℕ → ℕ → Type 0
+TellsFolded s r = r ≡ foldedOf s
+
+pub tells-folded-only : (s : List ℕ) (r q : ℕ) → TellsFolded s r → TellsFolded s q → r ≡ q
+tells-folded-only s r q = one
+
+abbrev pub StoresFolded : List ℕ → Number → List ℕ → Type 0
+StoresFolded s n s′ = s′ ≡ write s (fold n)
+
+pub stores-folded-only : (s : List ℕ) (n : Number) (s′ s″ : List ℕ) → StoresFolded s n s′ → StoresFolded s n s″ → s′ ≡ s″
+stores-folded-only s n s′ s″ = one
 
 abbrev pub Grows : List ℕ → ℕ → Transaction → List ℕ → Type 0
 Grows s n t s′ = s′ ≡ write s (grow t)

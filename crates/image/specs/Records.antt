@@ -15,7 +15,7 @@ use Rattle.kinds.specs.Numbers.{num, ord, trm}
 use Rattle.kinds.specs.Statuses.{codeOf, statusOf, progressCode, progressOf}
 use Rattle.machine.specs.State.{never}
 use Rattle.fields.specs.Field.{field, fieldsAt, putFields, quad}
-use Rattle.image.specs.Layout.{entryWidths, headWidths, configurationWidths, mastershipWidths, targetWidths, connectionsWidths, placeOf, lengthAt, changeAt, configurationAt, mastershipAt, targetAt, connectionsAt}
+use Rattle.image.specs.Layout.{entryWidths, headWidths, configurationWidths, mastershipWidths, targetWidths, connectionsWidths, placeOf, lastAt, changeAt, configurationAt, mastershipAt, targetAt, connectionsAt, foldedAt}
 
 -- ---- flags
 abbrev pub flagCode : Bool → ℕ
@@ -59,9 +59,12 @@ entryAt l n = toEntry (fieldsAt l (placeOf n) entryWidths)
 unfoldable pub putEntryAt : List ℕ → ℕ → Transaction → List ℕ
 putEntryAt l n t = putFields l (placeOf n) entryWidths (entryNumbers t)
 
--- ---- the log's length, Committed's change
-unfoldable pub logLength : List ℕ → ℕ
-logLength l = field l lengthAt 2
+-- ---- the highest number given, the last fold, Committed's change
+unfoldable pub lastOf : List ℕ → ℕ
+lastOf l = field l lastAt 2
+
+unfoldable pub foldedOf : List ℕ → ℕ
+foldedOf l = field l foldedAt 2
 
 unfoldable pub changeOf : List ℕ → ℕ
 changeOf l = field l changeAt 2

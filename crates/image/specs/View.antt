@@ -1,19 +1,24 @@
 -- The state that an image shows, and the image with a row of stores made in it. Assumes nothing.
-use Prim.Native.Nat.{ℕ, zero, suc, _+_, _*_}
+use Prim.Native.Nat.{ℕ, zero, suc, _+_, _-_, _*_}
 use mathlib.Core.List.{List, [], _∷_, _++_}
 use mathlib.Core.Bool.{cond}
 use lib.Dec.{ltb}
+use Rattle.kinds.specs.declared.Transaction.{Transaction}
 use Rattle.kinds.specs.Numbers.{num}
 use Rattle.fields.specs.Field.{putField, fieldsAt, putFields}
-use Rattle.machine.specs.State.{Part, Net, State}
-use Rattle.machine.specs.Stores.{Table, ofCommitted, ofApplied, ofTarget, Store, grow, entry, change, committedHead, appliedHead, value, targetValues, configuration, mastership, connections, target}
-use Rattle.image.specs.Layout.{tableWidths, lengthAt, changeAt, committedAt, appliedAt, valuesAt}
-use Rattle.image.specs.Records.{entryAt, putEntryAt, logLength, changeOf, headAt, putHeadAt, configurationOf, putConfiguration, mastershipOf, putMastership, targetOf, putTarget, connectionsOf, putConnections}
+use Rattle.machine.specs.State.{Part, Net, Log, State}
+use Rattle.machine.specs.Stores.{Table, ofCommitted, ofApplied, ofTarget, ofBase, Store, grow, entry, fold, change, committedHead, appliedHead, value, targetValues, configuration, mastership, connections, target}
+use Rattle.image.specs.Layout.{tableWidths, lastAt, changeAt, committedAt, appliedAt, foldedAt, valuesAt}
+use Rattle.image.specs.Records.{entryAt, putEntryAt, lastOf, foldedOf, changeOf, headAt, putHeadAt, configurationOf, putConfiguration, mastershipOf, putMastership, targetOf, putTarget, connectionsOf, putConnections}
 
 -- f 1, f 2 .. f n
 unfoldable pub upTo : {A : Type 0} → (ℕ → A) → ℕ → List A
 upTo f zero = []
 upTo f (suc n) = upTo f n ++ (f (suc n) ∷ [])
+
+-- f (b + 1) .. f n
+abbrev pub upFrom : {A : Type 0} → (ℕ → A) → ℕ → ℕ → List A
+upFrom f b n = upTo (λ j. f (b + j)) (n - b)
 
 -- a table of 32 values
 unfoldable pub tableOf : List ℕ → Table → List ℕ
@@ -32,10 +37,17 @@ netOf l =
       values = tableOf l ofTarget;
     }
 
+-- the entries after the last fold
+abbrev pub entriesOf : List ℕ → List Transaction
+entriesOf l = upFrom (entryAt l) (foldedOf l) (lastOf l)
+
+abbrev pub logOf : List ℕ → Log
+logOf l = record { folded = num (foldedOf l); base = tableOf l ofBase; entries = entriesOf l }
+
 unfoldable pub view : List ℕ → State
 view l =
     record {
-      log = upTo (entryAt l) (logLength l);
+      log = logOf l;
       change = num (changeOf l);
       committed = partOf l committedAt ofCommitted;
       applied = partOf l appliedAt ofApplied;
@@ -44,8 +56,9 @@ view l =
 
 -- ---- stores in an image
 unfoldable pub write : List ℕ → Store → List ℕ
-write l (grow t) = putField (putEntryAt l (logLength l + 1) t) lengthAt 2 (logLength l + 1)
+write l (grow t) = putField (putEntryAt l (lastOf l + 1) t) lastAt 2 (lastOf l + 1)
 write l (entry i t) = putEntryAt l i t
+write l (fold b) = putField l foldedAt 2 (b .0)
 write l (change n) = putField l changeAt 2 (n .0)
 write l (committedHead h) = putHeadAt l committedAt h
 write l (appliedHead h) = putHeadAt l appliedAt h

@@ -2,14 +2,15 @@
 // reads nothing that its test does not need.
 ghost use mathlib.Core.Path.{_≡_};
 ghost use mathlib.Core.Bool.{_&&_};
-ghost use Prim.Native.Nat.{_+_, _≤_};
+ghost use Prim.Native.Nat.{_+_, _-_, _%_, _≤_, _<_};
 ghost use lib.ListN.{length};
 ghost use lib.Dec.{ltb};
 ghost use Rattle.fields.specs.Field.{field, fieldsAt, ones};
 ghost use Rattle.machine.specs.WellFormed.{pairsOk, headOk, headsOk};
+ghost use Rattle.image.specs.Layout.{placeOf};
 ghost use Rattle.image.specs.Records.{headAt};
 ghost use Rattle.image.specs.View.{view};
-ghost use Rattle.image.specs.Formed.{allUpTo, statusesOk, marksOk, flagsOk, entryFormed};
+ghost use Rattle.image.specs.Formed.{allKept, statusesOk, marksOk, flagsOk, entryFormed};
 ghost use Rattle.image.specs.Promises.{TellsFormed};
 use fields::get1;
 use fields::get2;
@@ -48,10 +49,10 @@ fn marks_formed(s: &[u8], at: usize, n: usize) -> bool
     if n <= index {
         return false;
     }
-    if 256 < get4(s, at + 8) {
+    if 131070 < get4(s, at + 8) {
         return false;
     }
-    get4(s, at + 12) <= 256
+    get4(s, at + 12) <= 131070
 }
 
 // Whether the second of the two paths at a place is above the first and below 32.
@@ -100,11 +101,11 @@ fn pairs_formed(s: &[u8], at: usize) -> bool
     false
 }
 
-fn entry_formed(s: &[u8], n: usize) -> bool
-    requires { ⌜ (1 ≤ n) × ((n ≤ 128) × (length (now s) ≡ 4883)) ⌝ }
+// Entry n, at its place.
+fn entry_formed(s: &[u8], at: usize, n: usize) -> bool
+    requires { ⌜ (at ≡ placeOf n) × (length (now s) ≡ 4949) ⌝ }
     ensures { λ r. ⌜ r ≡ entryFormed (now (s .entry)) n ⌝ }
 {
-    let at = 36 * (n - 1);
     if statuses_formed(s, at) {
         if marks_formed(s, at, n) {
             return pairs_formed(s, at);
@@ -114,22 +115,39 @@ fn entry_formed(s: &[u8], n: usize) -> bool
     false
 }
 
-// Entries 1 to n.
-fn entries_formed(s: &[u8], n: usize) -> bool
-    requires { ⌜ (n ≤ 128) × (length (now s) ≡ 4883) ⌝ }
-    ensures { λ r. ⌜ r ≡ allUpTo (entryFormed (now (s .entry))) n ⌝ }
+// Entries b + 1 to n, where their slots lie one after another.
+fn run_formed(s: &[u8], b: usize, n: usize) -> bool
+    requires { ⌜ (b ≤ n) × ((b % 128 + (n - b) ≤ 128) × (length (now s) ≡ 4949)) ⌝ }
+    ensures { λ r. ⌜ r ≡ allKept (entryFormed (now (s .entry))) b n ⌝ }
 {
-    let mut i = 0;
+    let mut at = 36 * (b % 128);
+    let mut i = b;
     while i < n {
-        if !entry_formed(s, i + 1) {
+        if !entry_formed(s, at, i + 1) {
             return false;
         }
+        at += 36;
         i += 1;
     }
     true
 }
 
-// A head over a log of n.
+// Entries b + 1 to n, at most 128: up to the ring's end, and from its start on.
+fn entries_formed(s: &[u8], b: usize, n: usize) -> bool
+    requires { ⌜ (b ≤ n) × ((n - b ≤ 128) × ((n < 65536) × (length (now s) ≡ 4949))) ⌝ }
+    ensures { λ r. ⌜ r ≡ allKept (entryFormed (now (s .entry))) b n ⌝ }
+{
+    let end = b + (128 - b % 128);
+    if n <= end {
+        return run_formed(s, b, n);
+    }
+    if run_formed(s, b, end) {
+        return run_formed(s, end, n);
+    }
+    false
+}
+
+// A head where the highest number given is n.
 fn head_formed(s: &[u8], at: usize, n: u16) -> bool
     requires { ⌜ at + 10 ≤ length (now s) ⌝ }
     ensures { λ r. ⌜ r ≡ headOk n (headAt (now (s .entry)) at) ⌝ }
@@ -138,12 +156,12 @@ fn head_formed(s: &[u8], at: usize, n: u16) -> bool
     let t = get2(s, at + 2);
     let v = get2(s, at + 4);
     let o = get4(s, at + 6);
-    ((i <= n) & ((t <= n) & (v <= n))) & (o <= 256)
+    ((i <= n) & ((t <= n) & (v <= n))) & (o <= 131070)
 }
 
-// The two heads, Committed's change and the master, over a log of n.
+// The two heads, Committed's change and the master, where the highest number given is n.
 fn heads_formed(s: &[u8], n: u16) -> bool
-    requires { ⌜ length (now s) ≡ 4883 ⌝ }
+    requires { ⌜ length (now s) ≡ 4949 ⌝ }
     ensures { λ r. ⌜ r ≡ headsOk (view (now (s .entry))) n ⌝ }
 {
     let committed = head_formed(s, 4612, n);
@@ -156,7 +174,7 @@ fn heads_formed(s: &[u8], n: u16) -> bool
 
 // The configuration's state, and the flags of the target and the nodes.
 fn flags_formed(s: &[u8]) -> bool
-    requires { ⌜ length (now s) ≡ 4883 ⌝ }
+    requires { ⌜ length (now s) ≡ 4949 ⌝ }
     ensures { λ r. ⌜ r ≡ flagsOk (now (s .entry)) ⌝ }
 {
     let state = get1(s, 4824);
@@ -178,17 +196,21 @@ fn flags_formed(s: &[u8]) -> bool
 pub fn well_formed(s: &[u8]) -> bool
     ensures { λ r. ⌜ TellsFormed (now (s .entry)) r ⌝ }
 {
-    if s.len() != 4883 {
+    if s.len() != 4949 {
         return false;
     }
     let n = get2(s, 4608);
-    if 128 < n {
+    let b = get2(s, 4883);
+    if n < b {
+        return false;
+    }
+    if 128 < n - b {
         return false;
     }
     let heads = heads_formed(s, n);
     let flags = flags_formed(s);
     if heads & flags {
-        return entries_formed(s, n as usize);
+        return entries_formed(s, b as usize, n as usize);
     }
     false
 }

@@ -5,8 +5,8 @@ ghost use lib.ListN.{length};
 ghost use Rattle.kinds.specs.Statuses.{statusOf};
 ghost use Rattle.fields.specs.Field.{field, putFields};
 ghost use Rattle.image.specs.Layout.{codeWidths, markWidths};
-ghost use Rattle.image.specs.Records.{codes, marks, toSide, logLength, flagCode, toNode, putNodeAt};
-ghost use Rattle.image.specs.Promises.{LoadsEntry, StoresEntry, TellsLength, Grows, LoadsChange, StoresChange, LoadsHead, StoresHead, LoadsValue, StoresValue, LoadsConfiguration, StoresConfiguration, LoadsMastership, StoresMastership, LoadsTarget, StoresTarget, LoadsConnection, LoadsConnections, StoresConnections, ClearsTarget, CopiesTarget};
+ghost use Rattle.image.specs.Records.{codes, marks, toSide, lastOf, flagCode, toNode, putNodeAt};
+ghost use Rattle.image.specs.Promises.{LoadsEntry, StoresEntry, TellsCarried, TellsLast, TellsFolded, StoresFolded, Grows, LoadsChange, StoresChange, LoadsHead, StoresHead, LoadsValue, StoresValue, LoadsConfiguration, StoresConfiguration, LoadsMastership, StoresMastership, LoadsTarget, StoresTarget, LoadsConnection, LoadsConnections, StoresConnections, ClearsTarget, CopiesTarget};
 use fields::get_ones;
 use fields::get_twos;
 use fields::get1;
@@ -57,12 +57,12 @@ fn load_side(s: &[u8], at: usize, o: usize) -> Side
     }
 }
 
-// The entry of number n.
+// The entry of number n, at its slot of the ring.
 pub fn load_entry(s: &[u8], n: u16) -> Transaction
-    requires { ⌜ (1 ≤ n) × ((n ≤ 128) × (4883 ≤ length (now s))) ⌝ }
+    requires { ⌜ (1 ≤ n) × (4949 ≤ length (now s)) ⌝ }
     ensures { λ r. ⌜ LoadsEntry (now (s .entry)) n r ⌝ }
 {
-    let at = 36 * ((n - 1) as usize);
+    let at = 36 * (((n - 1) % 128) as usize);
     let change = load_side(s, at, at + 8);
     let rollback = load_side(s, at + 2, at + 12);
     let phase = get1(s, at + 4);
@@ -116,10 +116,10 @@ fn store_marks(s: &mut [u8], at: usize, t: Transaction)
 }
 
 pub fn store_entry(s: &mut [u8], n: u16, t: Transaction)
-    requires { ⌜ (1 ≤ n) × ((n ≤ 128) × (4883 ≤ length (now s))) ⌝ }
+    requires { ⌜ (1 ≤ n) × (4949 ≤ length (now s)) ⌝ }
     ensures { λ _. ⌜ StoresEntry (now (s .entry)) n t (now (s .exit)) ⌝ }
 {
-    let at = 36 * ((n - 1) as usize);
+    let at = 36 * (((n - 1) % 128) as usize);
     let paths = t.paths;
     let values = t.values;
     let kept = t.kept;
@@ -130,18 +130,46 @@ pub fn store_entry(s: &mut [u8], n: u16, t: Transaction)
     put_twos(s, at + 28, kept);
 }
 
-// ---- the log's length, and Committed's change
+// Whether a side of the entry of number n carries the ordinal after a. Of the entry no more is read.
+pub fn carries_next(s: &[u8], n: u16, a: Ordinal) -> bool
+    requires { ⌜ (1 ≤ n) × (4949 ≤ length (now s)) ⌝ }
+    ensures { λ r. ⌜ TellsCarried (now (s .entry)) n a r ⌝ }
+{
+    let at = 36 * (((n - 1) % 128) as usize);
+    let change = Ordinal::of(get4(s, at + 8));
+    let rollback = Ordinal::of(get4(s, at + 12));
+    let by_change = change.follows(a);
+    let by_rollback = rollback.follows(a);
+    by_change | by_rollback
+}
 
-pub fn log_length(s: &[u8]) -> u16
-    requires { ⌜ 4883 ≤ length (now s) ⌝ }
-    ensures { λ r. ⌜ TellsLength (now (s .entry)) r ⌝ }
+// ---- the highest number given, the last fold, and Committed's change
+
+pub fn last_number(s: &[u8]) -> u16
+    requires { ⌜ 4949 ≤ length (now s) ⌝ }
+    ensures { λ r. ⌜ TellsLast (now (s .entry)) r ⌝ }
 {
     get2(s, 4608)
 }
 
-// One entry more, at the end of a log of n.
+// 0 where nothing is folded.
+pub fn last_fold(s: &[u8]) -> u16
+    requires { ⌜ 4949 ≤ length (now s) ⌝ }
+    ensures { λ r. ⌜ TellsFolded (now (s .entry)) r ⌝ }
+{
+    get2(s, 4883)
+}
+
+pub fn store_fold(s: &mut [u8], n: Number)
+    requires { ⌜ 4949 ≤ length (now s) ⌝ }
+    ensures { λ _. ⌜ StoresFolded (now (s .entry)) n (now (s .exit)) ⌝ }
+{
+    put2(s, 4883, n.get());
+}
+
+// One entry more, where the highest number given is n.
 pub fn grow(s: &mut [u8], n: u16, t: Transaction)
-    requires { ⌜ (n ≡ logLength (now s)) × ((n < 128) × (4883 ≤ length (now s))) ⌝ }
+    requires { ⌜ (n ≡ lastOf (now s)) × ((n < 65535) × (4949 ≤ length (now s))) ⌝ }
     ensures { λ _. ⌜ Grows (now (s .entry)) n t (now (s .exit)) ⌝ }
 {
     store_entry(s, n + 1, t);
@@ -149,14 +177,14 @@ pub fn grow(s: &mut [u8], n: u16, t: Transaction)
 }
 
 pub fn load_change(s: &[u8]) -> Number
-    requires { ⌜ 4883 ≤ length (now s) ⌝ }
+    requires { ⌜ 4949 ≤ length (now s) ⌝ }
     ensures { λ r. ⌜ LoadsChange (now (s .entry)) r ⌝ }
 {
     Number::of(get2(s, 4610))
 }
 
 pub fn store_change(s: &mut [u8], n: Number)
-    requires { ⌜ 4883 ≤ length (now s) ⌝ }
+    requires { ⌜ 4949 ≤ length (now s) ⌝ }
     ensures { λ _. ⌜ StoresChange (now (s .entry)) n (now (s .exit)) ⌝ }
 {
     put2(s, 4610, n.get());
@@ -194,7 +222,7 @@ pub fn store_head(s: &mut [u8], at: usize, h: Head)
     put4(s, at + 6, ordinal.get());
 }
 
-// ---- a table of 32 values: Committed's at 4622, Applied's at 4696, the target's at 4760
+// ---- a table of 32 values: Committed's at 4622, Applied's at 4696, the target's at 4760, the base at 4885
 
 fn wide(x: u8) -> usize
     ensures { λ r. ⌜ (r ≡ x) × (r < 256) ⌝ }
@@ -229,7 +257,7 @@ pub fn store_value(s: &mut [u8], at: usize, p: u8, v: u16)
 // ---- configuration, mastership, target
 
 pub fn load_configuration(s: &[u8]) -> Configuration
-    requires { ⌜ 4883 ≤ length (now s) ⌝ }
+    requires { ⌜ 4949 ≤ length (now s) ⌝ }
     ensures { λ r. ⌜ LoadsConfiguration (now (s .entry)) r ⌝ }
 {
     let state = Progress::of(get1(s, 4824));
@@ -238,7 +266,7 @@ pub fn load_configuration(s: &[u8]) -> Configuration
 }
 
 pub fn store_configuration(s: &mut [u8], g: Configuration)
-    requires { ⌜ 4883 ≤ length (now s) ⌝ }
+    requires { ⌜ 4949 ≤ length (now s) ⌝ }
     ensures { λ _. ⌜ StoresConfiguration (now (s .entry)) g (now (s .exit)) ⌝ }
 {
     let state = g.state;
@@ -248,7 +276,7 @@ pub fn store_configuration(s: &mut [u8], g: Configuration)
 }
 
 pub fn load_mastership(s: &[u8]) -> Mastership
-    requires { ⌜ 4883 ≤ length (now s) ⌝ }
+    requires { ⌜ 4949 ≤ length (now s) ⌝ }
     ensures { λ r. ⌜ LoadsMastership (now (s .entry)) r ⌝ }
 {
     let master = get1(s, 4829);
@@ -258,7 +286,7 @@ pub fn load_mastership(s: &[u8]) -> Mastership
 }
 
 pub fn store_mastership(s: &mut [u8], m: Mastership)
-    requires { ⌜ 4883 ≤ length (now s) ⌝ }
+    requires { ⌜ 4949 ≤ length (now s) ⌝ }
     ensures { λ _. ⌜ StoresMastership (now (s .entry)) m (now (s .exit)) ⌝ }
 {
     let term = m.term;
@@ -277,7 +305,7 @@ fn flag_code(b: bool) -> u8
 }
 
 pub fn load_target(s: &[u8]) -> Target
-    requires { ⌜ 4883 ≤ length (now s) ⌝ }
+    requires { ⌜ 4949 ≤ length (now s) ⌝ }
     ensures { λ r. ⌜ LoadsTarget (now (s .entry)) r ⌝ }
 {
     let id = get4(s, 4838);
@@ -286,7 +314,7 @@ pub fn load_target(s: &[u8]) -> Target
 }
 
 pub fn store_target(s: &mut [u8], t: Target)
-    requires { ⌜ 4883 ≤ length (now s) ⌝ }
+    requires { ⌜ 4949 ≤ length (now s) ⌝ }
     ensures { λ _. ⌜ StoresTarget (now (s .entry)) t (now (s .exit)) ⌝ }
 {
     put4(s, 4838, t.id);
@@ -306,14 +334,14 @@ fn load_node(s: &[u8], at: usize) -> Connection
 
 // The connection of node n.
 pub fn load_connection(s: &[u8], n: u8) -> Connection
-    requires { ⌜ (1 ≤ n) × ((n ≤ 8) × (4883 ≤ length (now s))) ⌝ }
+    requires { ⌜ (1 ≤ n) × ((n ≤ 8) × (4949 ≤ length (now s))) ⌝ }
     ensures { λ r. ⌜ LoadsConnection (now (s .entry)) n r ⌝ }
 {
     load_node(s, 4843 + 5 * ((n - 1) as usize))
 }
 
 pub fn load_connections(s: &[u8]) -> [Connection; 8]
-    requires { ⌜ 4883 ≤ length (now s) ⌝ }
+    requires { ⌜ 4949 ≤ length (now s) ⌝ }
     ensures { λ r. ⌜ LoadsConnections (now (s .entry)) r ⌝ }
 {
     let a = load_node(s, 4843);
@@ -346,7 +374,7 @@ fn store_nodes(s: &mut [u8], at: usize, a: Connection, b: Connection, c: Connect
 }
 
 pub fn store_connections(s: &mut [u8], xs: [Connection; 8])
-    requires { ⌜ 4883 ≤ length (now s) ⌝ }
+    requires { ⌜ 4949 ≤ length (now s) ⌝ }
     ensures { λ _. ⌜ StoresConnections (now (s .entry)) xs (now (s .exit)) ⌝ }
 {
     let a = xs[0];
@@ -365,7 +393,7 @@ pub fn store_connections(s: &mut [u8], xs: [Connection; 8])
 
 // Every one 0.
 pub fn clear_target(s: &mut [u8])
-    requires { ⌜ 4883 ≤ length (now s) ⌝ }
+    requires { ⌜ 4949 ≤ length (now s) ⌝ }
     ensures { λ _. ⌜ ClearsTarget (now (s .entry)) (now (s .exit)) ⌝ }
 {
     let mut k: usize = 0;
@@ -377,7 +405,7 @@ pub fn clear_target(s: &mut [u8])
 
 // Every one that of Applied.
 pub fn copy_target(s: &mut [u8])
-    requires { ⌜ 4883 ≤ length (now s) ⌝ }
+    requires { ⌜ 4949 ≤ length (now s) ⌝ }
     ensures { λ _. ⌜ CopiesTarget (now (s .entry)) (now (s .exit)) ⌝ }
 {
     let mut k: usize = 0;
