@@ -6,7 +6,7 @@ use mathlib.Core.Bool.{Bool, true, false, _&&_}
 use mathlib.Core.List.{List, [], _∷_, map}
 use native.Mathlib.Omega.{arith}
 use borrow.Author.Tests.{eq-eqb, ne-eqb, leb-true, lt-ltb, le-ltb}
-use lib.Dec.{eqb, leb}
+use lib.Dec.{eqb, leb, ltb}
 use lib.ListN.{length}
 use Rattle.kinds.specs.declared.Transaction.{Transaction}
 use Rattle.kinds.specs.declared.Reply.{Reply}
@@ -24,7 +24,7 @@ use Rattle.rules.specs.declared.Targeted.{Targeted}
 use Rattle.rules.specs.declared.Mastered.{Mastered}
 use Rattle.rules.specs.declared.Synchronised.{Synchronised}
 use Rattle.rules.specs.Outside as outside
-use Rattle.machine.specs.State.{absent, entryOf, inLog, isNode, nodeOf, isMaster}
+use Rattle.machine.specs.State.{absent, entryOf, last, inLog, isKept, isNode, nodeOf, isMaster}
 use Rattle.machine.specs.Stores.{Store, ofApplied, grow, entry, targetValues, configuration, mastership, connections, target}
 use Rattle.machine.specs.Rows.{rowsOf}
 use Rattle.machine.specs.Calls.{Call, Outcome, rollback, start, stop, connect, disconnect, master, sync, work, refused, accepted, answers, validChange, appended, planOf, commits, planned, workOk, copyRow, decide}
@@ -32,18 +32,18 @@ use Rattle.connections.specs.declared.Tabled.{Tabled}
 use Rattle.connections.specs.Table as table
 use Rattle.connections.specs.Decides as decides
 use Rattle.mastership.specs.Lent.{masterOf}
-use Rattle.image.specs.Records.{entryAt, putEntryAt, logLength, configurationOf, putConfiguration, mastershipOf, putMastership, targetOf, putTarget, connectionsOf, putConnections}
+use Rattle.image.specs.Records.{entryAt, putEntryAt, lastOf, foldedOf, configurationOf, putConfiguration, mastershipOf, putMastership, targetOf, putTarget, connectionsOf, putConnections}
 use Rattle.image.specs.Layout.{configurationAt}
 use Rattle.image.specs.View.{tableOf, view, write, written}
 use Rattle.image.specs.Formed.{formed}
 use Rattle.image.proofs.UpTo.{and-left, and-right}
 use Rattle.image.proofs.Kept.{table-kept}
 use Rattle.image.proofs.Shown.{configuration-outside}
-use Rattle.image.proofs.Scanned.{view-length, formed-length}
+use Rattle.image.proofs.Scanned.{view-kept, formed-length}
 use Rattle.controller.specs.Claims.{outcomeOf, Claims, Does, Entry}
 use Rattle.controller.specs.Bytes.{pairsOf, pairsIf, appendOf, validBytes}
 use Rattle.controller.proofs.LentPairs.{valid-change, whole-pairs}
-use Rattle.controller.proofs.Decided.{entry-of, few}
+use Rattle.controller.proofs.Decided.{entry-of, room, last-is}
 
 -- ---- refusal 1, and what follows it
 pub first : (l : List ℕ) (c : Call) (b : Bool) (r : Reply) → b ≡ formed l → b ≡ false → r ≡ refusal 1 → Claims l c r l
@@ -61,11 +61,11 @@ told l b q t = sym q ∙ t
 does : (l : List ℕ) (c : Call) (o : Outcome) (r : Reply) (m : List ℕ) → decide (view l) c ≡ o → r ≡ o .reply → m ≡ written l (o .stores) → Does l c r m
 does l c o r m e p q = (p ∙ ap (λ (x : Outcome). x .reply) (sym e), q ∙ ap (λ (x : Outcome). written l (x .stores)) (sym e))
 
-refuses : (l : List ℕ) (c : Call) (a : ℕ) (r : Reply) → decide (view l) c ≡ refused a → r ≡ refusal a → Does l c r l
+pub refuses : (l : List ℕ) (c : Call) (a : ℕ) (r : Reply) → decide (view l) c ≡ refused a → r ≡ refusal a → Does l c r l
 unfolding written
 refuses l c a r e p = does l c (refused a) r l e p refl
 
-accepts : (l : List ℕ) (c : Call) (es : List Store) (r : Reply) (m : List ℕ) → decide (view l) c ≡ accepted es → r ≡ refusal 0 → m ≡ written l es → Does l c r m
+pub accepts : (l : List ℕ) (c : Call) (es : List Store) (r : Reply) (m : List ℕ) → decide (view l) c ≡ accepted es → r ≡ refusal 0 → m ≡ written l es → Does l c r m
 accepts l c es r m e p q = does l c (accepted es) r m e p q
 
 -- ---- a call by the answer of its rule
@@ -184,68 +184,83 @@ module _ (l : List ℕ) (n : ℕ) (b : Bool) (r : Reply) (eb : b ≡ isNode n) w
           → l2 ≡ write l1 (targetValues (tableOf l1 ofApplied)) → Does l (sync n) r l2
       unfolding written write
       synced l1 l2 w e f p q s =
-          let o : Outside l (putConfiguration l (x .configuration)) configurationAt (configurationAt + 5) = configuration-outside l (formed-length l w) (few l w) (x .configuration) in
+          let o : Outside l (putConfiguration l (x .configuration)) configurationAt (configurationAt + 5) = configuration-outside l (formed-length l w) (room l w) (x .configuration) in
           let k : tableOf (putConfiguration l (x .configuration)) ofApplied ≡ tableOf l ofApplied = table-kept l (putConfiguration l (x .configuration)) _ _ o ofApplied (inl (omega arith)) in
           accepted-by l (sync n) (x .answer) _ sync-by r l2 e p (s ∙ rw (q, k, f))
 
--- ---- in the log
-module _ (l : List ℕ) (i n : ℕ) (k : Bool) (en : n ≡ logLength l) (ek : k ≡ (leb 1 i && leb i n)) where
-  in-log : (b : Bool) → k ≡ b → inLog (view l) i ≡ b
-  in-log b h = ap (λ (x : ℕ). leb 1 i && leb i x) (view-length l ∙ sym en) ∙ sym ek ∙ h
+-- ---- in the log, and kept after the last fold b
+module _ (l : List ℕ) (w : formed l ≡ true) (i n : ℕ) (k : Bool) (en : n ≡ lastOf l) (ek : k ≡ (leb 1 i && leb i n)) where
+  pub in-log : (x : Bool) → k ≡ x → inLog (view l) i ≡ x
+  in-log x h = ap (λ (y : ℕ). leb 1 i && leb i y) (last-is l w ∙ sym en) ∙ sym ek ∙ h
 
-  pub this-one : formed l ≡ true → k ≡ true → Entry l i
-  this-one w t =
-      let b : (leb 1 i && leb i n) ≡ true = sym ek ∙ t in
-      let lo : 1 ≤ i = leb-true 1 i (and-left _ _ b) in
-      let hi : i ≤ n = leb-true i n (and-right (leb 1 i) _ b) in
-      record { formed = w; one = lo; last = omega arith }
+  -- ---- outside it
+  pub rollback-5 : (r : Reply) → k ≡ false → r ≡ refusal 5 → Does l (rollback i) r l
+  unfolding decide
+  rollback-5 r h p = refuses l (rollback i) 5 r (rw (in-log false h)) p
 
-  -- ---- rollback request
-  module _ (r : Reply) where
-    pub rollback-5 : k ≡ false → r ≡ refusal 5 → Does l (rollback i) r l
+  pub work-5 : (a j o c : ℕ) (fit : Bool) (r : Reply) → fit ≡ workOk a j o c → fit ≡ true → k ≡ false → r ≡ refusal 5 → Does l (work a j i o c) r l
+  unfolding decide
+  work-5 a j o c fit r ef t h p = refuses l (work a j i o c) 5 r (rw (← ef, t, in-log false h)) p
+
+  module _ (h : k ≡ true) (b : ℕ) (eb : b ≡ foldedOf l) where
+    pub is-kept : (x : Bool) → ltb b i ≡ x → isKept (view l) i ≡ x
+    unfolding view
+    is-kept x q = ap (λ (y : ℕ). ltb y i) (sym eb) ∙ q
+
+    -- ---- folded
+    pub rollback-18 : (r : Reply) → i ≤ b → r ≡ refusal 18 → Does l (rollback i) r l
     unfolding decide
-    rollback-5 h p = refuses l (rollback i) 5 r (rw (in-log false h)) p
+    rollback-18 r q p = refuses l (rollback i) 18 r (rw (in-log true h, is-kept false (le-ltb b i q))) p
 
-    module _ (w : formed l ≡ true) (h : k ≡ true) (t : Transaction) (y : Bool) (et : t ≡ entryAt l i) (ey : y ≡ outside.mayRollBack t) where
-      shown : entryOf (view l .log) i ≡ t
-      shown = entry-of l i (this-one w h .one) (this-one w h .last) ∙ sym et
+    pub work-18 : (a j o c : ℕ) (fit : Bool) (r : Reply) → fit ≡ workOk a j o c → fit ≡ true → i ≤ b → r ≡ refusal 18 → Does l (work a j i o c) r l
+    unfolding decide
+    work-18 a j o c fit r ef t q p = refuses l (work a j i o c) 18 r (rw (← ef, t, in-log true h, is-kept false (le-ltb b i q))) p
 
-      may : (b : Bool) → y ≡ b → outside.mayRollBack (entryOf (view l .log) i) ≡ b
-      may b e = ap outside.mayRollBack shown ∙ sym ey ∙ e
+    module _ (g : b < i) where
+      kept-so : isKept (view l) i ≡ true
+      kept-so = is-kept true (lt-ltb b i g)
 
-      pub rollback-6 : y ≡ false → r ≡ refusal 6 → Does l (rollback i) r l
-      unfolding decide
-      rollback-6 e p = refuses l (rollback i) 6 r (rw (in-log true h, may false e)) p
+      pub this-one : Entry l i
+      this-one =
+          let x : (leb 1 i && leb i n) ≡ true = sym ek ∙ h in
+          let hi : i ≤ n = leb-true i n (and-right (leb 1 i) _ x) in
+          record { formed = w; kept = omega arith; last = omega arith }
 
-      pub rolled-back : (u : Transaction) (m : List ℕ) → y ≡ true → u ≡ outside.rolledBack t → m ≡ putEntryAt l i u → r ≡ refusal 0 → Does l (rollback i) r m
-      unfolding decide written write
-      rolled-back u m e eu q p =
-          accepts l (rollback i) (entry i (outside.rolledBack (entryOf (view l .log) i)) ∷ []) r m (rw (in-log true h, may true e)) p
-          (q ∙ ap (putEntryAt l i) (eu ∙ ap outside.rolledBack (sym shown)))
+      -- ---- rollback request
+      module _ (r : Reply) (t : Transaction) (y : Bool) (et : t ≡ entryAt l i) (ey : y ≡ outside.mayRollBack t) where
+        shown : entryOf (view l .log) i ≡ t
+        shown = entry-of l i (this-one .kept) (this-one .last) ∙ sym et
 
-  -- ---- work
-  module _ (a j o c : ℕ) (fit : Bool) (r : Reply) (ef : fit ≡ workOk a j o c) where
-    module _ (t : fit ≡ true) where
-      pub work-5 : k ≡ false → r ≡ refusal 5 → Does l (work a j i o c) r l
-      unfolding decide
-      work-5 h p = refuses l (work a j i o c) 5 r (rw (← ef, t, in-log false h)) p
+        may : (x : Bool) → y ≡ x → outside.mayRollBack (entryOf (view l .log) i) ≡ x
+        may x e = ap outside.mayRollBack shown ∙ sym ey ∙ e
 
-      module _ (h : k ≡ true) (m : Mastership) (em : m ≡ mastershipOf l) where
-        master-is : (b : Bool) → eqb (m .master) a ≡ b → isMaster (view l .net) a ≡ b
+        pub rollback-6 : y ≡ false → r ≡ refusal 6 → Does l (rollback i) r l
+        unfolding decide
+        rollback-6 e p = refuses l (rollback i) 6 r (rw (in-log true h, kept-so, may false e)) p
+
+        pub rolled-back : (u : Transaction) (m : List ℕ) → y ≡ true → u ≡ outside.rolledBack t → m ≡ putEntryAt l i u → r ≡ refusal 0 → Does l (rollback i) r m
+        unfolding decide written write
+        rolled-back u m e eu q p =
+            accepts l (rollback i) (entry i (outside.rolledBack (entryOf (view l .log) i)) ∷ []) r m (rw (in-log true h, kept-so, may true e)) p
+            (q ∙ ap (putEntryAt l i) (eu ∙ ap outside.rolledBack (sym shown)))
+
+      -- ---- work
+      module _ (a j o c : ℕ) (fit : Bool) (r : Reply) (ef : fit ≡ workOk a j o c) (t : fit ≡ true) (m : Mastership) (em : m ≡ mastershipOf l) where
+        master-is : (x : Bool) → eqb (m .master) a ≡ x → isMaster (view l .net) a ≡ x
         unfolding view
-        master-is b e = ap (λ (x : Mastership). eqb (x .master) a) (sym em) ∙ e
+        master-is x e = ap (λ (y : Mastership). eqb (y .master) a) (sym em) ∙ e
 
         pub work-10 : (m .master ≡ a → ⊥) → r ≡ refusal 10 → Does l (work a j i o c) r l
         unfolding decide
-        work-10 e p = refuses l (work a j i o c) 10 r (rw (← ef, t, in-log true h, master-is false (ne-eqb (m .master) a e))) p
+        work-10 e p = refuses l (work a j i o c) 10 r (rw (← ef, t, in-log true h, kept-so, master-is false (ne-eqb (m .master) a e))) p
 
-        pub worked : (pl : Plan) (g : Bool) (l1 : List ℕ) → m .master ≡ a → pl ≡ planOf (view l) a j i (eqb o 0) → g ≡ commits j
-            → l1 ≡ written l (rowsOf g pl i (eqb c 1)) → r ≡ record { answer = pl .answer; event = pl .event } → Does l (work a j i o c) r l1
+        pub worked : (pl : Plan) (d : Bool) (l1 : List ℕ) → m .master ≡ a → pl ≡ planOf (view l) a j i (eqb o 0) → d ≡ commits j
+            → l1 ≡ written l (rowsOf d pl i (eqb c 1)) → r ≡ record { answer = pl .answer; event = pl .event } → Does l (work a j i o c) r l1
         unfolding decide
-        worked pl g l1 e ep eg q p =
+        worked pl d l1 e ep ed q p =
             does l (work a j i o c) (planned j pl i c) r l1
-            (rw (← ef, t, in-log true h, master-is true (eq-eqb (m .master) a e)) (ap (λ (x : Plan). planned j x i c) (sym ep))) p
-            (q ∙ ap (λ (x : Bool). written l (rowsOf x pl i (eqb c 1))) eg)
+            (rw (← ef, t, in-log true h, kept-so, master-is true (eq-eqb (m .master) a e)) (ap (λ (x : Plan). planned j x i c) (sym ep))) p
+            (q ∙ ap (λ (x : Bool). written l (rowsOf x pl i (eqb c 1))) ed)
 
 pub work-2 : (l : List ℕ) (i a j o c : ℕ) (fit : Bool) (r : Reply) → fit ≡ workOk a j o c → fit ≡ false → r ≡ refusal 2 → Does l (work a j i o c) r l
 unfolding decide
@@ -269,20 +284,31 @@ module _ (l b : List ℕ) (y : Bytes b) (v : Bool) (r : Reply) (ev : v ≡ valid
   unfolding decide
   append-3 e p = refuses l (appendOf b) 3 r (rw (valid-is false e)) p
 
-  module _ (t : v ≡ true) (n : ℕ) (en : n ≡ logLength l) where
-    long : length (view l .log) ≡ n
-    long = view-length l ∙ sym en
+  module _ (w : formed l ≡ true) (t : v ≡ true) (n d : ℕ) (en : n ≡ lastOf l) (ed : d ≡ foldedOf l) where
+    long : length (view l .log .entries) ≡ n - d
+    long = view-kept l ∙ ap₂ (λ (x y : ℕ). x - y) (sym en) (sym ed)
 
-    pub append-4 : 128 ≤ n → r ≡ refusal 4 → Does l (appendOf b) r l
+    highest : last (view l .log) ≡ n
+    highest = last-is l w ∙ sym en
+
+    pub append-4 : 128 ≤ n - d → r ≡ refusal 4 → Does l (appendOf b) r l
     unfolding decide
-    append-4 h p = refuses l (appendOf b) 4 r (rw (valid-is true t, long, le-ltb n 128 h)) p
+    append-4 h p = refuses l (appendOf b) 4 r (rw (valid-is true t, long, le-ltb (n - d) 128 h)) p
 
-    pub appended-to : (x : Transaction) (k : Number) (m : List ℕ) → n < 128 → x ≡ appended (pairsOf b) → m ≡ write l (grow x) → k ≡ num (n + 1)
-        → r ≡ record { answer = 0; event = record { phase = 0; stage = 0; number = k; status = None } } → Does l (appendOf b) r m
-    unfolding decide written
-    appended-to x k m h ex q ek p =
-        let z : pairsIf (eqb (length b % 4) 0) (pairsOf b) ≡ pairsOf b = whole-pairs b (sym ev ∙ t) in
-        does l (appendOf b) (record { reply = record { answer = 0; event = numbered (n + 1) }; stores = grow (appended (pairsIf (eqb (length b % 4) 0) (pairsOf b))) ∷ [] }) r m
-        (rw (valid-is true t, long, lt-ltb n 128 h))
-        (p ∙ rw ek)
-        (q ∙ ap (λ (u : Transaction). write l (grow u)) (ex ∙ ap appended (sym z)))
+    module _ (h : n - d < 128) where
+      fits : ltb (length (view l .log .entries)) 128 ≡ true
+      fits = ap (λ (x : ℕ). ltb x 128) long ∙ lt-ltb (n - d) 128 h
+
+      pub append-9 : 65535 ≤ n → r ≡ refusal 9 → Does l (appendOf b) r l
+      unfolding decide
+      append-9 g p = refuses l (appendOf b) 9 r (rw (valid-is true t, fits, highest, le-ltb n 65535 g)) p
+
+      pub appended-to : (x : Transaction) (k : Number) (m : List ℕ) → n < 65535 → x ≡ appended (pairsOf b) → m ≡ write l (grow x) → k ≡ num (n + 1)
+          → r ≡ record { answer = 0; event = record { phase = 0; stage = 0; number = k; status = None } } → Does l (appendOf b) r m
+      unfolding decide written
+      appended-to x k m g ex q ek p =
+          let z : pairsIf (eqb (length b % 4) 0) (pairsOf b) ≡ pairsOf b = whole-pairs b (sym ev ∙ t) in
+          does l (appendOf b) (record { reply = record { answer = 0; event = numbered (n + 1) }; stores = grow (appended (pairsIf (eqb (length b % 4) 0) (pairsOf b))) ∷ [] }) r m
+          (rw (valid-is true t, fits, highest, lt-ltb n 65535 g))
+          (p ∙ rw ek)
+          (q ∙ ap (λ (u : Transaction). write l (grow u)) (ex ∙ ap appended (sym z)))

@@ -1,5 +1,5 @@
 -- What the code loads is what the view shows, so what its rules decide is what the machine decides. Assumes nothing.
-use Prim.Native.Nat.{ℕ, _-_, _≤_, _<_}
+use Prim.Native.Nat.{ℕ, _+_, _-_, _≤_, _<_}
 use mathlib.Core.Path.{_≡_, refl, ap, ap₂, sym, _∙_}
 use mathlib.Core.Bool.{Bool, true, false, _||_, cond}
 use mathlib.Core.List.{List, [], _∷_}
@@ -29,81 +29,78 @@ use Rattle.rules.specs.ApplyChange as change
 use Rattle.rules.specs.ApplyRollback.{applyRollback}
 use Rattle.rules.specs.ApplyRollback as rollback
 use Rattle.rules.specs.Outside.{lineOpen}
-use Rattle.machine.specs.State.{State, entryOf, nodeOf, lineOpenFor}
+use Rattle.machine.specs.State.{State, entryOf, last, nodeOf, lineOpenFor}
 use Rattle.machine.specs.Settled.{entrySettled, settled}
-use Rattle.machine.specs.Calls.{restOf, presentOne, present, job1, job2, job3, job4, planOf}
+use Rattle.machine.specs.Rest.{restOf}
+use Rattle.machine.specs.Calls.{presentOne, present, job1, job2, job3, job4, planOf}
 use Rattle.machine.proofs.Kept as kept
 use Rattle.image.specs.Layout.{tableWidths, imageLength}
-use Rattle.image.specs.Records.{entryAt, logLength, changeOf, headAt, configurationOf, mastershipOf, targetOf, connectionsOf}
+use Rattle.image.specs.Records.{entryAt, lastOf, foldedOf, changeOf, headAt, configurationOf, mastershipOf, targetOf, connectionsOf}
 use Rattle.image.specs.View.{tableOf, view}
-use Rattle.image.specs.Formed.{allUpTo, formed}
-use Rattle.image.proofs.UpTo.{entry-upTo, all-same, all-entries}
-use Rattle.image.proofs.Scanned.{view-length, formed-length, formed-few, formed-state}
+use Rattle.image.specs.Formed.{allKept, formed}
+use Rattle.image.proofs.UpTo.{kept-same}
+use Rattle.image.proofs.Scanned.{Room, view-last, view-entry, view-all, formed-length, formed-room, formed-state}
 use Rattle.controller.specs.Claims.{Entry, entrySettledAt, settledFor}
 
 -- ---- a well-formed image
 module _ (l : List ℕ) (w : formed l ≡ true) where
-  pub size : 4883 ≤ length l
+  pub size : 4949 ≤ length l
   size = let e : length l ≡ imageLength = formed-length l w in omega arith
 
   pub formed-view : kept.Formed (view l)
   formed-view = kept.formed (view l) (formed-state l w)
 
-  -- Committed's index is in the log
-  pub index-in : headAt l 4612 .index .0 ≤ logLength l
+  pub room : Room (foldedOf l) (lastOf l)
+  room = formed-room l w
+
+  pub last-is : last (view l .log) ≡ lastOf l
+  last-is = view-last l (room .0)
+
+  -- Committed's index is at most the highest number
+  pub index-in : headAt l 4612 .index .0 ≤ lastOf l
   unfolding view
-  index-in = let h : view l .committed .head .index .0 ≤ length (view l .log) = formed-view .committed .index in omega (arith, view-length l)
-
-  pub few : logLength l ≤ 128
-  few = formed-few l w
-
--- the entry at Committed's index, where that is not 0
-pub index-one : (l : List ℕ) (h : Head) (i : ℕ) → formed l ≡ true → h ≡ headAt l 4612 → i ≡ h .index .0 → (i ≡ 0 → ⊥) → (1 ≤ i) × ((i ≤ 128) × (4883 ≤ length l))
-index-one l h i w e p n =
-    let k : i ≡ headAt l 4612 .index .0 = p ∙ ap (λ (x : Head). x .index .0) e in
-    let a : 1 ≤ i = omega (arith, n) in
-    let b : i ≤ 128 = omega (arith, index-in l w, few l w) in
-    (a, (b, size l w))
+  index-in = let h : view l .committed .head .index .0 ≤ last (view l .log) = formed-view .committed .index in omega (arith, last-is)
 
 -- an entry of the log
-pub entry-of : (l : List ℕ) (i : ℕ) → 1 ≤ i → i ≤ logLength l → entryOf (view l .log) i ≡ entryAt l i
-unfolding view
-entry-of l i a b = entry-upTo (entryAt l) (logLength l) i a b
+pub entry-of : (l : List ℕ) (i : ℕ) → foldedOf l < i → i ≤ lastOf l → entryOf (view l .log) i ≡ entryAt l i
+entry-of l i a b = view-entry l i a b
 
 module _ (l : List ℕ) (i : ℕ) (e : Entry l i) where
-  pub entry-size : 4883 ≤ length l
+  -- what loading and storing it ask
+  pub entry-here : (1 ≤ i) × (4949 ≤ length l)
+  entry-here = (let h = e .kept in omega arith, size l (e .formed))
+
+  pub entry-size : 4949 ≤ length l
   entry-size = size l (e .formed)
 
-  pub entry-few : i ≤ 128
-  entry-few = let h = e .last in omega (arith, few l (e .formed))
-
   pub this-entry : (t : Transaction) → t ≡ entryAt l i → t ≡ entryOf (view l .log) i
-  this-entry t q = q ∙ sym (entry-of l i (e .one) (e .last))
+  this-entry t q = q ∙ sym (entry-of l i (e .kept) (e .last))
 
 -- ---- at rest
-pub rest-none : (l : List ℕ) (h : Head) (i j : ℕ) → h ≡ headAt l 4612 → i ≡ h .index .0 → i ≡ 0 → j ≡ h .target .0 → eqb j 0 ≡ restOf (view l)
-unfolding view
-rest-none l h i j e p z q =
-    let y : headAt l 4612 .index .0 ≡ 0 = ap (λ (x : Head). x .index .0) (sym e) ∙ sym p ∙ z in
-    let t : j ≡ headAt l 4612 .target .0 = q ∙ ap (λ (x : Head). x .target .0) e in
-    rw (y, t) (go (eqb (headAt l 4612 .target .0) 0))
-  where
-    go : (b : Bool) → b ≡ (b || false)
-    go true = refl
-    go false = refl
+module _ (l : List ℕ) (h : Head) (i b : ℕ) (e : h ≡ headAt l 4612) (p : i ≡ h .index .0) (f : b ≡ foldedOf l) (r : Bool) where
+  at-index : i ≡ headAt l 4612 .index .0
+  at-index = p ∙ ap (λ (x : Head). x .index .0) e
 
-at-index : (l : List ℕ) (i : ℕ) → i ≡ headAt l 4612 .index .0
-    → atRest (headAt l 4612) (entryOf (view l .log) i .change .commit) (entryOf (view l .log) i .rollback .commit) ≡ restOf (view l)
-unfolding view
-at-index l i k = ap (λ (x : ℕ). atRest (headAt l 4612) (entryOf (view l .log) x .change .commit) (entryOf (view l .log) x .rollback .commit)) k
+  -- the mark at Committed's index, folded or not
+  by-mark : (x : Bool) → leb (headAt l 4612 .index .0) (foldedOf l) ≡ x
+      → restOf (view l)
+      ≡ atRest (headAt l 4612) (cond x Complete (entryOf (view l .log) (headAt l 4612 .index .0) .change .commit))
+      (cond x Complete (entryOf (view l .log) (headAt l 4612 .index .0) .rollback .commit))
+  unfolding view
+  by-mark x q =
+      ap (λ (y : Bool). atRest (headAt l 4612) (cond y Complete (entryOf (view l .log) (headAt l 4612 .index .0) .change .commit))
+      (cond y Complete (entryOf (view l .log) (headAt l 4612 .index .0) .rollback .commit))) q
 
-pub rest-some : (l : List ℕ) (h : Head) (i : ℕ) (t : Transaction) (r : Bool) → formed l ≡ true → h ≡ headAt l 4612 → i ≡ h .index .0 → (i ≡ 0 → ⊥) → t ≡ entryAt l i
-    → r ≡ atRest h (t .change .commit) (t .rollback .commit) → r ≡ restOf (view l)
-rest-some l h i t r w e p n q s =
-    let k : i ≡ headAt l 4612 .index .0 = p ∙ ap (λ (x : Head). x .index .0) e in
-    let a : 1 ≤ i = omega (arith, n) in
-    let b : i ≤ logLength l = omega (arith, index-in l w) in
-    s ∙ ap₂ (λ (x : Head) (u : Transaction). atRest x (u .change .commit) (u .rollback .commit)) e (q ∙ sym (entry-of l i a b)) ∙ at-index l i k
+  pub rest-folded : i ≤ b → r ≡ atRest h Complete Complete → r ≡ restOf (view l)
+  rest-folded k s =
+      let low : headAt l 4612 .index .0 ≤ foldedOf l = omega (arith, at-index) in
+      s ∙ ap (λ (x : Head). atRest x Complete Complete) e ∙ sym (by-mark true (le-leb _ _ low))
+
+  pub rest-some : (t : Transaction) → formed l ≡ true → b < i → t ≡ entryAt l i → r ≡ atRest h (t .change .commit) (t .rollback .commit) → r ≡ restOf (view l)
+  rest-some t w k q s =
+      let m : foldedOf l < headAt l 4612 .index .0 = omega (arith, at-index) in
+      let z : entryOf (view l .log) (headAt l 4612 .index .0) ≡ t = entry-of l (headAt l 4612 .index .0) m (index-in l w) ∙ ap (entryAt l) (sym at-index) ∙ sym q in
+      s ∙ ap₂ (λ (x : Head) (u : Transaction). atRest x (u .change .commit) (u .rollback .commit)) e (sym z) ∙ sym (by-mark false (lt-leb _ _ m))
 
 -- ---- settled
 late : (a b d : Bool) → done (cond a Complete (cond b Aborted (cond d Canceled Failed))) ≡ true
@@ -133,11 +130,17 @@ pub settled-none : (l : List ℕ) (o : ℕ) → o ≡ field l 4692 4 → o ≡ 0
 unfolding view headAt fieldsAt
 settled-none l o e z = rw (← e, z)
 
-pub settled-all : (l : List ℕ) (o n : ℕ) (r : Bool) → o ≡ field l 4692 4 → (o ≡ 0 → ⊥) → n ≡ logLength l → r ≡ allUpTo (entrySettledAt l o) n → r ≡ settled (view l)
+pub settled-all : (l : List ℕ) (o b n : ℕ) (r : Bool) → o ≡ field l 4692 4 → (o ≡ 0 → ⊥) → b ≡ foldedOf l → n ≡ lastOf l → r ≡ allKept (entrySettledAt l o) b n
+    → r ≡ settled (view l)
 unfolding view headAt fieldsAt
-settled-all l o n r e z m q =
-    q ∙ ap (allUpTo (entrySettledAt l o)) m ∙ all-same (entrySettledAt l o) (λ k. entrySettled o k (entryAt l k)) (logLength l) (λ k a b. settled-at l o k)
-    ∙ sym (all-entries (entrySettled o) (entryAt l) (logLength l)) ∙ rw (← e, ne-eqb o 0 z)
+settled-all l o b n r e z f m q =
+    q ∙ ap₂ (allKept (entrySettledAt l o)) f m
+    ∙ kept-same (entrySettledAt l o) (λ k. entrySettled o k (entryAt l k)) (foldedOf l) (lastOf l) (λ k x y. settled-at l o k)
+    ∙ sym (view-all (entrySettled o) l) ∙ rw (← e, ne-eqb o 0 z)
+
+-- the last fold is at most the highest number
+pub fold-low : (l : List ℕ) (b n : ℕ) → formed l ≡ true → b ≡ foldedOf l → n ≡ lastOf l → b ≤ n
+fold-low l b n w p q = omega (arith, room l w .0)
 
 -- where a side's apply is not Pending, its rules decide the same whether the applied side is settled or not
 module _ (t : Transaction) (h : Head) (s : State) (i : Number) (line ok : Bool) where

@@ -15,14 +15,14 @@ use Rattle.kinds.specs.Events.{refusal}
 use Rattle.fields.specs.Field.{field, putField, fieldsAt, total}
 use Rattle.fields.proofs.Laws.{Outside, put-outside, put-same, field-kept, length-put}
 use Rattle.fields.proofs.Runs.{fields-kept}
-use Rattle.machine.specs.State.{fresh, freshPart, freshNet}
-use Rattle.machine.specs.Stores.{Table, ofCommitted, ofApplied, ofTarget}
+use Rattle.machine.specs.State.{absent, unfolded, fresh, freshPart, freshNet}
+use Rattle.machine.specs.Stores.{Table, ofCommitted, ofApplied, ofTarget, ofBase}
 use Rattle.machine.specs.WellFormed.{allFrom, headOk, wellFormed}
-use Rattle.image.specs.Layout.{headWidths, tableWidths, mastershipWidths, targetWidths, connectionsWidths, lengthAt, changeAt, committedAt, appliedAt, valuesAt, configurationAt, mastershipAt, targetAt, connectionsAt, imageLength}
-use Rattle.image.specs.Records.{entryAt, logLength, changeOf, toHead, headAt, configurationOf, toMastership, mastershipOf, toTarget, targetOf, toConnections, connectionsOf}
-use Rattle.image.specs.View.{upTo, tableOf, partOf, netOf, view}
-use Rattle.image.specs.Formed.{allUpTo, flagsOk, formed}
-use Rattle.image.proofs.Kept.{Apart}
+use Rattle.image.specs.Layout.{headWidths, tableWidths, mastershipWidths, targetWidths, connectionsWidths, lastAt, changeAt, committedAt, appliedAt, valuesAt, configurationAt, mastershipAt, targetAt, connectionsAt, foldedAt, imageLength}
+use Rattle.image.specs.Records.{lastOf, foldedOf, changeOf, toHead, headAt, configurationOf, toMastership, mastershipOf, toTarget, targetOf, toConnections, connectionsOf}
+use Rattle.image.specs.View.{upTo, tableOf, entriesOf, logOf, partOf, netOf, view}
+use Rattle.image.specs.Formed.{allUpTo, allKept, flagsOk, formed}
+use Rattle.image.proofs.Kept.{Apart, same-log}
 use Rattle.image.proofs.Shown.{same-view}
 use Rattle.controller.specs.Fresh.{zeros, freshImage, answerIf, imageIf, Freshens}
 
@@ -68,7 +68,7 @@ cleared-all l s n k e h c =
     ext-getD 0 s (zeros (length l)) (c .size ∙ sym (length-zeros (length l))) (λ j q. c .done j (omega (arith, c .size)) ∙ sym (byte-zeros (length l) j))
 
 -- ---- the call
-pub freshened : (l l1 l2 : List ℕ) (r : Reply) → length l ≡ 4883 → l1 ≡ zeros (length l) → l2 ≡ putField l1 4824 1 1 → r ≡ refusal 0 → Freshens l r l2
+pub freshened : (l l1 l2 : List ℕ) (r : Reply) → length l ≡ 4949 → l1 ≡ zeros (length l) → l2 ≡ putField l1 4824 1 1 → r ≡ refusal 0 → Freshens l r l2
 unfolding freshImage
 freshened l l1 l2 r e p q u =
     let b : eqb (length l) imageLength ≡ true = eq-eqb (length l) imageLength e in (
@@ -76,7 +76,7 @@ freshened l l1 l2 r e p q u =
       q ∙ ap (λ (x : List ℕ). putField x 4824 1 1) (p ∙ ap zeros e) ∙ ap (λ (x : Bool). imageIf x l) (sym b),
     )
 
-pub not-freshened : (l : List ℕ) (r : Reply) → (length l ≡ 4883 → ⊥) → r ≡ refusal 1 → Freshens l r l
+pub not-freshened : (l : List ℕ) (r : Reply) → (length l ≡ 4949 → ⊥) → r ≡ refusal 1 → Freshens l r l
 not-freshened l r n u =
     let b : eqb (length l) imageLength ≡ false = ne-eqb (length l) imageLength n in
     (u ∙ ap (λ (x : Bool). refusal (answerIf x)) (sym b), ap (λ (x : Bool). imageIf x l) (sym b))
@@ -101,17 +101,21 @@ other w at h = field-kept (zeros imageLength) freshImage configurationAt (config
 others : (ws : List ℕ) (at : ℕ) → Apart configurationAt (configurationAt + 1) at (total ws) → fieldsAt freshImage at ws ≡ replicate (length ws) 0
 others ws at h = fields-kept (zeros imageLength) freshImage configurationAt (configurationAt + 1) outside ws at h ∙ fields-zeros ws imageLength at
 
-no-log : logLength freshImage ≡ 0
-unfolding logLength
-no-log = other 2 lengthAt (inl (omega arith))
+no-log : lastOf freshImage ≡ 0
+unfolding lastOf
+no-log = other 2 lastAt (inl (omega arith))
 
 no-change : changeOf freshImage ≡ 0
 unfolding changeOf
 no-change = other 2 changeAt (inl (omega arith))
 
-none : upTo (entryAt freshImage) (logLength freshImage) ≡ []
+no-fold : foldedOf freshImage ≡ 0
+unfolding foldedOf
+no-fold = other 2 foldedAt (inr (omega arith))
+
+none : entriesOf freshImage ≡ []
 unfolding upTo
-none = rw no-log
+none = rw (no-log, no-fold)
 
 head : (at : ℕ) → Apart configurationAt (configurationAt + 1) at 10 → headAt freshImage at ≡ freshPart .head
 unfolding headAt
@@ -122,6 +126,10 @@ unfolding tableOf
 table ofCommitted = others tableWidths (valuesAt ofCommitted) (inl (omega arith))
 table ofApplied = others tableWidths (valuesAt ofApplied) (inl (omega arith))
 table ofTarget = others tableWidths (valuesAt ofTarget) (inl (omega arith))
+table ofBase = others tableWidths (valuesAt ofBase) (inr (omega arith))
+
+log : logOf freshImage ≡ unfolded []
+log = same-log freshImage 0 absent [] no-fold (table ofBase) none
 
 part : (at : ℕ) (b : Table) → Apart configurationAt (configurationAt + 1) at 10 → partOf freshImage at b ≡ freshPart
 part at b h = rw (head at h, table b)
@@ -148,7 +156,7 @@ net = rw (configuration, mastership, target, connections, table ofTarget)
 -- a fresh image shows the fresh state
 pub shows-fresh : view freshImage ≡ fresh
 shows-fresh =
-    same-view freshImage [] 0 freshPart freshPart freshNet none no-change (part committedAt ofCommitted (inl (omega arith)))
+    same-view freshImage (unfolded []) 0 freshPart freshPart freshNet log no-change (part committedAt ofCommitted (inl (omega arith)))
     (part appliedAt ofApplied (inl (omega arith))) net
 
 flags : flagsOk freshImage ≡ true
@@ -173,5 +181,5 @@ well-formed = refl
 
 -- a fresh image is well-formed
 pub formed-fresh : formed freshImage ≡ true
-unfolding formed allUpTo
-formed-fresh = rw (eq-eqb (length freshImage) imageLength length-fresh, no-log, flags, shows-fresh, well-formed)
+unfolding formed allKept allUpTo
+formed-fresh = rw (eq-eqb (length freshImage) imageLength length-fresh, no-log, no-fold, flags, shows-fresh, well-formed)

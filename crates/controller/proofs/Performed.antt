@@ -1,8 +1,10 @@
 -- A plan's stores as the code makes them, over variables: each row after the one before it. Assumes nothing.
-use Prim.Native.Nat.{ℕ, _+_, _*_}
+use Prim.Native.Nat.{ℕ, _+_, _*_, _≤_, _<_}
 use mathlib.Core.Path.{_≡_, refl, ap, sym, _∙_}
 use mathlib.Core.Bool.{Bool, true, false, cond}
 use mathlib.Core.List.{List, [], _∷_, _++_}
+use native.Mathlib.Omega.{arith}
+use borrow.Author.Tests.{lt-ltb, le-ltb}
 use lib.Dec.{ltb}
 use lib.ListN.{getD}
 use Rattle.kinds.specs.declared.Transaction.{Transaction}
@@ -15,7 +17,7 @@ use Rattle.rules.specs.declared.Lay.the-variants.{Nothing}
 use Rattle.rules.specs.declared.Order.{Order}
 use Rattle.rules.specs.declared.Order.the-variants.{Neither}
 use Rattle.machine.specs.Stores.{Table, ofCommitted, ofApplied, ofTarget, Store, change, committedHead, appliedHead}
-use Rattle.machine.specs.Rows.{layOne, overlay, laid, changeRow, headRow, thenRow, rowsBy, rowsOf}
+use Rattle.machine.specs.Rows.{overlay, laid, changeRow, headRow, thenRow, rowsBy, rowsOf}
 use Rattle.image.specs.Layout.{valuesAt}
 use Rattle.image.specs.Records.{putHeadAt}
 use Rattle.image.specs.View.{write, written}
@@ -30,23 +32,42 @@ pub rows-on : (l m n : List ℕ) (es fs : List Store) → m ≡ written l es →
 rows-on l m n es fs p q = q ∙ ap (λ (x : List ℕ). written x fs) p ∙ sym (written-append l es fs)
 
 -- ---- overlay
-pub lay-used : (l m : List ℕ) (at p v : ℕ) (u : Bool) → u ≡ true → m ≡ cond (ltb p 32) (putField l (at + 2 * p) 2 v) l
-    → (b : Table) → valuesAt b ≡ at → m ≡ written l (layOne u b p v)
-unfolding written write
-lay-used l m at p v u t q b e = rw (t, e) q
+-- one pair over the table at a place
+abbrev pub Over : ℕ → ℕ → ℕ → List ℕ → List ℕ
+Over at p v l = cond (ltb p 32) (putField l (at + 2 * p) 2 v) l
 
-pub lay-unused : (l : List ℕ) (at p v : ℕ) (u : Bool) → u ≡ false → (b : Table) → valuesAt b ≡ at → l ≡ written l (layOne u b p v)
-unfolding written
-lay-unused l at p v u t b e = rw t
+-- as many pairs as are used
+module _ (ps vs : List ℕ) (n at : ℕ) (l : List ℕ) where
+  pub laid-zero : n < 1 → (b : Table) → valuesAt b ≡ at → l ≡ written l (overlay b ps vs n)
+  unfolding overlay written
+  laid-zero h b e = rw (le-ltb 0 n (omega arith), le-ltb 1 n (omega arith), le-ltb 2 n (omega arith), le-ltb 3 n (omega arith))
 
-module _ (l l1 l2 l3 l4 ps vs : List ℕ) (n at : ℕ) where
-  pub laid-four : ((b : Table) → valuesAt b ≡ at → l1 ≡ written l (layOne (ltb 0 n) b (getD ps 0 0) (getD vs 0 0)))
-      → ((b : Table) → valuesAt b ≡ at → l2 ≡ written l1 (layOne (ltb 1 n) b (getD ps 1 0) (getD vs 1 0)))
-      → ((b : Table) → valuesAt b ≡ at → l3 ≡ written l2 (layOne (ltb 2 n) b (getD ps 2 0) (getD vs 2 0)))
-      → ((b : Table) → valuesAt b ≡ at → l4 ≡ written l3 (layOne (ltb 3 n) b (getD ps 3 0) (getD vs 3 0)))
-      → (b : Table) → valuesAt b ≡ at → l4 ≡ written l (overlay b ps vs n)
-  unfolding overlay
-  laid-four q1 q2 q3 q4 b e = simp (q4 b e, q3 b e, q2 b e, q1 b e, written-append)
+  module _ (l1 : List ℕ) (q1 : l1 ≡ Over at (getD ps 0 0) (getD vs 0 0) l) where
+    pub laid-one : 1 ≤ n → n < 2 → (b : Table) → valuesAt b ≡ at → l1 ≡ written l (overlay b ps vs n)
+    unfolding overlay written write
+    laid-one g h b e = rw (lt-ltb 0 n (omega arith), le-ltb 1 n (omega arith), le-ltb 2 n (omega arith), le-ltb 3 n (omega arith), e) q1
+
+    module _ (l2 : List ℕ) (q2 : l2 ≡ Over at (getD ps 1 0) (getD vs 1 0) l1) where
+      two : l2 ≡ Over at (getD ps 1 0) (getD vs 1 0) (Over at (getD ps 0 0) (getD vs 0 0) l)
+      two = q2 ∙ ap (Over at (getD ps 1 0) (getD vs 1 0)) q1
+
+      pub laid-two : 2 ≤ n → n < 3 → (b : Table) → valuesAt b ≡ at → l2 ≡ written l (overlay b ps vs n)
+      unfolding overlay written write
+      laid-two g h b e = rw (lt-ltb 0 n (omega arith), lt-ltb 1 n (omega arith), le-ltb 2 n (omega arith), le-ltb 3 n (omega arith), e) two
+
+      module _ (l3 : List ℕ) (q3 : l3 ≡ Over at (getD ps 2 0) (getD vs 2 0) l2) where
+        three : l3 ≡ Over at (getD ps 2 0) (getD vs 2 0) (Over at (getD ps 1 0) (getD vs 1 0) (Over at (getD ps 0 0) (getD vs 0 0) l))
+        three = q3 ∙ ap (Over at (getD ps 2 0) (getD vs 2 0)) two
+
+        pub laid-three : 3 ≤ n → n < 4 → (b : Table) → valuesAt b ≡ at → l3 ≡ written l (overlay b ps vs n)
+        unfolding overlay written write
+        laid-three g h b e = rw (lt-ltb 0 n (omega arith), lt-ltb 1 n (omega arith), lt-ltb 2 n (omega arith), le-ltb 3 n (omega arith), e) three
+
+        pub laid-four : (l4 : List ℕ) → l4 ≡ Over at (getD ps 3 0) (getD vs 3 0) l3 → 4 ≤ n → (b : Table) → valuesAt b ≡ at → l4 ≡ written l (overlay b ps vs n)
+        unfolding overlay written write
+        laid-four l4 q4 g b e =
+            rw (lt-ltb 0 n (omega arith), lt-ltb 1 n (omega arith), lt-ltb 2 n (omega arith), lt-ltb 3 n (omega arith), e)
+            (q4 ∙ ap (Over at (getD ps 3 0) (getD vs 3 0)) three)
 
 pub laid-by : (l m : List ℕ) (at : ℕ) (x y : Lay) (t : Transaction) → x ≡ y → ((b : Table) → valuesAt b ≡ at → m ≡ written l (laid b y t))
     → (b : Table) → valuesAt b ≡ at → m ≡ written l (laid b x t)

@@ -4,7 +4,7 @@ use mathlib.Core.Path.{_≡_, refl, ap, ap₂, sym, _∙_}
 use mathlib.Core.Bool.{Bool, true, false, _&&_, cond}
 use mathlib.Core.List.{List, [], _∷_}
 use native.Mathlib.Omega.{arith}
-use borrow.Author.Tests.{leb-true, ltb-true}
+use borrow.Author.Tests.{leb-true, ltb-true, lt-ltb, le-ltb}
 use lib.Dec.{eqb, leb, ltb}
 use lib.ListN.{length, getD}
 use Rattle.kinds.specs.declared.Transaction.{Transaction}
@@ -17,19 +17,19 @@ use Rattle.kinds.specs.declared.Target.{Target}
 use Rattle.kinds.specs.Numbers.{num}
 use Rattle.kinds.specs.Statuses.{progressCode}
 use Rattle.fields.specs.Field.{fieldsAt, quad}
-use Rattle.machine.specs.State.{State, entryOf, inLog, isNode, nodeOf}
+use Rattle.machine.specs.State.{State, entryOf, last, inLog, isKept, isNode, nodeOf}
 use Rattle.machine.specs.Reads as reads
 use Rattle.machine.specs.Reads.{Query, ofTable, ofEntry, ofState, ofNode, Answer, shows, refuses, isField, fieldOf, flag, entryNumbers, stateNumbers, nodeNumbers, tableNumbers, read}
 use Rattle.image.specs.Layout.{tableWidths}
-use Rattle.image.specs.Records.{entryAt, logLength, changeOf, headNumbers, headAt, configurationOf, mastershipOf, targetOf, connectionsOf}
+use Rattle.image.specs.Records.{entryAt, lastOf, foldedOf, changeOf, headNumbers, headAt, configurationOf, mastershipOf, targetOf, connectionsOf}
 use Rattle.image.specs.View.{tableOf, netOf, view}
 use Rattle.image.specs.Formed.{formed}
 use Rattle.image.proofs.UpTo.{and-left, and-right}
-use Rattle.image.proofs.Scanned.{view-length}
 use Rattle.controller.specs.declared.reads.Read.{Read}
 use Rattle.controller.specs.Claims.{Entry}
 use Rattle.controller.specs.Reads.{given, unless, readOf, noHead, headsIf, headsOf, marks, netNumbers, tablePlace}
-use Rattle.controller.proofs.Decided.{entry-of}
+use Rattle.controller.proofs.Decided.{entry-of, last-is}
+use Rattle.controller.proofs.Answered.{in-log, is-kept}
 
 -- ---- refusal 1, and what follows it
 module _ (l : List ℕ) (q : Query) (r : Read) (b : Bool) (eb : b ≡ formed l) where
@@ -57,36 +57,38 @@ in-range n f b e t =
 -- ---- values
 at-table : (l : List ℕ) (b at : ℕ) → at ≡ tablePlace b → fieldsAt l at tableWidths ≡ tableNumbers (view l) b
 unfolding tablePlace view tableOf
-at-table l b at e = ap (λ (x : ℕ). fieldsAt l x tableWidths) e ∙ go (eqb b 1) (eqb b 2)
+at-table l b at e = ap (λ (x : ℕ). fieldsAt l x tableWidths) e ∙ go (eqb b 1) (eqb b 2) (eqb b 3)
   where
-    go : (x y : Bool) → fieldsAt l (cond x 4622 (cond y 4696 4760)) tableWidths
-        ≡ cond x (fieldsAt l 4622 tableWidths) (cond y (fieldsAt l 4696 tableWidths) (fieldsAt l 4760 tableWidths))
-    go true y = refl
-    go false true = refl
-    go false false = refl
+    go : (x y z : Bool) → fieldsAt l (cond x 4622 (cond y 4696 (cond z 4760 4885))) tableWidths
+        ≡ cond x (fieldsAt l 4622 tableWidths) (cond y (fieldsAt l 4696 tableWidths) (cond z (fieldsAt l 4760 tableWidths) (fieldsAt l 4885 tableWidths)))
+    go true y z = refl
+    go false true z = refl
+    go false false true = refl
+    go false false false = refl
 
-pub table-room : (b at n : ℕ) → at ≡ tablePlace b → 4883 ≤ n → at + 64 ≤ n
+pub table-room : (b at n : ℕ) → at ≡ tablePlace b → 4949 ≤ n → at + 64 ≤ n
 unfolding tablePlace
-table-room b at n e h = go (eqb b 1) (eqb b 2) e
+table-room b at n e h = go (eqb b 1) (eqb b 2) (eqb b 3) e
   where
-    go : (x y : Bool) → at ≡ cond x 4622 (cond y 4696 4760) → at + 64 ≤ n
-    go true y q = omega arith
-    go false true q = omega arith
-    go false false q = omega arith
+    go : (x y z : Bool) → at ≡ cond x 4622 (cond y 4696 (cond z 4760 4885)) → at + 64 ≤ n
+    go true y z q = omega arith
+    go false true z q = omega arith
+    go false false true q = omega arith
+    go false false false q = omega arith
 
-module _ (b p : ℕ) (k : Bool) (ek : k ≡ (isField 3 b && ltb p 32)) where
+module _ (b p : ℕ) (k : Bool) (ek : k ≡ (isField 4 b && ltb p 32)) where
   pub path-low : k ≡ true → p < 32
-  path-low t = ltb-true p 32 (and-right (isField 3 b) _ (sym ek ∙ t))
+  path-low t = ltb-true p 32 (and-right (isField 4 b) _ (sym ek ∙ t))
 
   pub no-value : (s : State) → k ≡ false → read s (ofTable b p) ≡ refuses 2
   unfolding read
-  no-value s t = let z : (isField 3 b && ltb p 32) ≡ false = sym ek ∙ t in ap (λ (x : Bool). reads.unless 2 x (shows (getD (tableNumbers s b) p 0))) z
+  no-value s t = let z : (isField 4 b && ltb p 32) ≡ false = sym ek ∙ t in ap (λ (x : Bool). reads.unless 2 x (shows (getD (tableNumbers s b) p 0))) z
 
   pub value-is : (l : List ℕ) (at v w : ℕ) → k ≡ true → at ≡ tablePlace b → v ≡ getD (fieldsAt l at tableWidths) p 0 → w ≡ v
       → read (view l) (ofTable b p) ≡ shows w
   unfolding read
   value-is l at v w t ea ev ew =
-      let z : (isField 3 b && ltb p 32) ≡ true = sym ek ∙ t in
+      let z : (isField 4 b && ltb p 32) ≡ true = sym ek ∙ t in
       ap (λ (x : Bool). reads.unless 2 x (shows (getD (tableNumbers (view l) b) p 0))) z
       ∙ ap shows (sym (ew ∙ ev ∙ ap (λ (x : List ℕ). getD x p 0) (at-table l b at ea)))
 
@@ -103,23 +105,34 @@ module _ (i f : ℕ) (k : Bool) (ek : k ≡ isField 21 f) where
   unfolding read
   no-entry-field s t =
       let z : isField 21 f ≡ false = sym ek ∙ t in
-      ap (λ (x : Bool). reads.unless 2 x (reads.unless 5 (inLog s i) (shows (fieldOf (entryNumbers (entryOf (s .log) i)) f)))) z
+      ap (λ (x : Bool). reads.unless 2 x (reads.unless 5 (inLog s i) (reads.unless 18 (isKept s i) (shows (fieldOf (entryNumbers (entryOf (s .log) i)) f))))) z
 
-  module _ (l : List ℕ) (t : k ≡ true) (n : ℕ) (j : Bool) (en : n ≡ logLength l) (ej : j ≡ (leb 1 i && leb i n)) where
-    read-entry : (y : Bool) → j ≡ y → read (view l) (ofEntry i f) ≡ reads.unless 5 y (shows (fieldOf (entryNumbers (entryOf (view l .log) i)) f))
+  module _ (l : List ℕ) (w : formed l ≡ true) (t : k ≡ true) (n : ℕ) (j : Bool) (en : n ≡ lastOf l) (ej : j ≡ (leb 1 i && leb i n)) where
+    read-entry : (y : Bool) → j ≡ y
+        → read (view l) (ofEntry i f) ≡ reads.unless 5 y (reads.unless 18 (isKept (view l) i) (shows (fieldOf (entryNumbers (entryOf (view l .log) i)) f)))
     unfolding read
     read-entry y u =
         let z : isField 21 f ≡ true = sym ek ∙ t in
-        let x : inLog (view l) i ≡ y = ap (λ (d : ℕ). leb 1 i && leb i d) (view-length l ∙ sym en) ∙ sym ej ∙ u in
-        ap₂ (λ (c d : Bool). reads.unless 2 c (reads.unless 5 d (shows (fieldOf (entryNumbers (entryOf (view l .log) i)) f)))) z x
+        ap₂ (λ (c d : Bool). reads.unless 2 c (reads.unless 5 d (reads.unless 18 (isKept (view l) i) (shows (fieldOf (entryNumbers (entryOf (view l .log) i)) f))))) z
+        (in-log l w i n j en ej y u)
 
     pub no-entry : j ≡ false → read (view l) (ofEntry i f) ≡ refuses 5
     no-entry u = read-entry false u
 
-    pub entry-field-is : j ≡ true → Entry l i → (e : Transaction) (a : List ℕ) → e ≡ entryAt l i → a ≡ entryNumbers e
-        → read (view l) (ofEntry i f) ≡ shows (getD a (f - 1) 0)
-    entry-field-is u w e a ee ea =
-        read-entry true u ∙ ap (λ (x : List ℕ). shows (getD x (f - 1) 0)) (sym (ea ∙ ap entryNumbers (ee ∙ sym (entry-of l i (w .one) (w .last)))))
+    module _ (u : j ≡ true) (b : ℕ) (eb : b ≡ foldedOf l) where
+      read-kept : (x : Bool) → ltb b i ≡ x → read (view l) (ofEntry i f) ≡ reads.unless 18 x (shows (fieldOf (entryNumbers (entryOf (view l .log) i)) f))
+      read-kept x e =
+          read-entry true u
+          ∙ ap (λ (y : Bool). reads.unless 18 y (shows (fieldOf (entryNumbers (entryOf (view l .log) i)) f))) (is-kept l w i n j en ej u b eb x e)
+
+      pub folded-entry : i ≤ b → read (view l) (ofEntry i f) ≡ refuses 18
+      folded-entry g = read-kept false (le-ltb b i g)
+
+      pub entry-field-is : b < i → Entry l i → (e : Transaction) (a : List ℕ) → e ≡ entryAt l i → a ≡ entryNumbers e
+          → read (view l) (ofEntry i f) ≡ shows (getD a (f - 1) 0)
+      entry-field-is g c e a ee ea =
+          read-kept true (lt-ltb b i g)
+          ∙ ap (λ (x : List ℕ). shows (getD x (f - 1) 0)) (sym (ea ∙ ap entryNumbers (ee ∙ sym (entry-of l i (c .kept) (c .last)))))
 
 -- ---- what the state has once
 pub net-numbers : (l : List ℕ) (g : Configuration) (m : Mastership) (t : Target) (a x y z : ℕ) → g ≡ configurationOf l → m ≡ mastershipOf l → t ≡ targetOf l
@@ -127,23 +140,23 @@ pub net-numbers : (l : List ℕ) (g : Configuration) (m : Mastership) (t : Targe
     → (a ∷ x ∷ m .master ∷ y ∷ m .conn ∷ t .id ∷ z ∷ []) ≡ netNumbers (netOf l)
 net-numbers l g m t a x y z eg em et ea ex ey ez = rw (ea, ex, ey, ez, eg, em, et)
 
-pub state-numbers : (l : List ℕ) (n d : ℕ) (g : Number) (h j : Head) (c a w : List ℕ) → n ≡ logLength l → g ≡ num (changeOf l) → d ≡ g .0
+pub state-numbers : (l : List ℕ) → formed l ≡ true → (n b d : ℕ) (g : Number) (h j : Head) (c a w : List ℕ) → n ≡ lastOf l → b ≡ foldedOf l → g ≡ num (changeOf l) → d ≡ g .0
     → h ≡ headAt l 4612 → c ≡ headNumbers h → j ≡ headAt l 4686 → a ≡ headNumbers j → w ≡ netNumbers (netOf l)
     → (n ∷ getD c 0 0 ∷ d ∷ getD c 1 0 ∷ getD c 2 0 ∷ getD c 3 0 ∷ getD a 0 0 ∷ getD a 1 0 ∷ getD a 2 0 ∷ getD a 3 0
-    ∷ getD w 0 0 ∷ getD w 1 0 ∷ getD w 2 0 ∷ getD w 3 0 ∷ getD w 4 0 ∷ getD w 5 0 ∷ getD w 6 0 ∷ []) ≡ stateNumbers (view l)
+    ∷ getD w 0 0 ∷ getD w 1 0 ∷ getD w 2 0 ∷ getD w 3 0 ∷ getD w 4 0 ∷ getD w 5 0 ∷ getD w 6 0 ∷ b ∷ []) ≡ stateNumbers (view l)
 unfolding stateNumbers view
-state-numbers l n d g h j c a w en eg ed eh ec ej ea ew =
-    let m : n ≡ length (view l .log) = en ∙ sym (view-length l) in rw (m, ec, ea, ew, eh, ej, ed, eg)
+state-numbers l q n b d g h j c a w en ef eg ed eh ec ej ea ew =
+    let m : n ≡ last (view l .log) = en ∙ sym (last-is l q) in rw (m, ec, ea, ew, eh, ej, ed, eg, ef)
 
-module _ (f : ℕ) (k : Bool) (ek : k ≡ isField 17 f) where
+module _ (f : ℕ) (k : Bool) (ek : k ≡ isField 18 f) where
   pub no-state-field : (s : State) → k ≡ false → read s (ofState f) ≡ refuses 2
   unfolding read
-  no-state-field s t = let z : isField 17 f ≡ false = sym ek ∙ t in ap (λ (x : Bool). reads.unless 2 x (shows (fieldOf (stateNumbers s) f))) z
+  no-state-field s t = let z : isField 18 f ≡ false = sym ek ∙ t in ap (λ (x : Bool). reads.unless 2 x (shows (fieldOf (stateNumbers s) f))) z
 
   pub state-field-is : (l a : List ℕ) → k ≡ true → a ≡ stateNumbers (view l) → read (view l) (ofState f) ≡ shows (getD a (f - 1) 0)
   unfolding read
   state-field-is l a t e =
-      let z : isField 17 f ≡ true = sym ek ∙ t in
+      let z : isField 18 f ≡ true = sym ek ∙ t in
       ap (λ (x : Bool). reads.unless 2 x (shows (fieldOf (stateNumbers (view l)) f))) z ∙ ap (λ (x : List ℕ). shows (getD x (f - 1) 0)) (sym e)
 
 -- ---- a node's connection

@@ -1,101 +1,195 @@
 -- The live list as the code walks it: a hop goes to a lower number, so the list from v is v and the list from where its
 -- hop goes; and what a store and the rest of the walk write. Assumes nothing.
-use Prim.Native.Nat.{ℕ, zero, suc, _+_, _≤_, _<_}
-use mathlib.Core.Path.{_≡_, refl, ap, sym, _∙_}
-use mathlib.Core.Bool.{Bool, true, false}
-use mathlib.Core.List.{List, [], _∷_, _++_}
+use Prim.Native.Nat.{ℕ, zero, suc, _+_, _-_, _≤_, _<_}
+use mathlib.Core.Path.{_≡_, refl, ap, ap₂, sym, _∙_}
+use mathlib.Core.Bool.{Bool, true, false, cond}
+use mathlib.Core.List.{List, [], _∷_, _++_, append-assoc, append-nil}
 use native.Mathlib.Nat.{le-of-suc-le-suc, not-suc-le-zero, add-zero, zero-add}
 use native.Mathlib.Numerals.{add-one}
 use native.Mathlib.Omega.{arith}
-use borrow.Author.Tests.{leb-true, le-leb}
+use borrow.Author.Tests.{leb-true, leb-false, le-leb, lt-leb}
 use lib.Dec.{leb}
-use lib.ListN.{length, take, drop, set, length-set, take-append-drop}
+use lib.ListN.{length, getD, take, drop, set, length-append, length-set, take-append-drop, List·getD-append}
+use lib.Seq.{length-take-le, take-suc-set, drop-set-lt, drop-drop}
 use Rattle.kinds.specs.declared.Transaction.{Transaction}
 use Rattle.kinds.specs.declared.Head.{Head}
-use Rattle.machine.specs.State.{State, entryOf}
+use Rattle.machine.specs.State.{Log, State, entryOf, last}
 use Rattle.machine.specs.LiveList.{hops, live}
 use Rattle.machine.proofs.Kept as kept
-use Rattle.image.specs.Records.{entryAt, headAt}
+use Rattle.image.specs.Records.{entryAt, foldedOf, headAt}
 use Rattle.image.specs.View.{view}
 use Rattle.image.specs.Formed.{formed}
-use Rattle.image.proofs.Scanned.{view-length}
+use Rattle.image.proofs.Scanned.{view-folded}
 use Rattle.controller.specs.declared.walking.Listed.{Listed}
 use Rattle.controller.specs.Claims.{Entry}
-use Rattle.controller.specs.Live.{unless, listing, listingOf, Lists, ListsLive, liveFrom, Chained, Placed, Put}
-use Rattle.controller.proofs.Decided.{entry-of, formed-view}
+use Rattle.controller.specs.Live.{unless, listing, listingOf, Lists, ListsLive, liveFrom, Chained, Placed, Put, Fitting, Leading, ListedIn}
+use Rattle.controller.proofs.Decided.{entry-of, formed-view, last-is, room}
 
 -- ---- hops, in a well-formed state
 module _ (s : State) (f : kept.Formed s) where
+  -- the number that a hop from v goes to
+  abbrev to : ℕ → ℕ
+  to v = entryOf (s .log) v .index .0
+
+  falls : (v : ℕ) → s .log .folded .0 < v → v ≤ last (s .log) → to v < v
+  falls v a b = f .entries v a b .below
+
   -- with hops enough, how many does not matter
-  same : (j k v : ℕ) → v ≤ j → v ≤ k → v ≤ length (s .log) → hops j (s .log) v ≡ hops k (s .log) v
+  same : (j k v : ℕ) → v ≤ j → v ≤ k → v ≤ last (s .log) → hops j (s .log) v ≡ hops k (s .log) v
   unfolding hops
   same zero zero v a b n = refl
-  same zero (suc k) zero a b n = refl
-  same zero (suc k) (suc v) a b n = absurd (not-suc-le-zero a)
-  same (suc j) zero zero a b n = refl
-  same (suc j) zero (suc v) a b n = absurd (not-suc-le-zero b)
-  same (suc j) (suc k) zero a b n = refl
-  same (suc j) (suc k) (suc v) a b n =
-      let h : entryOf (s .log) (suc v) .index .0 < suc v = f .entries (suc v) (omega arith) n .below in
-      ap (λ (l : List ℕ). suc v ∷ l) (same j k (entryOf (s .log) (suc v) .index .0) (omega arith) (omega arith) (omega arith))
+  same zero (suc k) v a b n = let z : leb v (s .log .folded .0) ≡ true = le-leb v (s .log .folded .0) (omega arith) in rw z
+  same (suc j) zero v a b n = let z : leb v (s .log .folded .0) ≡ true = le-leb v (s .log .folded .0) (omega arith) in rw z
+  same (suc j) (suc k) v a b n = go (same j k (to v)) (leb v (s .log .folded .0)) refl
+    where
+      go : (to v ≤ j → to v ≤ k → to v ≤ last (s .log) → hops j (s .log) (to v) ≡ hops k (s .log) (to v)) → (x : Bool) → leb v (s .log .folded .0) ≡ x
+          → cond x [] (v ∷ hops j (s .log) (to v)) ≡ cond x [] (v ∷ hops k (s .log) (to v))
+      go r true e = refl
+      go r false e =
+          let h : to v < v = falls v (leb-false v (s .log .folded .0) e) n in ap (λ (l : List ℕ). v ∷ l) (r (omega arith) (omega arith) (omega arith))
 
-  more : (v : ℕ) → (v ≡ 0 → ⊥) → v ≤ length (s .log) → liveFrom s v ≡ v ∷ liveFrom s (entryOf (s .log) v .index .0)
+  more : (v : ℕ) → s .log .folded .0 < v → v ≤ last (s .log) → liveFrom s v ≡ v ∷ liveFrom s (to v)
   unfolding liveFrom hops
-  more zero n b = absurd (n refl)
+  more zero n b = absurd (omega arith)
   more (suc v) n b =
-      let h : entryOf (s .log) (suc v) .index .0 < suc v = f .entries (suc v) (omega arith) b .below in
-      ap (λ (l : List ℕ). suc v ∷ l) (same v (entryOf (s .log) (suc v) .index .0) (entryOf (s .log) (suc v) .index .0) (omega arith) (omega arith) (omega arith))
+      let z : leb (suc v) (s .log .folded .0) ≡ false = lt-leb _ _ n in
+      let h : to (suc v) < suc v = falls (suc v) n b in
+      ap (λ (x : Bool). cond x [] (suc v ∷ hops v (s .log) (to (suc v)))) z
+      ∙ ap (λ (l : List ℕ). suc v ∷ l) (same v (to (suc v)) (to (suc v)) (omega arith) (omega arith) (omega arith))
 
--- ---- from 0 there is nothing
-live-none : (s : State) (v : ℕ) → v ≡ 0 → liveFrom s v ≡ []
+  -- a list has at most as many numbers as there are from the last fold to the one that it is from
+  short : (k v : ℕ) → v ≤ last (s .log) → length (hops k (s .log) v) ≤ v - s .log .folded .0
+  unfolding hops
+  short zero v n = omega arith
+  short (suc k) v n = go (short k (to v)) (leb v (s .log .folded .0)) refl
+    where
+      go : (to v ≤ last (s .log) → length (hops k (s .log) (to v)) ≤ to v - s .log .folded .0) → (x : Bool) → leb v (s .log .folded .0) ≡ x
+          → length (cond x [] (v ∷ hops k (s .log) (to v))) ≤ v - s .log .folded .0
+      go r true e = omega arith
+      go r false e =
+          let u : s .log .folded .0 < v = leb-false v (s .log .folded .0) e in
+          let h : to v < v = falls v u n in
+          let q : length (hops k (s .log) (to v)) ≤ to v - s .log .folded .0 = r (omega arith) in
+          omega arith
+
+  -- each number of a list is kept, and at most the one that it is from
+  within : (k v j : ℕ) → v ≤ last (s .log) → j < length (hops k (s .log) v)
+      → (s .log .folded .0 < getD (hops k (s .log) v) j 0) × (getD (hops k (s .log) v) j 0 ≤ v)
+  unfolding hops
+  within zero v j n h = absurd (not-suc-le-zero h)
+  within (suc k) v j n h = go (within k (to v)) (leb v (s .log .folded .0)) refl j h
+    where
+      go : ((i : ℕ) → to v ≤ last (s .log) → i < length (hops k (s .log) (to v))
+          → (s .log .folded .0 < getD (hops k (s .log) (to v)) i 0) × (getD (hops k (s .log) (to v)) i 0 ≤ to v))
+          → (x : Bool) → leb v (s .log .folded .0) ≡ x → (i : ℕ) → i < length (cond x [] (v ∷ hops k (s .log) (to v)))
+          → (s .log .folded .0 < getD (cond x [] (v ∷ hops k (s .log) (to v))) i 0) × (getD (cond x [] (v ∷ hops k (s .log) (to v))) i 0 ≤ v)
+      go r true e i h = absurd (not-suc-le-zero h)
+      go r false e zero h = (leb-false v (s .log .folded .0) e, omega arith)
+      go r false e (suc i) h =
+          let f : to v < v = falls v (leb-false v (s .log .folded .0) e) n in
+          let q = r i (omega arith) (le-of-suc-le-suc h) in
+          let z = q .1 in
+          (q .0, omega arith)
+
+-- ---- from a folded number there is nothing
+live-none : (s : State) (v : ℕ) → v ≤ s .log .folded .0 → liveFrom s v ≡ []
 unfolding liveFrom hops
-live-none s v e = ap (liveFrom s) e
-
-pub counted-none : (s : State) (v : ℕ) → v ≡ 0 → 0 ≡ length (liveFrom s v)
-counted-none s v e = sym (ap length (live-none s v e))
+live-none s zero e = refl
+live-none s (suc v) e = let z : leb (suc v) (s .log .folded .0) ≡ true = le-leb _ _ e in rw z
 
 -- ---- a list is at most as long as the number that it is from is great
-few-hops : (k : ℕ) (l : List Transaction) (v : ℕ) → length (hops k l v) ≤ k
+few-hops : (k : ℕ) (l : Log) (v : ℕ) → length (hops k l v) ≤ k
 unfolding hops
 few-hops zero l v = omega arith
-few-hops (suc k) l zero = omega arith
-few-hops (suc k) l (suc v) = let h = few-hops k l (entryOf l (suc v) .index .0) in omega arith
+few-hops (suc k) l v = go (few-hops k l (entryOf l v .index .0)) (leb v (l .folded .0))
+  where
+    go : length (hops k l (entryOf l v .index .0)) ≤ k → (x : Bool) → length (cond x [] (v ∷ hops k l (entryOf l v .index .0))) ≤ suc k
+    go h true = omega arith
+    go h false = omega arith
 
 pub live-short : (s : State) (v : ℕ) → length (liveFrom s v) ≤ v
 unfolding liveFrom
 live-short s v = few-hops v (s .log) v
 
-pub room-enough : (s : State) (v m : ℕ) → v ≤ m → true ≡ leb (length (liveFrom s v)) m
-room-enough s v m h = let k = live-short s v in sym (le-leb (length (liveFrom s v)) m (omega arith))
-
 -- ---- an entry's hop
 pub hop-is : (l : List ℕ) (v : ℕ) → Entry l v → (t : Transaction) (i : ℕ) → t ≡ entryAt l v → i ≡ t .index .0
     → (i ≡ entryOf (view l .log) v .index .0) × (i < v)
 hop-is l v e t i p q =
-    let z : i ≡ entryOf (view l .log) v .index .0 = q ∙ ap (λ (x : Transaction). x .index .0) (p ∙ sym (entry-of l v (e .one) (e .last))) in
-    let b : entryOf (view l .log) v .index .0 < v = formed-view l (e .formed) .entries v (e .one) (let h = e .last in omega (arith, view-length l)) .below in
+    let z : i ≡ entryOf (view l .log) v .index .0 = q ∙ ap (λ (x : Transaction). x .index .0) (p ∙ sym (entry-of l v (e .kept) (e .last))) in
+    let b : entryOf (view l .log) v .index .0 < v =
+    formed-view l (e .formed) .entries v (let h = e .kept in omega (arith, view-folded l)) (let h = e .last in omega (arith, last-is l (e .formed))) .below in
     (z, omega arith)
 
-module _ (l : List ℕ) (v : ℕ) (c : Chained l v) (n : v ≡ 0 → ⊥) where
-  pub as-entry : Entry l v
-  as-entry = record { formed = c .formed; one = omega (arith, n); last = c .last }
+module _ (l : List ℕ) (b v : ℕ) (c : Chained l b v) where
+  chain-last : v ≤ last (view l .log)
+  chain-last = let k = c .last in omega (arith, last-is l (c .formed))
 
-  module _ (i : ℕ) (h : (i ≡ entryOf (view l .log) v .index .0) × (i < v)) where
-    pub lower : Chained l i
-    lower = let k = c .last in record { formed = c .formed; last = omega arith }
+  pub none-from : v ≤ b → liveFrom (view l) v ≡ []
+  none-from h = let k = c .folded in live-none (view l) v (omega (arith, view-folded l))
 
-    pub live-more : liveFrom (view l) v ≡ v ∷ liveFrom (view l) i
-    live-more =
-        more (view l) (formed-view l (c .formed)) v n (let k = c .last in omega (arith, view-length l)) ∙ ap (λ (x : ℕ). v ∷ liveFrom (view l) x) (sym (h .0))
+  pub counted-none : v ≤ b → 0 ≡ length (liveFrom (view l) v)
+  counted-none h = sym (ap length (none-from h))
 
-    pub counted : (k : ℕ) → k ≡ length (liveFrom (view l) i) → k + 1 ≡ length (liveFrom (view l) v)
-    counted k p = ap (λ (x : ℕ). x + 1) p ∙ add-one _ ∙ sym (ap length live-more)
+  pub room-none : (m : ℕ) → v ≤ b → true ≡ leb (length (liveFrom (view l) v)) m
+  room-none m h = sym (le-leb (length (liveFrom (view l) v)) m (omega (arith, counted-none h)))
 
-    pub room-here : (at m : ℕ) → at + length (liveFrom (view l) v) ≤ m → at < m
-    room-here at m r = omega (arith, ap length live-more)
+  pub room-enough : (m : ℕ) → v - b ≤ m → true ≡ leb (length (liveFrom (view l) v)) m
+  unfolding liveFrom
+  room-enough m h =
+      let k = short (view l) (formed-view l (c .formed)) v v chain-last in
+      let g = c .folded in
+      sym (le-leb (length (liveFrom (view l) v)) m (omega (arith, view-folded l)))
 
-    pub placed : (at : ℕ) (m : List ℕ) → at + length (liveFrom (view l) v) ≤ length m → Placed l i (at + 1) (length (set m at v))
-    placed at m r = record { chained = lower; room = omega (arith, ap length live-more, length-set m at v) }
+  -- at most 128
+  pub few : length (liveFrom (view l) v) ≤ 128
+  unfolding liveFrom
+  few =
+      let k = short (view l) (formed-view l (c .formed)) v v chain-last in
+      let g = c .last in
+      let r = room l (c .formed) .1 .0 in
+      omega (arith, view-folded l)
+
+  pub chain-in : (k : ℕ) → k < length (liveFrom (view l) v) → (b < getD (liveFrom (view l) v) k 0) × (getD (liveFrom (view l) v) k 0 ≤ v)
+  unfolding liveFrom
+  chain-in k h =
+      let q = within (view l) (formed-view l (c .formed)) v v k chain-last h in
+      let z = q .0 in
+      let g = c .folded in
+      (omega (arith, view-folded l), q .1)
+
+  pub fits : Fitting l b v 128
+  fits = record { chained = c; room = few }
+
+  pub listed-in : (m r : List ℕ) (n : ℕ) → (n ≡ length (liveFrom (view l) v)) × (r ≡ Leading m (liveFrom (view l) v)) → ListedIn l b v r n
+  listed-in m r n q =
+      record {
+        chained = c;
+        count = q .0;
+        same = λ k h. ap (λ (x : List ℕ). getD x k 0) (q .1) ∙ List·getD-append (liveFrom (view l) v) _ 0 k (let e = q .0 in omega arith);
+      }
+
+  module _ (n : b < v) where
+    pub as-entry : Entry l v
+    as-entry = let g = c .folded in record { formed = c .formed; kept = omega arith; last = c .last }
+
+    first-one : liveFrom (view l) v ≡ v ∷ liveFrom (view l) (entryOf (view l .log) v .index .0)
+    first-one = more (view l) (formed-view l (c .formed)) v (let g = c .folded in omega (arith, view-folded l)) chain-last
+
+    module _ (i : ℕ) (h : (i ≡ entryOf (view l .log) v .index .0) × (i < v)) where
+      pub lower : Chained l b i
+      lower = let k = c .last in record { formed = c .formed; folded = c .folded; last = omega arith }
+
+      pub live-more : liveFrom (view l) v ≡ v ∷ liveFrom (view l) i
+      live-more = first-one ∙ ap (λ (x : ℕ). v ∷ liveFrom (view l) x) (sym (h .0))
+
+      pub counted : (k : ℕ) → k ≡ length (liveFrom (view l) i) → k + 1 ≡ length (liveFrom (view l) v)
+      counted k p = ap (λ (x : ℕ). x + 1) p ∙ add-one _ ∙ sym (ap length live-more)
+
+      pub room-here : (at m : ℕ) → at + length (liveFrom (view l) v) ≤ m → at < m
+      room-here at m r = omega (arith, ap length live-more)
+
+      pub placed : (at : ℕ) (m : List ℕ) → at + length (liveFrom (view l) v) ≤ length m → Placed l b i (at + 1) (length (set m at v))
+      placed at m r = record { chained = lower; room = omega (arith, ap length live-more, length-set m at v) }
 
 -- ---- what is written
 -- a store at f, then l from f + 1 on, is v ∷ l from f on; past it the room is as it was
@@ -120,39 +214,85 @@ put-more xs f v l h =
     from-suc : (a b : ℕ) → suc (a + b) ≡ a + suc b
     from-suc a b = omega arith
 
-pub walked-none : (s : State) (v : ℕ) (m : List ℕ) (at : ℕ) → v ≡ 0 → m ≡ Put m at (liveFrom s v)
-walked-none s v m at e =
-    sym (ap (Put m at) (live-none s v e) ∙ ap (λ (k : ℕ). take at m ++ drop k m) (add-zero at) ∙ take-append-drop at m)
+pub walked-none : (l : List ℕ) (b v : ℕ) → Chained l b v → (m : List ℕ) (at : ℕ) → v ≤ b → m ≡ Put m at (liveFrom (view l) v)
+walked-none l b v c m at e =
+    sym (ap (Put m at) (none-from l b v c e) ∙ ap (λ (k : ℕ). take at m ++ drop k m) (add-zero at) ∙ take-append-drop at m)
 
-pub walked-more : (l : List ℕ) (v : ℕ) (c : Chained l v) (n : v ≡ 0 → ⊥) (i : ℕ) (h : (i ≡ entryOf (view l .log) v .index .0) × (i < v))
+pub walked-more : (l : List ℕ) (b v : ℕ) (c : Chained l b v) (n : b < v) (i : ℕ) (h : (i ≡ entryOf (view l .log) v .index .0) × (i < v))
     (m m′ : List ℕ) (at : ℕ) → at + length (liveFrom (view l) v) ≤ length m
     → m′ ≡ Put (set m at v) (at + 1) (liveFrom (view l) i) → m′ ≡ Put m at (liveFrom (view l) v)
-walked-more l v c n i h m m′ at r q =
-    q ∙ put-more m at v (liveFrom (view l) i) (room-here l v c n i h at (length m) r) ∙ ap (Put m at) (sym (live-more l v c n i h))
+walked-more l b v c n i h m m′ at r q =
+    q ∙ put-more m at v (liveFrom (view l) i) (room-here l b v c n i h at (length m) r) ∙ ap (Put m at) (sym (live-more l b v c n i h))
+
+-- ---- fold's list: the first n of the room r are written, m is the room as it was, and the list from i is still to come
+pub record Going (l : List ℕ) (b v : ℕ) (m r : List ℕ) (i n : ℕ) : Type 0 where
+  pub chained : Chained l b i
+  pub parts : liveFrom (view l) v ≡ take n r ++ liveFrom (view l) i
+  pub rest : drop n r ≡ drop n m
+  pub size : length r ≡ length m
+  pub here : n ≤ length r
+
+pub going-none : (l : List ℕ) (b v : ℕ) (m : List ℕ) → Chained l b v → Going l b v m m v 0
+going-none l b v m c = record { chained = c; parts = refl; rest = refl; size = refl; here = omega arith }
+
+module _ (l : List ℕ) (b v : ℕ) (m r : List ℕ) (i n : ℕ) (g : Going l b v m r i n) where
+  written-length : length (take n r) ≡ n
+  written-length = length-take-le n r (g .here)
+
+  -- the room has one place more for each number that is still to come
+  module _ (p : Fitting l b v (length m)) (h : b < i) where
+    pub going-room : n < length r
+    going-room =
+        let e : length (liveFrom (view l) v) ≡ length (take n r) + length (liveFrom (view l) i) = ap length (g .parts) ∙ length-append (take n r) (liveFrom (view l) i) in
+        let f = ap length (first-one l b i (g .chained) h) in
+        let z = p .room in
+        let y = g .size in
+        omega (arith, written-length)
+
+    pub going-more : (j : ℕ) → (j ≡ entryOf (view l .log) i .index .0) × (j < i) → Going l b v m (set r n i) j (n + 1)
+    going-more j q =
+        record {
+          chained = lower l b i (g .chained) h j q;
+          parts =
+              g .parts ∙ ap (λ (x : List ℕ). take n r ++ x) (live-more l b i (g .chained) h j q)
+              ∙ sym (append-assoc (take n r) (i ∷ []) (liveFrom (view l) j))
+              ∙ ap (λ (x : List ℕ). x ++ liveFrom (view l) j) (sym (ap (λ (k : ℕ). take k (set r n i)) (add-one n) ∙ take-suc-set r n i going-room));
+          rest =
+              drop-set-lt (n + 1) r n i (omega arith) ∙ sym (drop-drop 1 n r) ∙ ap (λ (x : List ℕ). drop 1 x) (g .rest) ∙ drop-drop 1 n m;
+          size = length-set r n i ∙ g .size;
+          here = omega (arith, going-room, length-set r n i);
+        }
+
+  pub going-done : i ≤ b → (n ≡ length (liveFrom (view l) v)) × (r ≡ Leading m (liveFrom (view l) v))
+  going-done h =
+      let e : liveFrom (view l) v ≡ take n r =
+      g .parts ∙ ap (λ (x : List ℕ). take n r ++ x) (none-from l b i (g .chained) h) ∙ append-nil (take n r) in
+      let k : n ≡ length (liveFrom (view l) v) = sym (ap length e ∙ written-length) in
+      (k, sym (take-append-drop n r) ∙ ap₂ _++_ (sym e) (g .rest ∙ ap (λ (x : ℕ). drop x m) k))
 
 -- ---- the list in the room
-module _ (l : List ℕ) (w : formed l ≡ true) (d : Head) (v : ℕ) (ed : d ≡ headAt l 4612) (ev : v ≡ d .revision .0) where
+module _ (l : List ℕ) (w : formed l ≡ true) (d : Head) (v b : ℕ) (ed : d ≡ headAt l 4612) (ev : v ≡ d .revision .0) (ef : b ≡ foldedOf l) where
   from-revision : v ≡ view l .committed .head .revision .0
   unfolding view
   from-revision = ev ∙ ap (λ (x : Head). x .revision .0) ed
 
-  pub revision-chained : Chained l v
+  pub revision-chained : Chained l b v
   revision-chained =
-      let h : view l .committed .head .revision .0 ≤ length (view l .log) = formed-view l w .committed .revision in
-      record { formed = w; last = omega (arith, view-length l, from-revision) }
+      let h : view l .committed .head .revision .0 ≤ last (view l .log) = formed-view l w .committed .revision in
+      record { formed = w; folded = ef; last = omega (arith, last-is l w, from-revision) }
 
-  live-is : liveFrom (view l) v ≡ live (view l)
+  pub live-is : liveFrom (view l) v ≡ live (view l)
   unfolding liveFrom
   live-is = ap (λ (x : ℕ). hops x (view l .log) x) from-revision
 
-  module _ (m : List ℕ) (b : Bool) (eb : b ≡ leb (length (liveFrom (view l) v)) (length m)) where
-    pub starts : b ≡ true → Placed l v 0 (length m)
-    starts h = let k = leb-true (length (liveFrom (view l) v)) (length m) (sym eb ∙ h) in record { chained = revision-chained; room = omega arith }
+  module _ (m : List ℕ) (y : Bool) (ey : y ≡ leb (length (liveFrom (view l) v)) (length m)) where
+    pub starts : y ≡ true → Placed l b v 0 (length m)
+    starts h = let k = leb-true (length (liveFrom (view l) v)) (length m) (sym ey ∙ h) in record { chained = revision-chained; room = omega arith }
 
-    room-is : leb (length (live (view l))) (length m) ≡ b
-    room-is = ap (λ (x : List ℕ). leb (length x) (length m)) (sym live-is) ∙ sym eb
+    room-is : leb (length (live (view l))) (length m) ≡ y
+    room-is = ap (λ (x : List ℕ). leb (length x) (length m)) (sym live-is) ∙ sym ey
 
-    pub listed : (n : ℕ) (r : Listed) (m′ : List ℕ) → b ≡ true → (n ≡ length (liveFrom (view l) v)) × (m′ ≡ Put m 0 (liveFrom (view l) v))
+    pub listed : (n : ℕ) (r : Listed) (m′ : List ℕ) → y ≡ true → (n ≡ length (liveFrom (view l) v)) × (m′ ≡ Put m 0 (liveFrom (view l) v))
         → r ≡ record { answer = 0; length = n } → ListsLive l m r m′
     listed n r m′ h q p = (
       p ∙ ap (λ (x : ℕ). record { answer = 0; length = x }) (q .0 ∙ ap length live-is)
@@ -161,7 +301,7 @@ module _ (l : List ℕ) (w : formed l ≡ true) (d : Head) (v : ℕ) (ed : d ≡
           ∙ ap (λ (x : Bool). unless 14 m x (listing (live (view l)) m) .room) (sym (room-is ∙ h)),
     )
 
-    pub not-listed : (r : Listed) → b ≡ false → r ≡ record { answer = 14; length = 0 } → ListsLive l m r m
+    pub not-listed : (r : Listed) → y ≡ false → r ≡ record { answer = 14; length = 0 } → ListsLive l m r m
     not-listed r h p = (
       p ∙ ap (λ (x : Bool). unless 14 m x (listing (live (view l)) m) .listed) (sym (room-is ∙ h)),
       ap (λ (x : Bool). unless 14 m x (listing (live (view l)) m) .room) (sym (room-is ∙ h)),

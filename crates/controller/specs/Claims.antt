@@ -1,5 +1,5 @@
 -- What a public call claims of its reply and of the image that it leaves: one contract for all of them. Assumes nothing.
-use Prim.Native.Nat.{ℕ, _+_, _≤_}
+use Prim.Native.Nat.{ℕ, _+_, _≤_, _<_}
 use mathlib.Core.Path.{_≡_}
 use mathlib.Core.Bool.{Bool, true, not, _&&_, _||_}
 use mathlib.Core.List.{List}
@@ -9,10 +9,11 @@ use Rattle.kinds.specs.declared.Status.{Status}
 use Rattle.kinds.specs.declared.Status.the-variants.{None, Pending, InProgress, Complete, Aborted, Canceled, Failed}
 use Rattle.machine.specs.State.{State}
 use Rattle.machine.specs.Settled.{settled}
+use Rattle.machine.specs.Folding.{finished, entryWaits}
 use Rattle.machine.specs.Calls.{Outcome, Call, unless, decide}
 use Rattle.fields.specs.Field.{field}
 use Rattle.image.specs.Layout.{placeOf}
-use Rattle.image.specs.Records.{logLength}
+use Rattle.image.specs.Records.{entryAt, lastOf, foldedOf}
 use Rattle.image.specs.View.{view, written}
 use Rattle.image.specs.Formed.{formed}
 
@@ -28,11 +29,17 @@ Claims l c r m = (r ≡ outcomeOf l c .reply) × (m ≡ written l (outcomeOf l c
 abbrev pub Does : List ℕ → Call → Reply → List ℕ → Type 0
 Does l c r m = (r ≡ decide (view l) c .reply) × (m ≡ written l (decide (view l) c .stores))
 
--- a well-formed image, and the number of an entry of its log
+-- a well-formed image, and the number of an entry that it keeps
 pub record Entry (l : List ℕ) (i : ℕ) : Type 0 where
   pub formed : formed l ≡ true
-  pub one : 1 ≤ i
-  pub last : i ≤ logLength l
+  pub kept : foldedOf l < i
+  pub last : i ≤ lastOf l
+
+-- a well-formed image, its last fold and the highest number given
+pub record Ring (l : List ℕ) (b n : ℕ) : Type 0 where
+  pub formed : formed l ≡ true
+  pub folded : b ≡ foldedOf l
+  pub last : n ≡ lastOf l
 
 -- ---- settled, as the code reads it
 -- a side whose apply code is at a place, and its ordinal at another: it does not carry o, or is Done (3 to 6)
@@ -51,3 +58,10 @@ settledFor Complete s = true
 settledFor Aborted s = true
 settledFor Canceled s = true
 settledFor Failed s = true
+
+-- ---- what a fold asks of an entry, as the code reads it
+unfoldable pub waitsAt : List ℕ → ℕ → ℕ → ℕ → Bool
+waitsAt l a g k = entryWaits a g k (entryAt l k)
+
+unfoldable pub finishedAt : List ℕ → ℕ → Bool
+finishedAt l k = finished (entryAt l k)

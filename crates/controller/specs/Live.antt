@@ -1,13 +1,14 @@
 -- What `live` claims of its answer and of the room that it is lent (paper: The live list). Assumes nothing.
-use Prim.Native.Nat.{ℕ, _+_, _≤_}
+use Prim.Native.Nat.{ℕ, _+_, _≤_, _<_}
 use mathlib.Core.Path.{_≡_}
 use mathlib.Core.Bool.{Bool, true, false}
 use mathlib.Core.List.{List, _++_}
 use lib.Dec.{leb}
-use lib.ListN.{length, take, drop}
+use lib.ListN.{length, getD, take, drop}
 use Rattle.machine.specs.State.{State}
 use Rattle.machine.specs.LiveList.{hops, live}
-use Rattle.image.specs.Records.{logLength}
+use Rattle.machine.specs.Folding.{baseRow}
+use Rattle.image.specs.Records.{lastOf, foldedOf}
 use Rattle.image.specs.View.{view}
 use Rattle.image.specs.Formed.{formed}
 use Rattle.controller.specs.declared.walking.Listed.{Listed}
@@ -48,16 +49,39 @@ ListsLive l m r m′ = (r ≡ listingIn (live (view l)) m .listed) × (m′ ≡ 
 unfoldable pub liveFrom : State → ℕ → List ℕ
 liveFrom s v = hops v (s .log) v
 
--- a well-formed image, and a number that is 0 or an entry's
-pub record Chained (l : List ℕ) (v : ℕ) : Type 0 where
+-- a well-formed image, its last fold, and a number that is folded or an entry's
+pub record Chained (l : List ℕ) (b v : ℕ) : Type 0 where
   pub formed : formed l ≡ true
-  pub last : v ≤ logLength l
+  pub folded : b ≡ foldedOf l
+  pub last : v ≤ lastOf l
+
+-- a number from which the live ones lay what those from v lay up to one, itself at most that one (order 10)
+pub record Reaches (l : List ℕ) (b to v r : ℕ) : Type 0 where
+  pub chained : Chained l b r
+  pub low : r ≤ to
+  pub same : baseRow (view l .log) to (liveFrom (view l) r) ≡ baseRow (view l .log) to (liveFrom (view l) v)
 
 -- a place in the room from which the list has room
-pub record Placed (l : List ℕ) (v at n : ℕ) : Type 0 where
-  pub chained : Chained l v
+pub record Placed (l : List ℕ) (b v at n : ℕ) : Type 0 where
+  pub chained : Chained l b v
   pub room : at + length (liveFrom (view l) v) ≤ n
 
 -- the room with a list at a place
 abbrev pub Put : List ℕ → ℕ → List ℕ → List ℕ
 Put m at v = take at m ++ (v ++ drop (at + length v) m)
+
+-- ---- the list as fold makes it for itself (order 10)
+-- a number from which the list has room
+pub record Fitting (l : List ℕ) (b v n : ℕ) : Type 0 where
+  pub chained : Chained l b v
+  pub room : length (liveFrom (view l) v) ≤ n
+
+-- the room with a list at its start
+abbrev pub Leading : List ℕ → List ℕ → List ℕ
+Leading m v = v ++ drop (length v) m
+
+-- the first n of m are the list from v
+pub record ListedIn (l : List ℕ) (b v : ℕ) (m : List ℕ) (n : ℕ) : Type 0 where
+  pub chained : Chained l b v
+  pub count : n ≡ length (liveFrom (view l) v)
+  pub same : (k : ℕ) → k < n → getD m k 0 ≡ getD (liveFrom (view l) v) k 0

@@ -8,7 +8,7 @@ use Rattle.kinds.specs.declared.Head.{Head}
 use Rattle.kinds.specs.Statuses.{codeOf, progressCode}
 use Rattle.machine.specs.State.{Net, State, freshPart}
 use Rattle.machine.specs.Reads.{Query, Answer, refuses, flag, read}
-use Rattle.machine.specs.Stores.{ofCommitted, ofApplied, ofTarget}
+use Rattle.machine.specs.Stores.{ofCommitted, ofApplied, ofTarget, ofBase}
 use Rattle.image.specs.Layout.{valuesAt}
 use Rattle.image.specs.View.{view}
 use Rattle.image.specs.Formed.{formed}
@@ -56,4 +56,4 @@ netNumbers w =
 
 -- where a table lies
 unfoldable pub tablePlace : ℕ → ℕ
-tablePlace b = cond (eqb b 1) (valuesAt ofCommitted) (cond (eqb b 2) (valuesAt ofApplied) (valuesAt ofTarget))
+tablePlace b = cond (eqb b 1) (valuesAt ofCommitted) (cond (eqb b 2) (valuesAt ofApplied) (cond (eqb b 3) (valuesAt ofTarget) (valuesAt ofBase)))

@@ -18,13 +18,14 @@ use connections::stop_of;
 use image::clear_target;
 use image::copy_target;
 use image::grow;
+use image::last_fold;
+use image::last_number;
 use image::load_configuration;
 use image::load_connection;
 use image::load_connections;
 use image::load_entry;
 use image::load_mastership;
 use image::load_target;
-use image::log_length;
 use image::store_configuration;
 use image::store_connections;
 use image::store_entry;
@@ -57,17 +58,21 @@ pub fn append(s: &mut [u8], pairs: &[u8]) -> Reply
     ensures { λ r. ⌜ Does (now (s .entry)) (appendOf (now (pairs .entry))) r (now (s .exit)) ⌝ }
 {
     if valid(pairs) {
-        let n = log_length(s);
-        if n < 128 {
-            let t = entered(pairs);
-            grow(s, n, t);
-            let event = Event {
-                phase: 0,
-                stage: 0,
-                number: Number::of(n + 1),
-                status: Status::None,
-            };
-            return Reply { answer: 0, event };
+        let n = last_number(s);
+        let b = last_fold(s);
+        if n - b < 128 {
+            if n < 65535 {
+                let t = entered(pairs);
+                grow(s, n, t);
+                let event = Event {
+                    phase: 0,
+                    stage: 0,
+                    number: Number::of(n + 1),
+                    status: Status::None,
+                };
+                return Reply { answer: 0, event };
+            }
+            return Reply::of(9);
         }
         return Reply::of(4);
     }
@@ -78,14 +83,18 @@ pub fn rollback(s: &mut [u8], number: u16) -> Reply
     requires { ⌜ formed (now s) ≡ true ⌝ }
     ensures { λ r. ⌜ Does (now (s .entry)) (rollback number) r (now (s .exit)) ⌝ }
 {
-    let n = log_length(s);
+    let n = last_number(s);
     if in_log(number, n) {
-        let t = load_entry(s, number);
-        if may_roll_back(t) {
-            store_entry(s, number, rolled_back(t));
-            return Reply::of(0);
+        let b = last_fold(s);
+        if b < number {
+            let t = load_entry(s, number);
+            if may_roll_back(t) {
+                store_entry(s, number, rolled_back(t));
+                return Reply::of(0);
+            }
+            return Reply::of(6);
         }
-        return Reply::of(6);
+        return Reply::of(18);
     }
     Reply::of(5)
 }
@@ -215,20 +224,24 @@ pub fn work(s: &mut [u8], node: u16, job: u16, number: u16, outcome: u16, cut: u
     ensures { λ r. ⌜ Does (now (s .entry)) (work node job number outcome cut) r (now (s .exit)) ⌝ }
 {
     if args_ok(node, job, outcome, cut) {
-        let n = log_length(s);
+        let n = last_number(s);
         if in_log(number, n) {
-            let m = load_mastership(s);
-            let at = node as u8;
-            if m.master == at {
-                let p = plan_of(s, at, job, number, outcome == 0);
-                perform(s, of_commit(job), number, p, cut == 1);
-                let event = p.event;
-                return Reply {
-                    answer: p.answer,
-                    event,
-                };
+            let b = last_fold(s);
+            if b < number {
+                let m = load_mastership(s);
+                let at = node as u8;
+                if m.master == at {
+                    let p = plan_of(s, at, job, number, outcome == 0);
+                    perform(s, of_commit(job), number, p, cut == 1);
+                    let event = p.event;
+                    return Reply {
+                        answer: p.answer,
+                        event,
+                    };
+                }
+                return Reply::of(10);
             }
-            return Reply::of(10);
+            return Reply::of(18);
         }
         return Reply::of(5);
     }

@@ -21,7 +21,7 @@ fn clear(s: &mut [u8])
 pub fn fresh(s: &mut [u8]) -> Reply
     ensures { λ r. ⌜ Freshens (now (s .entry)) r (now (s .exit)) ⌝ }
 {
-    if s.len() == 4883 {
+    if s.len() == 4949 {
         clear(s);
         put1(s, 4824, 1);
         return Reply::of(0);

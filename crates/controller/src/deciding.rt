@@ -6,15 +6,18 @@ ghost use lib.Dec.{eqb, leb};
 ghost use lib.ListN.{length};
 ghost use Rattle.machine.specs.State.{lineOpenFor};
 ghost use Rattle.machine.specs.Settled.{settled};
-ghost use Rattle.machine.specs.Calls.{restOf, presentOne, present, job1, job2, job3, job4, planOf};
+ghost use Rattle.machine.specs.Rest.{restOf};
+ghost use Rattle.machine.specs.Calls.{presentOne, present, job1, job2, job3, job4, planOf};
 ghost use Rattle.image.specs.Layout.{tableWidths, placeOf};
-ghost use Rattle.image.specs.Records.{entryAt, logLength};
+ghost use Rattle.image.specs.Records.{entryAt, lastOf};
 ghost use Rattle.image.specs.View.{view};
-ghost use Rattle.image.specs.Formed.{formed, allUpTo};
+ghost use Rattle.image.specs.Formed.{formed, allKept};
 ghost use Rattle.fields.specs.Field.{fieldsAt};
 ghost use Rattle.controller.specs.Claims.{Entry, sideSettledAt, entrySettledAt, settledFor};
 use fields::get1;
 use fields::get4;
+use image::last_fold;
+use image::last_number;
 use image::load_change;
 use image::load_configuration;
 use image::load_connection;
@@ -23,7 +26,6 @@ use image::load_head;
 use image::load_mastership;
 use image::load_target;
 use image::load_value;
-use image::log_length;
 use kinds::Number;
 use kinds::Status;
 use kinds::Transaction;
@@ -35,15 +37,16 @@ use rules::commit_change;
 use rules::commit_rollback;
 use rules::line_open;
 
-// Whether the commit side is at rest.
-fn rest(s: &[u8]) -> bool
+// Whether the commit side is at rest. A folded mark counts as Done.
+pub fn rest(s: &[u8]) -> bool
     requires { ⌜ formed (now s) ≡ true ⌝ }
     ensures { λ r. ⌜ r ≡ restOf (view (now (s .entry))) ⌝ }
 {
     let h = load_head(s, 4612);
     let i = h.index.get();
-    if i == 0 {
-        return h.target.get() == 0;
+    let b = last_fold(s);
+    if i <= b {
+        return at_rest(h, Status::Complete, Status::Complete);
     }
     let t = load_entry(s, i);
     let x = t.change;
@@ -55,7 +58,7 @@ fn rest(s: &[u8]) -> bool
 
 // The committed value of a pair's path, where the pair is used.
 fn present_one(s: &[u8], used: bool, p: u8) -> u16
-    requires { ⌜ 4883 ≤ length (now s) ⌝ }
+    requires { ⌜ 4949 ≤ length (now s) ⌝ }
     ensures { λ r. ⌜ r ≡ presentOne used (fieldsAt (now (s .entry)) 4622 tableWidths) p ⌝ }
 {
     if used {
@@ -66,7 +69,7 @@ fn present_one(s: &[u8], used: bool, p: u8) -> u16
 
 // The committed values of a change's paths.
 fn present(s: &[u8], t: Transaction) -> [u16; 4]
-    requires { ⌜ 4883 ≤ length (now s) ⌝ }
+    requires { ⌜ 4949 ≤ length (now s) ⌝ }
     ensures { λ r. ⌜ r ≡ present (fieldsAt (now (s .entry)) 4622 tableWidths) t ⌝ }
 {
     let n = t.count;
@@ -90,22 +93,22 @@ fn side_settled(s: &[u8], o: u32, apply: usize, at: usize) -> bool
 }
 
 fn entry_settled(s: &[u8], o: u32, n: usize) -> bool
-    requires { ⌜ (1 ≤ n) × ((n ≤ 128) × (4883 ≤ length (now s))) ⌝ }
+    requires { ⌜ (1 ≤ n) × (4949 ≤ length (now s)) ⌝ }
     ensures { λ r. ⌜ r ≡ entrySettledAt (now (s .entry)) o n ⌝ }
 {
-    let at = 36 * (n - 1);
+    let at = 36 * ((n - 1) % 128);
     if side_settled(s, o, at + 1, at + 8) {
         return side_settled(s, o, at + 3, at + 12);
     }
     false
 }
 
-// Entries 1 to n.
-fn entries_settled(s: &[u8], o: u32, n: usize) -> bool
-    requires { ⌜ (n ≤ 128) × (4883 ≤ length (now s)) ⌝ }
-    ensures { λ r. ⌜ r ≡ allUpTo (entrySettledAt (now (s .entry)) o) n ⌝ }
+// Entries b + 1 to n.
+fn entries_settled(s: &[u8], o: u32, b: usize, n: usize) -> bool
+    requires { ⌜ (b ≤ n) × (4949 ≤ length (now s)) ⌝ }
+    ensures { λ r. ⌜ r ≡ allKept (entrySettledAt (now (s .entry)) o) b n ⌝ }
 {
-    let mut i = 0;
+    let mut i = b;
     while i < n {
         if !entry_settled(s, o, i + 1) {
             return false;
@@ -116,7 +119,7 @@ fn entries_settled(s: &[u8], o: u32, n: usize) -> bool
 }
 
 // Whether the applied side is settled.
-fn settled(s: &[u8]) -> bool
+pub fn settled(s: &[u8]) -> bool
     requires { ⌜ formed (now s) ≡ true ⌝ }
     ensures { λ r. ⌜ r ≡ settled (view (now (s .entry))) ⌝ }
 {
@@ -124,8 +127,9 @@ fn settled(s: &[u8]) -> bool
     if o == 0 {
         return true;
     }
-    let n = log_length(s);
-    entries_settled(s, o, n as usize)
+    let n = last_number(s);
+    let b = last_fold(s);
+    entries_settled(s, o, b as usize, n as usize)
 }
 
 // The same where a side's apply is Pending: the rules ask it at no other status, and then no entry is looked at.

@@ -2,7 +2,7 @@
 // then every byte is what it had been.
 ghost use mathlib.Core.Path.{_≡_};
 ghost use mathlib.Core.Bool.{true};
-ghost use Rattle.machine.specs.Calls.{rollback, start, stop, connect, disconnect, master, sync, work};
+ghost use Rattle.machine.specs.Calls.{rollback, start, stop, connect, disconnect, master, sync, work, foldTo};
 ghost use Rattle.image.specs.Formed.{formed};
 ghost use Rattle.controller.specs.Claims.{Claims, Does};
 ghost use Rattle.controller.specs.Bytes.{appendOf};
@@ -13,6 +13,7 @@ mod pairs; // pairs.rt: the lent pairs of an append
 mod perform; // perform.rt: a plan's stores, carried out
 mod deciding; // deciding.rt: what a job plans, from the records that it loads
 mod calls; // calls.rt: each call on a well-formed image
+mod folding; // folding.rt: the front of the log folded away
 mod clearing; // clearing.rt: a fresh image
 mod walking; // walking.rt: the live list
 mod reads; // reads.rt: one number of the state at a time
@@ -110,6 +111,16 @@ pub fn work(s: &mut [u8], node: u16, job: u16, number: u16, outcome: u16, cut: u
 {
     if well_formed(s) {
         return calls::work(s, node, job, number, outcome, cut);
+    }
+    Reply::of(1)
+}
+
+// Folds all up to a number away, where nothing is left to do of them.
+pub fn fold(s: &mut [u8], number: u16) -> Reply
+    ensures { λ r. ⌜ Claims (now (s .entry)) (foldTo number) r (now (s .exit)) ⌝ }
+{
+    if well_formed(s) {
+        return folding::fold(s, number);
     }
     Reply::of(1)
 }

@@ -4,7 +4,7 @@ ghost use mathlib.Core.Bool.{true, false};
 ghost use Prim.Native.Nat.{_+_, _≤_};
 ghost use lib.ListN.{length};
 ghost use Rattle.machine.specs.Stores.{Table, ofCommitted, ofApplied, ofTarget};
-ghost use Rattle.machine.specs.Rows.{layOne, overlay, laid, entryRow, changeRow, headRow, rowsOf};
+ghost use Rattle.machine.specs.Rows.{overlay, laid, entryRow, changeRow, headRow, rowsOf};
 ghost use Rattle.image.specs.Layout.{valuesAt};
 ghost use Rattle.image.specs.View.{written};
 use image::store_change;
@@ -17,26 +17,27 @@ use rules::Lay;
 use rules::Order;
 use rules::Plan;
 
-// One pair over the table at a place, where it is used.
-fn lay_one(s: &mut [u8], at: usize, used: bool, p: u8, v: u16)
-    requires { ⌜ at + 64 ≤ length (now s) ⌝ }
-    ensures { λ _. ⌜ ((b : Table) → valuesAt b ≡ at → now (s .exit) ≡ written (now (s .entry)) (layOne used b p v)) ⌝ }
-{
-    if used {
-        store_value(s, at, p, v);
-        return;
-    }
-}
-
 // The first n pairs over the table at a place.
-fn lay(s: &mut [u8], at: usize, p: [u8; 4], v: [u16; 4], n: u8)
+pub fn lay(s: &mut [u8], at: usize, p: [u8; 4], v: [u16; 4], n: u8)
     requires { ⌜ at + 64 ≤ length (now s) ⌝ }
     ensures { λ _. ⌜ ((b : Table) → valuesAt b ≡ at → now (s .exit) ≡ written (now (s .entry)) (overlay b p v n)) ⌝ }
 {
-    lay_one(s, at, 0 < n, p[0], v[0]);
-    lay_one(s, at, 1 < n, p[1], v[1]);
-    lay_one(s, at, 2 < n, p[2], v[2]);
-    lay_one(s, at, 3 < n, p[3], v[3]);
+    if n < 1 {
+        return;
+    }
+    store_value(s, at, p[0], v[0]);
+    if n < 2 {
+        return;
+    }
+    store_value(s, at, p[1], v[1]);
+    if n < 3 {
+        return;
+    }
+    store_value(s, at, p[2], v[2]);
+    if n < 4 {
+        return;
+    }
+    store_value(s, at, p[3], v[3]);
 }
 
 fn lay_by(s: &mut [u8], at: usize, l: Lay, t: Transaction)
@@ -62,7 +63,7 @@ fn lay_by(s: &mut [u8], at: usize, l: Lay, t: Transaction)
 }
 
 fn store_change_if(s: &mut [u8], moves: bool, i: u16)
-    requires { ⌜ 4883 ≤ length (now s) ⌝ }
+    requires { ⌜ 4949 ≤ length (now s) ⌝ }
     ensures { λ _. ⌜ now (s .exit) ≡ written (now (s .entry)) (changeRow moves i) ⌝ }
 {
     if moves {
@@ -73,7 +74,7 @@ fn store_change_if(s: &mut [u8], moves: bool, i: u16)
 
 // The head's store of jobs 1 and 3: Committed.
 fn commit_row(s: &mut [u8], i: u16, p: Plan)
-    requires { ⌜ 4883 ≤ length (now s) ⌝ }
+    requires { ⌜ 4949 ≤ length (now s) ⌝ }
     ensures { λ _. ⌜ now (s .exit) ≡ written (now (s .entry)) (headRow true p i) ⌝ }
 {
     let h = p.head;
@@ -86,7 +87,7 @@ fn commit_row(s: &mut [u8], i: u16, p: Plan)
 
 // The head's store of jobs 2 and 4: the target's values, and Applied.
 fn apply_row(s: &mut [u8], i: u16, p: Plan)
-    requires { ⌜ 4883 ≤ length (now s) ⌝ }
+    requires { ⌜ 4949 ≤ length (now s) ⌝ }
     ensures { λ _. ⌜ now (s .exit) ≡ written (now (s .entry)) (headRow false p i) ⌝ }
 {
     let h = p.head;
@@ -98,7 +99,7 @@ fn apply_row(s: &mut [u8], i: u16, p: Plan)
 }
 
 fn head_row(s: &mut [u8], commits: bool, i: u16, p: Plan)
-    requires { ⌜ 4883 ≤ length (now s) ⌝ }
+    requires { ⌜ 4949 ≤ length (now s) ⌝ }
     ensures { λ _. ⌜ now (s .exit) ≡ written (now (s .entry)) (headRow commits p i) ⌝ }
 {
     if commits {
@@ -109,7 +110,7 @@ fn head_row(s: &mut [u8], commits: bool, i: u16, p: Plan)
 }
 
 fn entry_row(s: &mut [u8], i: u16, p: Plan)
-    requires { ⌜ (1 ≤ i) × ((i ≤ 128) × (4883 ≤ length (now s))) ⌝ }
+    requires { ⌜ (1 ≤ i) × (4949 ≤ length (now s)) ⌝ }
     ensures { λ _. ⌜ now (s .exit) ≡ written (now (s .entry)) (entryRow p i) ⌝ }
 {
     let t = p.entry;
@@ -117,7 +118,7 @@ fn entry_row(s: &mut [u8], i: u16, p: Plan)
 }
 
 pub fn perform(s: &mut [u8], commits: bool, i: u16, p: Plan, cut: bool)
-    requires { ⌜ (1 ≤ i) × ((i ≤ 128) × (4883 ≤ length (now s))) ⌝ }
+    requires { ⌜ (1 ≤ i) × (4949 ≤ length (now s)) ⌝ }
     ensures { λ _. ⌜ now (s .exit) ≡ written (now (s .entry)) (rowsOf commits p i cut) ⌝ }
 {
     let order = p.order;

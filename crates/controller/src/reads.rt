@@ -14,6 +14,8 @@ ghost use Rattle.controller.specs.Reads.{given, noHead, marks, netNumber
 ghost use Rattle.controller.specs.Promises.{Shows, ShowsHeads};
 use crate::calls::in_log;
 use crate::calls::is_node;
+use image::last_fold;
+use image::last_number;
 use image::load_change;
 use image::load_configuration;
 use image::load_connection;
@@ -22,7 +24,6 @@ use image::load_head;
 use image::load_mastership;
 use image::load_target;
 use image::load_value;
-use image::log_length;
 use image::well_formed;
 use kinds::Connection;
 use kinds::Head;
@@ -86,9 +87,9 @@ fn is_field(f: u16, n: u16) -> bool
 // ---- values
 
 fn is_value(table: u16, path: u16) -> bool
-    ensures { λ r. ⌜ r ≡ (isField 3 table && ltb path 32) ⌝ }
+    ensures { λ r. ⌜ r ≡ (isField 4 table && ltb path 32) ⌝ }
 {
-    let ok = is_field(table, 3);
+    let ok = is_field(table, 4);
     ok & (path < 32)
 }
 
@@ -101,10 +102,13 @@ fn table_place(table: u16) -> usize
     if table == 2 {
         return 4696;
     }
-    4760
+    if table == 3 {
+        return 4760;
+    }
+    4885
 }
 
-// The value of a path: table 1 Committed, 2 Applied, 3 the target. Refuses 1, 2.
+// The value of a path: table 1 Committed, 2 Applied, 3 the target, 4 the base. Refuses 1, 2.
 pub fn value(s: &[u8], table: u16, path: u16) -> Read
     ensures { λ r. ⌜ Shows (now (s .entry)) (ofTable table path) r ⌝ }
 {
@@ -201,17 +205,21 @@ fn entry_numbers(t: Transaction) -> [u32; 21]
     ]
 }
 
-// A field of a transaction. Refuses 1, 2 for the field, 5 for the number.
+// A field of a transaction. Refuses 1, 2 for the field, 5 for the number, 18 for a folded one.
 pub fn transaction(s: &[u8], number: u16, field: u16) -> Read
     ensures { λ r. ⌜ Shows (now (s .entry)) (ofEntry number field) r ⌝ }
 {
     if well_formed(s) {
         if is_field(field, 21) {
-            let n = log_length(s);
+            let n = last_number(s);
             if in_log(number, n) {
-                let a = entry_numbers(load_entry(s, number));
-                let k = (field - 1) as usize;
-                return Read::shows(a[k]);
+                let b = last_fold(s);
+                if b < number {
+                    let a = entry_numbers(load_entry(s, number));
+                    let k = (field - 1) as usize;
+                    return Read::shows(a[k]);
+                }
+                return Read::refuses(18);
             }
             return Read::refuses(5);
         }
@@ -233,7 +241,7 @@ fn head_numbers(h: Head) -> [u32; 4]
 }
 
 fn net_numbers(s: &[u8]) -> [u32; 7]
-    requires { ⌜ 4883 ≤ length (now s) ⌝ }
+    requires { ⌜ 4949 ≤ length (now s) ⌝ }
     ensures { λ r. ⌜ r ≡ netNumbers (netOf (now (s .entry))) ⌝ }
 {
     let g = load_configuration(s);
@@ -253,11 +261,12 @@ fn net_numbers(s: &[u8]) -> [u32; 7]
     ]
 }
 
-fn state_numbers(s: &[u8]) -> [u32; 17]
-    requires { ⌜ 4883 ≤ length (now s) ⌝ }
+fn state_numbers(s: &[u8]) -> [u32; 18]
+    requires { ⌜ formed (now s) ≡ true ⌝ }
     ensures { λ r. ⌜ r ≡ stateNumbers (view (now (s .entry))) ⌝ }
 {
-    let n = log_length(s) as u32;
+    let n = last_number(s) as u32;
+    let b = last_fold(s) as u32;
     let g = load_change(s).get() as u32;
     let c = head_numbers(load_head(s, 4612));
     let a = head_numbers(load_head(s, 4686));
@@ -280,15 +289,16 @@ fn state_numbers(s: &[u8]) -> [u32; 17]
         w[4],
         w[5],
         w[6],
+        b,
     ]
 }
 
-// A field of what the state has once: the log's length, the heads, configuration, mastership, target. Refuses 1, 2.
+// A field of what the state has once: the highest number given, the last fold, the heads, configuration, mastership, target. Refuses 1, 2.
 pub fn record(s: &[u8], field: u16) -> Read
     ensures { λ r. ⌜ Shows (now (s .entry)) (ofState field) r ⌝ }
 {
     if well_formed(s) {
-        if is_field(field, 17) {
+        if is_field(field, 18) {
             let a = state_numbers(s);
             let k = (field - 1) as usize;
             return Read::shows(a[k]);

@@ -1,4 +1,4 @@
-// The live list: a recursive walk from the committed revision; each hop goes to r.index until 0.
+// The live list: a recursive walk from the committed revision; each hop goes to r.index until 0 or a folded number.
 ghost use mathlib.Core.Path.{_≡_};
 ghost use mathlib.Core.Bool.{true};
 ghost use Prim.Native.Nat.{_<_};
@@ -9,6 +9,7 @@ ghost use Rattle.image.specs.View.{view};
 ghost use Rattle.image.specs.Formed.{formed};
 ghost use Rattle.controller.specs.Claims.{Entry};
 ghost use Rattle.controller.specs.Live.{Lists, ListsLive, liveFrom, Chained, Placed, Put};
+use image::last_fold;
 use image::load_entry;
 use image::load_head;
 use image::well_formed;
@@ -20,7 +21,7 @@ pub struct Listed {
 }
 
 // Where a hop from an entry goes: to a lower number.
-fn hop(s: &[u8], v: u16) -> u16
+pub fn hop(s: &[u8], v: u16) -> u16
     requires { ⌜ Entry (now s) v ⌝ }
     ensures { λ r. ⌜ (r ≡ entryOf (view (now (s .entry)) .log) v .index .0) × (r < v) ⌝ }
 {
@@ -29,41 +30,44 @@ fn hop(s: &[u8], v: u16) -> u16
     i.get()
 }
 
-// How many hops there are from v to 0.
-fn count(s: &[u8], v: u16) -> u16
-    requires { ⌜ Chained (now s) v ⌝ }
+// How many hops there are from v down to the last fold b.
+fn count(s: &[u8], b: u16, v: u16) -> u16
+    requires { ⌜ Chained (now s) b v ⌝ }
     ensures { λ r. ⌜ r ≡ length (liveFrom (view (now (s .entry))) v) ⌝ }
 {
-    if v == 0 {
+    if v <= b {
         return 0;
     }
     let next = hop(s, v);
-    count(s, next) + 1
+    count(s, b, next) + 1
 }
 
-// Whether the list from v has room: it has at most v numbers, so it is counted only where there is less space.
-fn has_room(s: &[u8], v: u16, space: usize) -> bool
-    requires { ⌜ Chained (now s) v ⌝ }
+// Whether the list from v has room: it has at most v - b numbers, so it is counted only where there is less space.
+fn has_room(s: &[u8], b: u16, v: u16, space: usize) -> bool
+    requires { ⌜ Chained (now s) b v ⌝ }
     ensures { λ r. ⌜ r ≡ leb (length (liveFrom (view (now (s .entry))) v)) space ⌝ }
 {
-    if v as usize <= space {
+    if v <= b {
         return true;
     }
-    let n = count(s, v);
+    if (v - b) as usize <= space {
+        return true;
+    }
+    let n = count(s, b, v);
     n as usize <= space
 }
 
 // Writes the list from v on, at a place and after it, and answers its length.
-fn walk(s: &[u8], v: u16, room: &mut [u16], at: usize) -> u16
-    requires { ⌜ Placed (now s) v at (length (now room)) ⌝ }
+fn walk(s: &[u8], b: u16, v: u16, room: &mut [u16], at: usize) -> u16
+    requires { ⌜ Placed (now s) b v at (length (now room)) ⌝ }
     ensures { λ r. ⌜ (r ≡ length (liveFrom (view (now (s .entry))) v)) × (now (room .exit) ≡ Put (now (room .entry)) at (liveFrom (view (now (s .entry))) v)) ⌝ }
 {
-    if v == 0 {
+    if v <= b {
         return 0;
     }
     let next = hop(s, v);
     room[at] = v;
-    walk(s, next, room, at + 1) + 1
+    walk(s, b, next, room, at + 1) + 1
 }
 
 fn list(s: &[u8], room: &mut [u16]) -> Listed
@@ -72,8 +76,9 @@ fn list(s: &[u8], room: &mut [u16]) -> Listed
 {
     let h = load_head(s, 4612);
     let v = h.revision.get();
-    if has_room(s, v, room.len()) {
-        let n = walk(s, v, room, 0);
+    let b = last_fold(s);
+    if has_room(s, b, v, room.len()) {
+        let n = walk(s, b, v, room, 0);
         return Listed {
             answer: 0,
             length: n,

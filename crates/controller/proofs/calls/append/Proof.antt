@@ -1,77 +1,73 @@
-use Rattle.controller.proofs.Answered.{append-3, append-4, appended-to}
+use Rattle.controller.proofs.Answered.{append-3, append-4, append-9, appended-to}
+use Rattle.controller.proofs.Decided.{size, fold-low}
 use mathlib.Core.Path.{sym, refl, _∙_}
 use native.Mathlib.Omega.{arith}
-use Rattle.controller.proofs.Decided.{size}
 use borrow.Author.Needs.{needs}
 use Rattle.controller.proofs.calls.append.Statement.{statement}
 use Rattle.controller.proofs.calls.append.Tie as tie
-use Rattle.controller.proofs.calls.append.Reads as reads
-use Rattle.controller.proofs.calls.append.Lts as lts
-use Rattle.controller.proofs.pairs.entered.Reads as entered-reads
-use Rattle.controller.proofs.pairs.valid.Reads as valid-reads
-use Rattle.image.proofs.grow.Reads as grow-reads
-use Rattle.image.proofs.log_length.Reads as log-length-reads
-use Rattle.kinds.proofs.Number.of.Reads as Number-of-reads
-use Rattle.kinds.proofs.Reply.of.Reads as Reply-of-reads
 
--- src/calls.rt:53:8
 valid-requires : tie.Need-valid-requires
 valid-requires c κs = search needs
 
--- src/calls.rt:54:13
-log-length-requires : tie.Need-log-length-requires
-log-length-requires c κs = omega (arith, size _ (c .before .before .before .before .before .pre))
+last-number-requires : tie.Need-last-number-requires
+last-number-requires c κs = let h = size _ (c .before .before .before .before .before .pre) in omega arith
 
--- src/calls.rt:56:17
+last-fold-requires : tie.Need-last-fold-requires
+last-fold-requires c κs = let h = size _ (c .before .before .before .before .before .before .before .pre) in omega arith
+
+sub-if2 : tie.Need-sub-if2
+sub-if2 c = fold-low _ _ _ (c .before .before .before .before .before .before .before .before .pre) (c .last-fold .ensures) (c .before .before .last-number .ensures)
+
 entered-requires : tie.Need-entered-requires
-entered-requires c κs = sym (c .before .before .before .before .valid .ensures) ∙ c .before .before .before .if1 .taken
+entered-requires c κs = sym (c .before .before .before .before .before .before .before .valid .ensures) ∙ c .before .before .before .before .before .before .if1 .taken
 
--- src/calls.rt:57:13
 grow-requires : tie.Need-grow-requires
-grow-requires c κs = (c .before .before .before .log-length .ensures, (c .before .before .if2 .taken, omega (arith, size _ (c .before .before .before .before .before .before .before .before .before .pre))))
+grow-requires c κs = (c .before .before .before .before .before .before .last-number .ensures, (c .before .before .if3 .taken, size _ (c .before .before .before .before .before .before .before .before .before .before .before .before .pre)))
 
--- src/calls.rt:58:72
 add-of : tie.Need-add-of
 add-of c = search needs
 
--- src/calls.rt:58:61
 of-requires : tie.Need-of-requires
 of-requires c κs = search needs
 
--- src/calls.rt:59:13
 same-length : tie.Need-same-length
 same-length c = search needs
 
--- src/calls.rt:59:13
 returns : tie.Need-returns
-returns c = appended-to _ (c .before .before .before .before .before .before .before .before .before .before .before .before .before .args .pairs .now) (λ i. omega (arith, c .before .before .before .before .before .before .before .before .before .before .before .shared-slice-known .given i)) _ _ (c .before .before .before .before .before .before .before .before .before .before .valid .ensures) (c .before .before .before .before .before .before .before .before .before .if1 .taken) _ (c .before .before .before .before .before .before .before .log-length .ensures) _ _ _ (c .before .before .before .before .before .before .if2 .taken) (c .before .before .before .before .before .entered .ensures) (c .before .before .before .grow .ensures) (c .of .ensures) refl
+returns c = appended-to _ (c .before .before .before .before .before .before .before .before .before .before .before .before .before .before .before .before .args .pairs .now) (λ i. omega (arith, c .before .before .before .before .before .before .before .before .before .before .before .before .before .before .shared-slice-known .given i)) _ _ (c .before .before .before .before .before .before .before .before .before .before .before .before .before .valid .ensures) (c .before .before .before .before .before .before .before .before .before .before .before .before .before .before .before .before .pre) (c .before .before .before .before .before .before .before .before .before .before .before .before .if1 .taken) _ _ (c .before .before .before .before .before .before .before .before .before .before .last-number .ensures) (c .before .before .before .before .before .before .before .before .last-fold .ensures) (c .before .before .before .before .before .before .before .if2 .taken) _ _ _ (c .before .before .before .before .before .before .if3 .taken) (c .before .before .before .before .before .entered .ensures) (c .before .before .before .grow .ensures) (c .of .ensures) refl
 
--- src/calls.rt:61:9
 of-requires-2 : tie.Need-of-requires-2
 of-requires-2 c κs = search needs
 
--- src/calls.rt:61:9
 same-length-2 : tie.Need-same-length-2
 same-length-2 c = search needs
 
--- src/calls.rt:61:9
 returns-2 : tie.Need-returns-2
-returns-2 c = append-4 _ (c .before .before .before .before .before .before .before .before .args .pairs .now) (λ i. omega (arith, c .before .before .before .before .before .before .shared-slice-known .given i)) _ _ (c .before .before .before .before .before .valid .ensures) (c .before .before .before .before .if1 .taken) _ (c .before .before .log-length .ensures) (c .before .if2 .left) (c .of2 .ensures)
+returns-2 c = append-9 _ (c .before .before .before .before .before .before .before .before .before .before .before .args .pairs .now) (λ i. omega (arith, c .before .before .before .before .before .before .before .before .before .shared-slice-known .given i)) _ _ (c .before .before .before .before .before .before .before .before .valid .ensures) (c .before .before .before .before .before .before .before .before .before .before .before .pre) (c .before .before .before .before .before .before .before .if1 .taken) _ _ (c .before .before .before .before .before .last-number .ensures) (c .before .before .before .last-fold .ensures) (c .before .before .if2 .taken) (c .before .if3 .left) (c .of2 .ensures)
 
--- src/calls.rt:63:5
 of-requires-3 : tie.Need-of-requires-3
 of-requires-3 c κs = search needs
 
--- src/calls.rt:49:1
+same-length-3 : tie.Need-same-length-3
+same-length-3 c = search needs
+
 returns-3 : tie.Need-returns-3
-returns-3 c = append-3 _ (c .before .before .before .before .before .args .pairs .now) (λ i. omega (arith, c .before .before .before .shared-slice-known .given i)) _ _ (c .before .before .valid .ensures) (c .before .if1 .left) (c .of3 .ensures)
+returns-3 c = append-4 _ (c .before .before .before .before .before .before .before .before .before .before .args .pairs .now) (λ i. omega (arith, c .before .before .before .before .before .before .before .before .shared-slice-known .given i)) _ _ (c .before .before .before .before .before .before .before .valid .ensures) (c .before .before .before .before .before .before .before .before .before .before .pre) (c .before .before .before .before .before .before .if1 .taken) _ _ (c .before .before .before .before .last-number .ensures) (c .before .before .last-fold .ensures) (c .before .if2 .left) (c .of3 .ensures)
+
+of-requires-4 : tie.Need-of-requires-4
+of-requires-4 c κs = search needs
+
+returns-4 : tie.Need-returns-4
+returns-4 c = append-3 _ (c .before .before .before .before .before .args .pairs .now) (λ i. omega (arith, c .before .before .before .shared-slice-known .given i)) _ _ (c .before .before .valid .ensures) (c .before .if1 .left) (c .of4 .ensures)
 
 pub append-spec : {M : Type 1} → statement M
 append-spec =
     tie.close
     (tie.spec
     valid-requires
-    log-length-requires
+    last-number-requires
+    last-fold-requires
+    sub-if2
     entered-requires
     grow-requires
     add-of
@@ -82,4 +78,7 @@ append-spec =
     same-length-2
     returns-2
     of-requires-3
-    returns-3)
+    same-length-3
+    returns-3
+    of-requires-4
+    returns-4)

@@ -1,100 +1,85 @@
-use Rattle.controller.proofs.Answered.{this-one, node-in, work-2, work-5, work-10, worked}
+use Rattle.controller.proofs.Answered.{this-one, node-in, work-2, work-5, work-18, work-10, worked}
+use Rattle.controller.proofs.Decided.{size, entry-here}
 use mathlib.Core.Path.{refl}
 use native.Mathlib.Omega.{arith}
-use Rattle.controller.proofs.Decided.{size, entry-size, entry-few}
 use borrow.Author.Needs.{needs}
 use Rattle.controller.proofs.calls.work.Statement.{statement}
 use Rattle.controller.proofs.calls.work.Tie as tie
-use Rattle.controller.proofs.calls.work.Reads as reads
-use Rattle.controller.proofs.calls.work.Lts as lts
-use Rattle.controller.proofs.calls.args_ok.Reads as args-ok-reads
-use Rattle.controller.proofs.calls.in_log.Reads as in-log-reads
-use Rattle.controller.proofs.calls.of_commit.Reads as of-commit-reads
-use Rattle.controller.proofs.deciding.plan_of.Reads as plan-of-reads
-use Rattle.controller.proofs.perform.perform.Reads as perform-reads
-use Rattle.image.proofs.load_mastership.Reads as load-mastership-reads
-use Rattle.image.proofs.log_length.Reads as log-length-reads
-use Rattle.kinds.proofs.Reply.of.Reads as of-reads
 
--- src/calls.rt:206:8
 args-ok-requires : tie.Need-args-ok-requires
 args-ok-requires c κs = search needs
 
--- src/calls.rt:207:13
-log-length-requires : tie.Need-log-length-requires
-log-length-requires c κs = let h = size _ (c .before .before .before .before .pre) in omega arith
+last-number-requires : tie.Need-last-number-requires
+last-number-requires c κs = let h = size _ (c .before .before .before .before .pre) in omega arith
 
--- src/calls.rt:208:12
 in-log-requires : tie.Need-in-log-requires
 in-log-requires c κs = search needs
 
--- src/calls.rt:209:17
+last-fold-requires : tie.Need-last-fold-requires
+last-fold-requires c κs = let h = size _ (c .before .before .before .before .before .before .before .before .pre) in omega arith
+
 load-mastership-requires : tie.Need-load-mastership-requires
-load-mastership-requires c κs = let h = size _ (c .before .before .before .before .before .before .before .before .pre) in omega arith
+load-mastership-requires c κs = let h = size _ (c .before .before .before .before .before .before .before .before .before .before .before .pre) in omega arith
 
--- src/calls.rt:210:22
 cast-at : tie.Need-cast-at
-cast-at c = omega (arith, node-in (c .before .before .before .before .before .before .before .before .before .args .node) (c .before .before .before .before .before .before .before .before .before .args .job) (c .before .before .before .before .before .before .before .before .before .args .outcome) (c .before .before .before .before .before .before .before .before .before .args .cut) _ (c .before .before .before .before .before .before .before .args-ok .ensures) (c .before .before .before .before .before .before .if1 .taken) .0, node-in (c .before .before .before .before .before .before .before .before .before .args .node) (c .before .before .before .before .before .before .before .before .before .args .job) (c .before .before .before .before .before .before .before .before .before .args .outcome) (c .before .before .before .before .before .before .before .before .before .args .cut) _ (c .before .before .before .before .before .before .before .args-ok .ensures) (c .before .before .before .before .before .before .if1 .taken) .1)
+cast-at c = omega (arith, node-in (c .before .before .before .before .before .before .before .before .before .before .before .before .args .node) (c .before .before .before .before .before .before .before .before .before .before .before .before .args .job) (c .before .before .before .before .before .before .before .before .before .before .before .before .args .outcome) (c .before .before .before .before .before .before .before .before .before .before .before .before .args .cut) _ (c .before .before .before .before .before .before .before .before .before .before .args-ok .ensures) (c .before .before .before .before .before .before .before .before .before .if1 .taken) .0, node-in (c .before .before .before .before .before .before .before .before .before .before .before .before .args .node) (c .before .before .before .before .before .before .before .before .before .before .before .before .args .job) (c .before .before .before .before .before .before .before .before .before .before .before .before .args .outcome) (c .before .before .before .before .before .before .before .before .before .before .before .before .args .cut) _ (c .before .before .before .before .before .before .before .before .before .before .args-ok .ensures) (c .before .before .before .before .before .before .before .before .before .if1 .taken) .1)
 
--- src/calls.rt:212:21
 plan-of-requires : tie.Need-plan-of-requires
-plan-of-requires c κs = (this-one _ _ _ _ (c .before .before .before .before .before .before .before .log-length .ensures) (c .before .before .before .before .before .before .in-log .ensures) (c .before .before .before .before .before .before .before .before .before .before .before .before .pre) (c .before .before .before .before .before .if2 .taken), node-in (c .before .before .before .before .before .before .before .before .before .before .before .before .args .node) (c .before .before .before .before .before .before .before .before .before .before .before .before .args .job) (c .before .before .before .before .before .before .before .before .before .before .before .before .args .outcome) (c .before .before .before .before .before .before .before .before .before .before .before .before .args .cut) _ (c .before .before .before .before .before .before .before .before .before .before .args-ok .ensures) (c .before .before .before .before .before .before .before .before .before .if1 .taken))
+plan-of-requires c κs = (this-one _ (c .before .before .before .before .before .before .before .before .before .before .before .before .before .before .before .pre) _ _ _ (c .before .before .before .before .before .before .before .before .before .before .last-number .ensures) (c .before .before .before .before .before .before .before .before .before .in-log .ensures) (c .before .before .before .before .before .before .before .before .if2 .taken) _ (c .before .before .before .before .before .before .last-fold .ensures) (c .before .before .before .before .before .if3 .taken), node-in (c .before .before .before .before .before .before .before .before .before .before .before .before .before .before .before .args .node) (c .before .before .before .before .before .before .before .before .before .before .before .before .before .before .before .args .job) (c .before .before .before .before .before .before .before .before .before .before .before .before .before .before .before .args .outcome) (c .before .before .before .before .before .before .before .before .before .before .before .before .before .before .before .args .cut) _ (c .before .before .before .before .before .before .before .before .before .before .before .before .before .args-ok .ensures) (c .before .before .before .before .before .before .before .before .before .before .before .before .if1 .taken))
 
--- src/calls.rt:213:28
 of-commit-requires : tie.Need-of-commit-requires
 of-commit-requires c κs = search needs
 
--- src/calls.rt:213:17
 perform-requires : tie.Need-perform-requires
-perform-requires c κs = let h = this-one _ _ _ _ (c .before .before .before .before .before .before .before .before .before .before .log-length .ensures) (c .before .before .before .before .before .before .before .before .before .in-log .ensures) (c .before .before .before .before .before .before .before .before .before .before .before .before .before .before .before .pre) (c .before .before .before .before .before .before .before .before .if2 .taken) in (h .one, (entry-few _ _ h, entry-size _ _ h))
+perform-requires c κs = entry-here _ _ (this-one _ (c .before .before .before .before .before .before .before .before .before .before .before .before .before .before .before .before .before .before .pre) _ _ _ (c .before .before .before .before .before .before .before .before .before .before .before .before .before .last-number .ensures) (c .before .before .before .before .before .before .before .before .before .before .before .before .in-log .ensures) (c .before .before .before .before .before .before .before .before .before .before .before .if2 .taken) _ (c .before .before .before .before .before .before .before .before .before .last-fold .ensures) (c .before .before .before .before .before .before .before .before .if3 .taken))
 
--- src/calls.rt:215:17
 same-length : tie.Need-same-length
 same-length c = search needs
 
--- src/calls.rt:215:17
 returns : tie.Need-returns
-returns c = worked _ _ _ _ (c .before .before .before .before .before .before .before .before .before .before .before .before .before .before .log-length .ensures) (c .before .before .before .before .before .before .before .before .before .before .before .before .before .in-log .ensures) _ _ _ _ _ _ (c .before .before .before .before .before .before .before .before .before .before .before .before .before .before .before .before .before .args-ok .ensures) (c .before .before .before .before .before .before .before .before .before .before .before .before .before .before .before .before .if1 .taken) (c .before .before .before .before .before .before .before .before .before .before .before .before .if2 .taken) _ (c .before .before .before .before .before .before .before .before .before .before .load-mastership .ensures) _ _ _ (c .before .before .before .before .before .before .before .before .if3 .taken) (c .before .before .before .before .before .before .plan-of .ensures) (c .before .before .before .before .of-commit .ensures) (c .before .before .before .perform .ensures) refl
+returns c = worked _ (c .before .before .before .before .before .before .before .before .before .before .before .before .before .before .before .before .before .before .before .before .before .before .pre) _ _ _ (c .before .before .before .before .before .before .before .before .before .before .before .before .before .before .before .before .before .last-number .ensures) (c .before .before .before .before .before .before .before .before .before .before .before .before .before .before .before .before .in-log .ensures) (c .before .before .before .before .before .before .before .before .before .before .before .before .before .before .before .if2 .taken) _ (c .before .before .before .before .before .before .before .before .before .before .before .before .before .last-fold .ensures) (c .before .before .before .before .before .before .before .before .before .before .before .before .if3 .taken) _ _ _ _ _ _ (c .before .before .before .before .before .before .before .before .before .before .before .before .before .before .before .before .before .before .before .before .args-ok .ensures) (c .before .before .before .before .before .before .before .before .before .before .before .before .before .before .before .before .before .before .before .if1 .taken) _ (c .before .before .before .before .before .before .before .before .before .before .load-mastership .ensures) _ _ _ (c .before .before .before .before .before .before .before .before .if4 .taken) (c .before .before .before .before .before .before .plan-of .ensures) (c .before .before .before .before .of-commit .ensures) (c .before .before .before .perform .ensures) refl
 
--- src/calls.rt:217:13
 of-requires : tie.Need-of-requires
 of-requires c κs = search needs
 
--- src/calls.rt:217:13
 same-length-2 : tie.Need-same-length-2
 same-length-2 c = search needs
 
--- src/calls.rt:217:13
 returns-2 : tie.Need-returns-2
-returns-2 c = work-10 _ _ _ _ (c .before .before .before .before .before .before .before .log-length .ensures) (c .before .before .before .before .before .before .in-log .ensures) _ _ _ _ _ _ (c .before .before .before .before .before .before .before .before .before .before .args-ok .ensures) (c .before .before .before .before .before .before .before .before .before .if1 .taken) (c .before .before .before .before .before .if2 .taken) _ (c .before .before .before .load-mastership .ensures) (c .before .if3 .left) (c .of .ensures)
+returns-2 c = work-10 _ (c .before .before .before .before .before .before .before .before .before .before .before .before .before .before .before .pre) _ _ _ (c .before .before .before .before .before .before .before .before .before .before .last-number .ensures) (c .before .before .before .before .before .before .before .before .before .in-log .ensures) (c .before .before .before .before .before .before .before .before .if2 .taken) _ (c .before .before .before .before .before .before .last-fold .ensures) (c .before .before .before .before .before .if3 .taken) _ _ _ _ _ _ (c .before .before .before .before .before .before .before .before .before .before .before .before .before .args-ok .ensures) (c .before .before .before .before .before .before .before .before .before .before .before .before .if1 .taken) _ (c .before .before .before .load-mastership .ensures) (c .before .if4 .left) (c .of .ensures)
 
--- src/calls.rt:219:9
 of-requires-2 : tie.Need-of-requires-2
 of-requires-2 c κs = search needs
 
--- src/calls.rt:219:9
 same-length-3 : tie.Need-same-length-3
 same-length-3 c = search needs
 
--- src/calls.rt:219:9
 returns-3 : tie.Need-returns-3
-returns-3 c = work-5 _ _ _ _ (c .before .before .before .log-length .ensures) (c .before .before .in-log .ensures) _ _ _ _ _ _ (c .before .before .before .before .before .before .args-ok .ensures) (c .before .before .before .before .before .if1 .taken) (c .before .if2 .left) (c .of2 .ensures)
+returns-3 c = work-18 _ (c .before .before .before .before .before .before .before .before .before .before .before .pre) _ _ _ (c .before .before .before .before .before .before .last-number .ensures) (c .before .before .before .before .before .in-log .ensures) (c .before .before .before .before .if2 .taken) _ (c .before .before .last-fold .ensures) _ _ _ _ _ _ (c .before .before .before .before .before .before .before .before .before .args-ok .ensures) (c .before .before .before .before .before .before .before .before .if1 .taken) (c .before .if3 .left) (c .of2 .ensures)
 
--- src/calls.rt:221:5
 of-requires-3 : tie.Need-of-requires-3
 of-requires-3 c κs = search needs
 
--- src/calls.rt:202:1
+same-length-4 : tie.Need-same-length-4
+same-length-4 c = search needs
+
 returns-4 : tie.Need-returns-4
-returns-4 c = work-2 _ _ _ _ _ _ _ _ (c .before .before .args-ok .ensures) (c .before .if1 .left) (c .of3 .ensures)
+returns-4 c = work-5 _ (c .before .before .before .before .before .before .before .before .pre) _ _ _ (c .before .before .before .last-number .ensures) (c .before .before .in-log .ensures) _ _ _ _ _ _ (c .before .before .before .before .before .before .args-ok .ensures) (c .before .before .before .before .before .if1 .taken) (c .before .if2 .left) (c .of3 .ensures)
+
+of-requires-4 : tie.Need-of-requires-4
+of-requires-4 c κs = search needs
+
+returns-5 : tie.Need-returns-5
+returns-5 c = work-2 _ _ _ _ _ _ _ _ (c .before .before .args-ok .ensures) (c .before .if1 .left) (c .of4 .ensures)
 
 pub work-spec : {M : Type 1} → statement M
 work-spec =
     tie.close
     (tie.spec
     args-ok-requires
-    log-length-requires
+    last-number-requires
     in-log-requires
+    last-fold-requires
     load-mastership-requires
     cast-at
     plan-of-requires
@@ -109,4 +94,7 @@ work-spec =
     same-length-3
     returns-3
     of-requires-3
-    returns-4)
+    same-length-4
+    returns-4
+    of-requires-4
+    returns-5)

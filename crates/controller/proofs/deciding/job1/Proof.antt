@@ -1,5 +1,5 @@
 use native.Mathlib.Omega.{arith}
-use Rattle.controller.proofs.Decided.{entry-size, entry-few, job1-shown}
+use Rattle.controller.proofs.Decided.{entry-size, entry-here, job1-shown}
 use borrow.Author.Needs.{needs}
 use Rattle.controller.proofs.deciding.job1.Statement.{statement}
 use Rattle.controller.proofs.deciding.job1.Tie as tie
@@ -15,7 +15,7 @@ use Rattle.rules.proofs.commit_change.Reads as commit-change-reads
 
 -- src/deciding.rt:141:9
 load-entry-requires : tie.Need-load-entry-requires
-load-entry-requires c κs = (c .before .pre .one, (entry-few _ _ (c .before .pre), entry-size _ _ (c .before .pre)))
+load-entry-requires c κs = entry-here _ _ (c .before .pre)
 
 -- src/deciding.rt:142:9
 load-head-requires : tie.Need-load-head-requires

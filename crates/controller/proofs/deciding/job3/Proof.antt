@@ -1,5 +1,5 @@
 use native.Mathlib.Omega.{arith}
-use Rattle.controller.proofs.Decided.{entry-size, entry-few, job3-shown}
+use Rattle.controller.proofs.Decided.{entry-size, entry-here, job3-shown}
 use borrow.Author.Needs.{needs}
 use Rattle.controller.proofs.deciding.job3.Statement.{statement}
 use Rattle.controller.proofs.deciding.job3.Tie as tie
@@ -13,7 +13,7 @@ use Rattle.rules.proofs.commit_rollback.Reads as commit-rollback-reads
 
 -- src/deciding.rt:164:9
 load-entry-requires : tie.Need-load-entry-requires
-load-entry-requires c κs = (c .before .pre .one, (entry-few _ _ (c .before .pre), entry-size _ _ (c .before .pre)))
+load-entry-requires c κs = entry-here _ _ (c .before .pre)
 
 -- src/deciding.rt:165:9
 load-head-requires : tie.Need-load-head-requires

@@ -1,12 +1,12 @@
 -- `job4` meets its contract. Assumes nothing.
 use native.Mathlib.Omega.{arith}
-use Rattle.controller.proofs.Decided.{entry-size, entry-few, job4-shown}
+use Rattle.controller.proofs.Decided.{entry-size, entry-here, job4-shown}
 use borrow.Author.Needs.{needs}
 use Rattle.controller.proofs.deciding.job4.Statement.{statement}
 use Rattle.controller.proofs.deciding.job4.Tie as tie
 
 load-entry-requires : tie.Need-load-entry-requires
-load-entry-requires c κs = (c .before .pre .0 .one, (entry-few _ _ (c .before .pre .0), entry-size _ _ (c .before .pre .0)))
+load-entry-requires c κs = entry-here _ _ (c .before .pre .0)
 
 load-head-requires : tie.Need-load-head-requires
 load-head-requires c κs = let h = entry-size _ _ (c .before .before .pre .0) in omega arith

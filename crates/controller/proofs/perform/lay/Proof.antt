@@ -1,82 +1,94 @@
-use Rattle.controller.proofs.Performed.{laid-four}
+-- `lay` meets its contract. Assumes nothing.
+use Rattle.controller.proofs.Performed.{laid-zero, laid-one, laid-two, laid-three, laid-four}
 use borrow.Author.Needs.{needs}
 use Rattle.controller.proofs.perform.lay.Statement.{statement}
 use Rattle.controller.proofs.perform.lay.Tie as tie
-use Rattle.controller.proofs.perform.lay.Reads as reads
-use Rattle.controller.proofs.perform.lay.Lts as lts
-use Rattle.controller.proofs.perform.lay_one.Reads as lay-one-reads
 
--- src/perform.rt:31:27
-array-read-lay-one : tie.Need-array-read-lay-one
-array-read-lay-one c = search needs
+returns : tie.Need-returns
+returns c = laid-zero _ _ _ _ _ (c .if1 .taken)
 
--- src/perform.rt:31:33
-array-read-lay-one-2 : tie.Need-array-read-lay-one-2
-array-read-lay-one-2 c = search needs
+array-read-store-value : tie.Need-array-read-store-value
+array-read-store-value c = search needs
 
--- src/perform.rt:31:5
-lay-one-requires : tie.Need-lay-one-requires
-lay-one-requires c κs = search needs
+array-read-store-value-2 : tie.Need-array-read-store-value-2
+array-read-store-value-2 c = search needs
 
--- src/perform.rt:32:27
-array-read-lay-one-3 : tie.Need-array-read-lay-one-3
-array-read-lay-one-3 c = search needs
+store-value-requires : tie.Need-store-value-requires
+store-value-requires c κs = search needs
 
--- src/perform.rt:32:33
-array-read-lay-one-4 : tie.Need-array-read-lay-one-4
-array-read-lay-one-4 c = search needs
-
--- src/perform.rt:32:5
-lay-one-requires-2 : tie.Need-lay-one-requires-2
-lay-one-requires-2 c κs = search needs
-
--- src/perform.rt:33:27
-array-read-lay-one-5 : tie.Need-array-read-lay-one-5
-array-read-lay-one-5 c = search needs
-
--- src/perform.rt:33:33
-array-read-lay-one-6 : tie.Need-array-read-lay-one-6
-array-read-lay-one-6 c = search needs
-
--- src/perform.rt:33:5
-lay-one-requires-3 : tie.Need-lay-one-requires-3
-lay-one-requires-3 c κs = search needs
-
--- src/perform.rt:34:27
-array-read-lay-one-7 : tie.Need-array-read-lay-one-7
-array-read-lay-one-7 c = search needs
-
--- src/perform.rt:34:33
-array-read-lay-one-8 : tie.Need-array-read-lay-one-8
-array-read-lay-one-8 c = search needs
-
--- src/perform.rt:34:5
-lay-one-requires-4 : tie.Need-lay-one-requires-4
-lay-one-requires-4 c κs = search needs
-
--- src/perform.rt:27:1
 same-length : tie.Need-same-length
 same-length c = search needs
 
--- src/perform.rt:27:1
-returns : tie.Need-returns
-returns c = laid-four _ _ _ _ _ _ _ _ _ (c .before .before .before .before .before .before .before .before .before .before .before .before .before .before .lay-one .ensures) (c .before .before .before .before .before .before .before .before .before .before .lay-one2 .ensures) (c .before .before .before .before .before .before .lay-one3 .ensures) (c .before .before .lay-one4 .ensures)
+returns-2 : tie.Need-returns-2
+returns-2 c = laid-one _ _ _ _ _ _ (c .before .before .before .store-value .ensures) (c .before .before .before .before .before .if1 .left) (c .if2 .taken)
+
+array-read-store-value-3 : tie.Need-array-read-store-value-3
+array-read-store-value-3 c = search needs
+
+array-read-store-value-4 : tie.Need-array-read-store-value-4
+array-read-store-value-4 c = search needs
+
+store-value-requires-2 : tie.Need-store-value-requires-2
+store-value-requires-2 c κs = search needs
+
+same-length-2 : tie.Need-same-length-2
+same-length-2 c = search needs
+
+returns-3 : tie.Need-returns-3
+returns-3 c = laid-two _ _ _ _ _ _ (c .before .before .before .before .before .before .before .before .store-value .ensures) _ (c .before .before .before .store-value2 .ensures) (c .before .before .before .before .before .if2 .left) (c .if3 .taken)
+
+array-read-store-value-5 : tie.Need-array-read-store-value-5
+array-read-store-value-5 c = search needs
+
+array-read-store-value-6 : tie.Need-array-read-store-value-6
+array-read-store-value-6 c = search needs
+
+store-value-requires-3 : tie.Need-store-value-requires-3
+store-value-requires-3 c κs = search needs
+
+same-length-3 : tie.Need-same-length-3
+same-length-3 c = search needs
+
+returns-4 : tie.Need-returns-4
+returns-4 c = laid-three _ _ _ _ _ _ (c .before .before .before .before .before .before .before .before .before .before .before .before .before .store-value .ensures) _ (c .before .before .before .before .before .before .before .before .store-value2 .ensures) _ (c .before .before .before .store-value3 .ensures) (c .before .before .before .before .before .if3 .left) (c .if4 .taken)
+
+array-read-store-value-7 : tie.Need-array-read-store-value-7
+array-read-store-value-7 c = search needs
+
+array-read-store-value-8 : tie.Need-array-read-store-value-8
+array-read-store-value-8 c = search needs
+
+store-value-requires-4 : tie.Need-store-value-requires-4
+store-value-requires-4 c κs = search needs
+
+same-length-4 : tie.Need-same-length-4
+same-length-4 c = search needs
+
+returns-5 : tie.Need-returns-5
+returns-5 c = laid-four _ _ _ _ _ _ (c .before .before .before .before .before .before .before .before .before .before .before .before .before .before .before .before .before .store-value .ensures) _ (c .before .before .before .before .before .before .before .before .before .before .before .before .store-value2 .ensures) _ (c .before .before .before .before .before .before .before .store-value3 .ensures) _ (c .before .before .store-value4 .ensures) (c .before .before .before .before .if4 .left)
 
 pub lay-spec : {M : Type 1} → statement M
 lay-spec =
     tie.close
     (tie.spec
-    array-read-lay-one
-    array-read-lay-one-2
-    lay-one-requires
-    array-read-lay-one-3
-    array-read-lay-one-4
-    lay-one-requires-2
-    array-read-lay-one-5
-    array-read-lay-one-6
-    lay-one-requires-3
-    array-read-lay-one-7
-    array-read-lay-one-8
-    lay-one-requires-4
+    returns
+    array-read-store-value
+    array-read-store-value-2
+    store-value-requires
     same-length
-    returns)
+    returns-2
+    array-read-store-value-3
+    array-read-store-value-4
+    store-value-requires-2
+    same-length-2
+    returns-3
+    array-read-store-value-5
+    array-read-store-value-6
+    store-value-requires-3
+    same-length-3
+    returns-4
+    array-read-store-value-7
+    array-read-store-value-8
+    store-value-requires-4
+    same-length-4
+    returns-5)

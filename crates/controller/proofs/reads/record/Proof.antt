@@ -2,7 +2,6 @@
 use Rattle.controller.proofs.Shows.{unread, shows-by, refuses-by, in-range, no-state-field, state-field-is}
 use Rattle.controller.proofs.Answered.{told}
 use native.Mathlib.Omega.{arith}
-use Rattle.controller.proofs.Decided.{size}
 use borrow.Author.Needs.{needs}
 use Rattle.controller.proofs.reads.record.Statement.{statement}
 use Rattle.controller.proofs.reads.record.Tie as tie
@@ -14,10 +13,10 @@ is-field-requires : tie.Need-is-field-requires
 is-field-requires c κs = search needs
 
 state-numbers-requires : tie.Need-state-numbers-requires
-state-numbers-requires c κs = size _ (told _ _ (c .before .before .before .well-formed .ensures) (c .before .before .if1 .taken))
+state-numbers-requires c κs = told _ _ (c .before .before .before .well-formed .ensures) (c .before .before .if1 .taken)
 
 sub-k : tie.Need-sub-k
-sub-k c = let h = in-range 17 (c .before .before .before .before .before .before .args .field) _ (c .before .before .is-field .ensures) (c .before .if2 .taken) in omega arith
+sub-k c = let h = in-range 18 (c .before .before .before .before .before .before .args .field) _ (c .before .before .is-field .ensures) (c .before .if2 .taken) in omega arith
 
 cast-k : tie.Need-cast-k
 cast-k c = search needs
@@ -26,7 +25,7 @@ mul-shows : tie.Need-mul-shows
 mul-shows c = search needs
 
 array-read-shows : tie.Need-array-read-shows
-array-read-shows c = let h = in-range 17 (c .before .before .before .before .before .before .args .field) _ (c .before .before .is-field .ensures) (c .before .if2 .taken) in omega arith
+array-read-shows c = let h = in-range 18 (c .before .before .before .before .before .before .args .field) _ (c .before .before .is-field .ensures) (c .before .if2 .taken) in omega arith
 
 shows-requires : tie.Need-shows-requires
 shows-requires c κs = search needs

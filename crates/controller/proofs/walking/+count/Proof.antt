@@ -13,7 +13,7 @@ use Rattle.controller.proofs.walking.+count.{statement}
 use Rattle.controller.proofs.walking.+count.Tie.{close}
 
 abbrev μ-count : Measures 1 count-kinds.ps ℕ
-μ-count κs a = a .1 .0
+μ-count κs a = a .1 .1 .0
 
 abbrev count-at : ℕ → In 1 count-kinds.ps
 count-at t = and 1 count-kinds.ps (is 1 count-kinds.ps μ-count t) count.Pre
@@ -27,7 +27,7 @@ count-returns : (t : ℕ) → count-lts.Need-returns (
   count-below t,
   count.Post,
 ) (count-at t) count.Post
-count-returns t c = counted-none (view (c .before .before .args .s .now)) (c .before .before .args .v) (c .if1 .taken)
+count-returns t c = counted-none _ _ _ (c .before .before .pre .1) (c .if1 .taken)
 
 count-hop-requires : (t : ℕ) → count-lts.Need-hop-requires (
   hop-reads.Asked,
@@ -35,7 +35,7 @@ count-hop-requires : (t : ℕ) → count-lts.Need-hop-requires (
   count-below t,
   count.Post,
 ) (count-at t) count.Post
-count-hop-requires t c κs = as-entry _ _ (c .before .before .pre .1) (c .if1 .left)
+count-hop-requires t c κs = as-entry _ _ _ (c .before .before .pre .1) (c .if1 .left)
 
 count-count-requires : (t : ℕ) → count-lts.Need-count-requires (
   hop-reads.Asked,
@@ -43,7 +43,7 @@ count-count-requires : (t : ℕ) → count-lts.Need-count-requires (
   count-below t,
   count.Post,
 ) (count-at t) count.Post
-count-count-requires t c κs = (omega (arith, c .hop .ensures .1, c .before .before .before .pre .0), lower _ _ (c .before .before .before .pre .1) (c .before .if1 .left) _ (c .hop .ensures))
+count-count-requires t c κs = (omega (arith, c .hop .ensures .1, c .before .before .before .pre .0), lower _ _ _ (c .before .before .before .pre .1) (c .before .if1 .left) _ (c .hop .ensures))
 
 count-add-result : (t : ℕ) → count-lts.Need-add-result (
   hop-reads.Asked,
@@ -59,7 +59,7 @@ count-returns-2 : (t : ℕ) → count-lts.Need-returns-2 (
   count-below t,
   count.Post,
 ) (count-at t) count.Post
-count-returns-2 t c = counted _ _ (c .before .before .before .before .pre .1) (c .before .before .if1 .left) _ (c .before .hop .ensures) _ (c .count .ensures)
+count-returns-2 t c = counted _ _ _ (c .before .before .before .before .pre .1) (c .before .before .if1 .left) _ (c .before .hop .ensures) _ (c .count .ensures)
 
 pub +count-spec : {M : Type 1} → statement M
 +count-spec = close μ-count λ t. count-lts.spec (

@@ -15,7 +15,7 @@ use Rattle.controller.proofs.walking.+walk.{statement}
 use Rattle.controller.proofs.walking.+walk.Tie.{close}
 
 abbrev μ-walk : Measures 2 walk-kinds.ps ℕ
-μ-walk κs a = a .1 .0
+μ-walk κs a = a .1 .1 .0
 
 abbrev walk-at : ℕ → In 2 walk-kinds.ps
 walk-at t = and 2 walk-kinds.ps (is 2 walk-kinds.ps μ-walk t) walk.Pre
@@ -29,7 +29,7 @@ walk-returns : (t : ℕ) → walk-lts.Need-returns (
   walk-below t,
   walk.Post,
 ) (walk-at t) walk.Post
-walk-returns t c = (counted-none (view (c .before .before .before .args .s .now)) (c .before .before .before .args .v) (c .if1 .taken), walked-none (view (c .before .before .before .args .s .now)) (c .before .before .before .args .v) (c .before .before .before .args .room .now) (c .before .before .before .args .at) (c .if1 .taken))
+walk-returns t c = (counted-none _ _ _ (c .before .before .before .pre .1 .chained) (c .if1 .taken), walked-none _ _ _ (c .before .before .before .pre .1 .chained) (c .before .before .before .args .room .now) (c .before .before .before .args .at) (c .if1 .taken))
 
 walk-hop-requires : (t : ℕ) → walk-lts.Need-hop-requires (
   hop-reads.Asked,
@@ -37,7 +37,7 @@ walk-hop-requires : (t : ℕ) → walk-lts.Need-hop-requires (
   walk-below t,
   walk.Post,
 ) (walk-at t) walk.Post
-walk-hop-requires t c κs = as-entry _ _ (c .before .before .before .pre .1 .chained) (c .if1 .left)
+walk-hop-requires t c κs = as-entry _ _ _ (c .before .before .before .pre .1 .chained) (c .if1 .left)
 
 walk-mul-room : (t : ℕ) → walk-lts.Need-mul-room (
   hop-reads.Asked,
@@ -45,7 +45,7 @@ walk-mul-room : (t : ℕ) → walk-lts.Need-mul-room (
   walk-below t,
   walk.Post,
 ) (walk-at t) walk.Post
-walk-mul-room t c = let h = room-here _ _ (c .before .before .before .before .pre .1 .chained) (c .before .if1 .left) _ (c .hop .ensures) _ _ (c .before .before .before .before .pre .1 .room) in omega (arith, c .before .before .before .before .good .1 .1 .0)
+walk-mul-room t c = let h = room-here _ _ _ (c .before .before .before .before .pre .1 .chained) (c .before .if1 .left) _ (c .hop .ensures) _ _ (c .before .before .before .before .pre .1 .room) in omega (arith, c .before .before .before .before .good .1 .1 .1 .0)
 
 walk-slice-write-room : (t : ℕ) → walk-lts.Need-slice-write-room (
   hop-reads.Asked,
@@ -53,7 +53,7 @@ walk-slice-write-room : (t : ℕ) → walk-lts.Need-slice-write-room (
   walk-below t,
   walk.Post,
 ) (walk-at t) walk.Post
-walk-slice-write-room t c = room-here _ _ (c .before .before .before .before .pre .1 .chained) (c .before .if1 .left) _ (c .hop .ensures) _ _ (c .before .before .before .before .pre .1 .room)
+walk-slice-write-room t c = room-here _ _ _ (c .before .before .before .before .pre .1 .chained) (c .before .if1 .left) _ (c .hop .ensures) _ _ (c .before .before .before .before .pre .1 .room)
 
 walk-add-walk : (t : ℕ) → walk-lts.Need-add-walk (
   hop-reads.Asked,
@@ -61,7 +61,7 @@ walk-add-walk : (t : ℕ) → walk-lts.Need-add-walk (
   walk-below t,
   walk.Post,
 ) (walk-at t) walk.Post
-walk-add-walk t c = let h = room-here _ _ (c .before .before .before .before .before .pre .1 .chained) (c .before .before .if1 .left) _ (c .before .hop .ensures) _ _ (c .before .before .before .before .before .pre .1 .room) in omega (arith, c .before .before .before .before .before .good .1 .1 .0)
+walk-add-walk t c = let h = room-here _ _ _ (c .before .before .before .before .before .pre .1 .chained) (c .before .before .if1 .left) _ (c .before .hop .ensures) _ _ (c .before .before .before .before .before .pre .1 .room) in omega (arith, c .before .before .before .before .before .good .1 .1 .1 .0)
 
 walk-walk-requires : (t : ℕ) → walk-lts.Need-walk-requires (
   hop-reads.Asked,
@@ -69,7 +69,7 @@ walk-walk-requires : (t : ℕ) → walk-lts.Need-walk-requires (
   walk-below t,
   walk.Post,
 ) (walk-at t) walk.Post
-walk-walk-requires t c κs = (omega (arith, c .before .hop .ensures .1, c .before .before .before .before .before .pre .0), placed _ _ (c .before .before .before .before .before .pre .1 .chained) (c .before .before .if1 .left) _ (c .before .hop .ensures) (c .before .before .before .before .before .args .at) (c .before .before .before .before .before .args .room .now) (c .before .before .before .before .before .pre .1 .room))
+walk-walk-requires t c κs = (omega (arith, c .before .hop .ensures .1, c .before .before .before .before .before .pre .0), placed _ _ _ (c .before .before .before .before .before .pre .1 .chained) (c .before .before .if1 .left) _ (c .before .hop .ensures) (c .before .before .before .before .before .args .at) (c .before .before .before .before .before .args .room .now) (c .before .before .before .before .before .pre .1 .room))
 
 walk-add-result : (t : ℕ) → walk-lts.Need-add-result (
   hop-reads.Asked,
@@ -85,7 +85,7 @@ walk-same-length : (t : ℕ) → walk-lts.Need-same-length (
   walk-below t,
   walk.Post,
 ) (walk-at t) walk.Post
-walk-same-length t c = c .before .before .walk .kept .1 .1 .0 ∙ length-set (c .before .before .before .before .before .before .before .before .args .room .now) (c .before .before .before .before .before .before .before .before .args .at) (c .before .before .before .before .before .before .before .before .args .v)
+walk-same-length t c = c .before .before .walk .kept .1 .1 .1 .0 ∙ length-set (c .before .before .before .before .before .before .before .before .args .room .now) (c .before .before .before .before .before .before .before .before .args .at) (c .before .before .before .before .before .before .before .before .args .v)
 
 walk-returns-2 : (t : ℕ) → walk-lts.Need-returns-2 (
   hop-reads.Asked,
@@ -93,7 +93,7 @@ walk-returns-2 : (t : ℕ) → walk-lts.Need-returns-2 (
   walk-below t,
   walk.Post,
 ) (walk-at t) walk.Post
-walk-returns-2 t c = (counted _ _ (c .before .before .before .before .before .before .before .before .pre .1 .chained) (c .before .before .before .before .before .if1 .left) _ (c .before .before .before .before .hop .ensures) _ (c .before .before .walk .ensures .0), walked-more _ _ (c .before .before .before .before .before .before .before .before .pre .1 .chained) (c .before .before .before .before .before .if1 .left) _ (c .before .before .before .before .hop .ensures) (c .before .before .before .before .before .before .before .before .args .room .now) _ (c .before .before .before .before .before .before .before .before .args .at) (c .before .before .before .before .before .before .before .before .pre .1 .room) (c .before .before .walk .ensures .1))
+walk-returns-2 t c = (counted _ _ _ (c .before .before .before .before .before .before .before .before .pre .1 .chained) (c .before .before .before .before .before .if1 .left) _ (c .before .before .before .before .hop .ensures) _ (c .before .before .walk .ensures .0), walked-more _ _ _ (c .before .before .before .before .before .before .before .before .pre .1 .chained) (c .before .before .before .before .before .if1 .left) _ (c .before .before .before .before .hop .ensures) (c .before .before .before .before .before .before .before .before .args .room .now) _ (c .before .before .before .before .before .before .before .before .args .at) (c .before .before .before .before .before .before .before .before .pre .1 .room) (c .before .before .walk .ensures .1))
 
 pub +walk-spec : {M : Type 1} → statement M
 +walk-spec = close μ-walk λ t. walk-lts.spec (

@@ -1,12 +1,12 @@
 -- `hop` meets its contract. Assumes nothing.
 use Rattle.controller.proofs.Walked.{hop-is}
-use Rattle.controller.proofs.Decided.{entry-size, entry-few}
+use Rattle.controller.proofs.Decided.{entry-size, entry-here}
 use borrow.Author.Needs.{needs}
 use Rattle.controller.proofs.walking.hop.Statement.{statement}
 use Rattle.controller.proofs.walking.hop.Tie as tie
 
 load-entry-requires : tie.Need-load-entry-requires
-load-entry-requires c κs = let h = c .before .pre in (h .one, (entry-few _ _ h, entry-size _ _ h))
+load-entry-requires c κs = entry-here _ _ (c .before .pre)
 
 get-requires : tie.Need-get-requires
 get-requires c κs = search needs

@@ -1,0 +1,43 @@
+-- `fold` meets its contract. Assumes nothing.
+use Rattle.controller.proofs.Answered.{first, then, told}
+use borrow.Author.Needs.{needs}
+use Rattle.controller.proofs.fold.Statement.{statement}
+use Rattle.controller.proofs.fold.Tie as tie
+use Rattle.controller.proofs.fold.Reads as reads
+use Rattle.controller.proofs.fold.Lts as lts
+use Rattle.controller.proofs.folding.fold.Reads as fold-reads
+use Rattle.image.proofs.well_formed.Reads as well-formed-reads
+use Rattle.kinds.proofs.Reply.of.Reads as of-reads
+
+well-formed-requires : tie.Need-well-formed-requires
+well-formed-requires c κs = search needs
+
+fold-requires : tie.Need-fold-requires
+fold-requires c κs = told _ _ (c .before .before .well-formed .ensures) (c .before .if1 .taken)
+
+same-length : tie.Need-same-length
+same-length c = search needs
+
+returns : tie.Need-returns
+returns c = then _ _ _ _ _ (c .before .before .before .before .before .well-formed .ensures) (c .before .before .before .before .if1 .taken) (c .before .before .fold .ensures)
+
+of-requires : tie.Need-of-requires
+of-requires c κs = search needs
+
+same-length-2 : tie.Need-same-length-2
+same-length-2 c = search needs
+
+returns-2 : tie.Need-returns-2
+returns-2 c = first _ _ _ _ (c .before .before .well-formed .ensures) (c .before .if1 .left) (c .of .ensures)
+
+pub fold-spec : {M : Type 1} → statement M
+fold-spec =
+    tie.close
+    (tie.spec
+    well-formed-requires
+    fold-requires
+    same-length
+    returns
+    of-requires
+    same-length-2
+    returns-2)
