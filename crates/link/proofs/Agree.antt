@@ -1,5 +1,5 @@
--- Images that agree in length and outside the unused entries go on to agree, whatever is called: so no call's reply, now
--- or later, depends on what stood past the log's end. Assumes nothing.
+-- Images that agree in length and in every byte in use go on to agree, whatever is called: so no call's reply, now or
+-- later, depends on what stood in a slot of no number kept. Assumes nothing.
 use Prim.Native.Nat.{ℕ, zero, suc, _+_, _*_, _/_, _%_, _≤_, _<_}
 use mathlib.Core.Path.{_≡_, refl, ap, ap₂, sym, _∙_, subst}
 use mathlib.Core.Logic.{_⊎_, inl, inr, ⊎-elim}
@@ -14,26 +14,18 @@ use Rattle.kinds.specs.declared.Reply.{Reply}
 use Rattle.fields.specs.Field.{putField, putFields, total}
 use Rattle.fields.proofs.Laws.{Outside, Bytes, length-put}
 use Rattle.fields.proofs.Runs.{length-puts}
-use Rattle.machine.specs.Stores.{Store, grow, entry, change, committedHead, appliedHead, value, targetValues, configuration, mastership, connections, target, ofTarget}
-use Rattle.machine.specs.Calls as calls
-use Rattle.machine.specs.Calls.{Pair, Call, Outcome, append, unless, validChange, appended, decide}
-use Rattle.image.specs.Layout.{entryWidths, headWidths, tableWidths, configurationWidths, mastershipWidths, targetWidths, connectionsWidths, placeOf, lengthAt, changeAt, committedAt, appliedAt, valuesAt, configurationAt, mastershipAt, targetAt, connectionsAt, imageLength}
-use Rattle.image.specs.Records.{entryNumbers, putEntryAt, logLength, headNumbers, putHeadAt, configurationNumbers, putConfiguration, mastershipNumbers, putMastership, targetNumbers, putTarget, connectionsNumbers, eight, putConnections}
+use Rattle.machine.specs.Stores.{Store, grow, entry, fold, change, committedHead, appliedHead, value, targetValues, configuration, mastership, connections, target, ofTarget}
+use Rattle.machine.specs.Calls.{Call, Outcome, unless, decide}
+use Rattle.image.specs.Layout.{entryWidths, headWidths, tableWidths, configurationWidths, mastershipWidths, targetWidths, connectionsWidths, placeOf, lastAt, changeAt, committedAt, appliedAt, valuesAt, configurationAt, mastershipAt, targetAt, connectionsAt, foldedAt, imageLength}
+use Rattle.image.specs.Records.{entryNumbers, putEntryAt, lastOf, foldedOf, headNumbers, putHeadAt, configurationNumbers, putConfiguration, mastershipNumbers, putMastership, targetNumbers, putTarget, connectionsNumbers, eight, putConnections}
 use Rattle.image.specs.View.{view, write, written}
 use Rattle.image.specs.Formed.{formed}
-use Rattle.image.proofs.Scanned.{view-length, formed-length, formed-few}
-use Rattle.image.proofs.Shown.{Fits, FitsAll, grown, length-write, count-write}
+use Rattle.image.proofs.Scanned.{Room, formed-length, formed-room}
+use Rattle.image.proofs.Shown.{Fits, FitsAll, lastAfter, foldedAfter, length-write, ends-write, room-write, rest-fits}
 use Rattle.controller.specs.Claims.{outcomeOf, Claims}
 use Rattle.link.specs.Runs.{Calling, none, next}
-use Rattle.link.proofs.Sizes.{sizes}
-use Rattle.link.proofs.Rooms as rooms
-use Rattle.link.proofs.Rooms.{Still, Stills, more, isAppend, decide-still}
 use Rattle.link.proofs.Link.{decide-fits, stays-bytes}
-use Rattle.link.proofs.Unused.{same-count, same-outcome, same-reply}
-
-pub record Agree (l m : List ℕ) : Type 0 where
-  pub length : length m ≡ length l
-  pub outside : Outside l m (36 * logLength l) lengthAt
+use Rattle.link.proofs.Unused.{Used, past, slot, Agree, same-last, same-folded, same-outcome, same-reply}
 
 -- ---- the byte j after the same is written in both
 set-both : (l m : List ℕ) (at v j : ℕ) → length m ≡ length l → getD m j 0 ≡ getD l j 0 → getD (set m at v) j 0 ≡ getD (set l at v) j 0
@@ -87,26 +79,27 @@ puts-both (w ∷ ws) (x ∷ xs) l m at j z h =
     go p false e = inl (omega (arith, p .0), (ltb-false j (at + w) e, omega (arith, p .1 .1)))
 
 -- ---- any store
-module _ (l m : List ℕ) (z : length m ≡ length l) (n : logLength m ≡ logLength l) (j : ℕ) where
+module _ (l m : List ℕ) (z : length m ≡ length l) (n : lastOf m ≡ lastOf l) (j : ℕ) where
   if-both : (b : Bool) (at v : ℕ) → getD m j 0 ≡ getD l j 0 → getD (cond b (putField m at 2 v) m) j 0 ≡ getD (cond b (putField l at 2 v) l) j 0
   if-both true at v h = put-both 2 l m at v j z (inr h)
   if-both false at v h = h
 
   -- a byte of the new entry, or one that was the same
-  grow-both : (t : Transaction) → Both l m (placeOf (logLength l + 1)) 36 j → getD (write m (grow t)) j 0 ≡ getD (write l (grow t)) j 0
+  grow-both : (t : Transaction) → Both l m (placeOf (lastOf l + 1)) 36 j → getD (write m (grow t)) j 0 ≡ getD (write l (grow t)) j 0
   unfolding write putEntryAt
   grow-both t h =
-      let at = placeOf (logLength l + 1) in
+      let at = placeOf (lastOf l + 1) in
       let x = entryNumbers t in
       let s : Boths entryWidths x l m at j = ⊎-elim (λ p. inl (refl, p)) (λ q. inr q) h in
-      ap (λ (k : ℕ). getD (putField (putFields m (placeOf (k + 1)) entryWidths x) lengthAt 2 (k + 1)) j 0) n
-      ∙ put-both 2 (putFields l at entryWidths x) (putFields m at entryWidths x) lengthAt (logLength l + 1) j
+      ap (λ (k : ℕ). getD (putField (putFields m (placeOf (k + 1)) entryWidths x) lastAt 2 (k + 1)) j 0) n
+      ∙ put-both 2 (putFields l at entryWidths x) (putFields m at entryWidths x) lastAt (lastOf l + 1) j
       (length-puts entryWidths x m at ∙ z ∙ sym (length-puts entryWidths x l at)) (inr (puts-both entryWidths x l m at j z s))
 
   write-both : (e : Store) → getD m j 0 ≡ getD l j 0 → getD (write m e) j 0 ≡ getD (write l e) j 0
   unfolding write putEntryAt putHeadAt putConfiguration putMastership putConnections putTarget
   write-both (grow t) h = grow-both t (inr h)
   write-both (entry i t) h = puts-both entryWidths (entryNumbers t) l m (placeOf i) j z (inr h)
+  write-both (fold k) h = put-both 2 l m foldedAt (k .0) j z (inr h)
   write-both (change k) h = put-both 2 l m changeAt (k .0) j z (inr h)
   write-both (committedHead k) h = puts-both headWidths (headNumbers k) l m committedAt j z (inr h)
   write-both (appliedHead k) h = puts-both headWidths (headNumbers k) l m appliedAt j z (inr h)
@@ -117,114 +110,61 @@ module _ (l m : List ℕ) (z : length m ≡ length l) (n : logLength m ≡ logLe
   write-both (connections xs) h = puts-both connectionsWidths (connectionsNumbers (eight xs)) l m connectionsAt j z (inr h)
   write-both (target t) h = puts-both targetWidths (targetNumbers t) l m targetAt j z (inr h)
 
--- ---- a row that leaves the log's length
-pub record Sized (n : ℕ) (l : List ℕ) : Type 0 where
-  pub size : length l ≡ imageLength
-  pub count : logLength l ≡ n
-
-sized-write : (n : ℕ) (l : List ℕ) → n ≤ 128 → Sized n l → (e : Store) → Still n e → Sized n (write l e)
-sized-write n l f s e h =
-    let k : logLength l ≡ n = s .count in
-    let g : logLength l ≤ 128 = omega arith in
-    record {
-      size = length-write l (s .size) g e;
-      count = count-write l (s .size) g e (rw k (h .fits)) ∙ ap (λ (x : ℕ). grown x e) k ∙ h .same;
-    }
-
-module _ (n : ℕ) (f : n ≤ 128) where
-  sized-written : {es : List Store} → Stills n es → (l : List ℕ) → Sized n l → Sized n (written l es)
-  unfolding written
-  sized-written rooms.none l s = s
-  sized-written (more {e = e} h k) l s = sized-written k (write l e) (sized-write n l f s e h)
-
-  both-written : {es : List Store} → Stills n es → (l m : List ℕ) → Sized n l → Sized n m → (j : ℕ) → getD m j 0 ≡ getD l j 0
-      → getD (written m es) j 0 ≡ getD (written l es) j 0
-  unfolding written
-  both-written rooms.none l m s u j h = h
-  both-written (more {e = e} x k) l m s u j h =
-      both-written k (write l e) (write m e) (sized-write n l f s e x) (sized-write n m f u e x) j
-      (write-both l m (u .size ∙ sym (s .size)) (u .count ∙ sym (s .count)) j e h)
-
--- ---- one call
-module _ (l m : List ℕ) (a : Agree l m) (w : formed l ≡ true) where
-  size-l : length l ≡ imageLength
-  size-l = formed-length l w
-
+-- ---- a store that fits: what is in use after it was in use before, or is the new entry's
+module _ (l m : List ℕ) (a : Agree l m) (z : length l ≡ imageLength) (f : Room (foldedOf l) (lastOf l)) where
   size-m : length m ≡ imageLength
-  size-m = a .length ∙ size-l
+  size-m = a .length ∙ z
 
-  few-l : logLength l ≤ 128
-  few-l = formed-few l w
+  room-m : Room (foldedOf m) (lastOf m)
+  room-m = rw (same-folded l m a, same-last l m a) f
 
-  count-m : logLength m ≡ logLength l
-  count-m = same-count l m (a .length) (a .outside)
+  grown-byte : (t : Transaction) (j k : ℕ) → foldedOf l < k → k ≤ lastOf l + 1 → placeOf k ≤ j → j < placeOf k + 36 → (x : Bool) → ltb (lastOf l) k ≡ x
+      → Both l m (placeOf (lastOf l + 1)) 36 j
+  grown-byte t j k p q r s true e =
+      let d : k ≡ lastOf l + 1 = omega (arith, ltb-true (lastOf l) k e) in
+      inl (subst (λ (i : ℕ). (placeOf i ≤ j) × (j < placeOf i + 36)) d (r, s))
+  grown-byte t j k p q r s false e = inr (a .used j (slot k p (ltb-false (lastOf l) k e) r s))
 
-  few-m : logLength m ≤ 128
-  few-m = let k : logLength m ≡ logLength l = count-m in let f : logLength l ≤ 128 = few-l in omega arith
+  by : (e : Store) → Fits (foldedOf l) (lastOf l) e → (j : ℕ) → Used (foldedAfter (foldedOf l) e) (lastAfter (lastOf l) e) j → getD (write m e) j 0 ≡ getD (write l e) j 0
+  by (grow t) h j (past x) = grow-both l m (a .length) (same-last l m a) j t (inr (a .used j (past x)))
+  by (grow t) h j (slot k p q r s) = grow-both l m (a .length) (same-last l m a) j t (grown-byte t j k p q r s (ltb (lastOf l) k) refl)
+  by (fold b) h j (past x) = write-both l m (a .length) (same-last l m a) j (fold b) (a .used j (past x))
+  by (fold b) h j (slot k p q r s) = write-both l m (a .length) (same-last l m a) j (fold b) (a .used j (slot k (omega (arith, h .0)) q r s))
+  by (entry i t) h j u = write-both l m (a .length) (same-last l m a) j (entry i t) (a .used j u)
+  by (change k) h j u = write-both l m (a .length) (same-last l m a) j (change k) (a .used j u)
+  by (committedHead k) h j u = write-both l m (a .length) (same-last l m a) j (committedHead k) (a .used j u)
+  by (appliedHead k) h j u = write-both l m (a .length) (same-last l m a) j (appliedHead k) (a .used j u)
+  by (value t p v) h j u = write-both l m (a .length) (same-last l m a) j (value t p v) (a .used j u)
+  by (targetValues vs) h j u = write-both l m (a .length) (same-last l m a) j (targetValues vs) (a .used j u)
+  by (configuration g) h j u = write-both l m (a .length) (same-last l m a) j (configuration g) (a .used j u)
+  by (mastership x) h j u = write-both l m (a .length) (same-last l m a) j (mastership x) (a .used j u)
+  by (connections xs) h j u = write-both l m (a .length) (same-last l m a) j (connections xs) (a .used j u)
+  by (target t) h j u = write-both l m (a .length) (same-last l m a) j (target t) (a .used j u)
 
-  still-agree : (es : List Store) → Stills (logLength l) es → Agree (written l es) (written m es)
-  still-agree es h =
-      let x : Sized (logLength l) l = record { size = size-l; count = refl } in
-      let y : Sized (logLength l) m = record { size = size-m; count = count-m } in
-      let x' : Sized (logLength l) (written l es) = sized-written (logLength l) few-l h l x in
-      let y' : Sized (logLength l) (written m es) = sized-written (logLength l) few-l h m y in
+  agree-write : (e : Store) → Fits (foldedOf l) (lastOf l) e → Agree (write l e) (write m e)
+  agree-write e h =
+      let c = ends-write l z f e h in
       record {
-        length = y' .size ∙ sym (x' .size);
-        outside = λ j k. both-written (logLength l) few-l h l m x y j (a .outside j (⊎-elim (λ p. inl (omega (arith, x' .count))) (λ q. inr q) k));
+        length = length-write m size-m room-m e ∙ sym (length-write l z f e);
+        used = λ j u. by e h j (subst (λ (n : ℕ). Used (foldedAfter (foldedOf l) e) n j) (c .1) (subst (λ (b : ℕ). Used b (lastOf (write l e)) j) (c .0) u));
       }
 
-  grow-agree : (t : Transaction) → Fits (logLength l) (grow t) → Agree (write l (grow t)) (write m (grow t))
-  grow-agree t h =
-      record {
-        length = length-write m size-m few-m (grow t) ∙ sym (length-write l size-l few-l (grow t));
-        outside = λ j k. grow-both l m (a .length) count-m j t (⊎-elim (λ p. go j (omega (arith, count-write l size-l few-l (grow t) h)) (ltb j (36 * logLength l)) refl) (λ q. inr (a .outside j (inr q))) k);
-      }
-    where
-      go : (j : ℕ) → j < 36 * (logLength l + 1) → (b : Bool) → ltb j (36 * logLength l) ≡ b → Both l m (placeOf (logLength l + 1)) 36 j
-      go j p true e = inr (a .outside j (inl (ltb-true j (36 * logLength l) e)))
-      go j p false e = inl (omega (arith, ltb-false j (36 * logLength l) e), omega arith)
+agree-written : (es : List Store) (l m : List ℕ) → Agree l m → length l ≡ imageLength → Room (foldedOf l) (lastOf l) → FitsAll (foldedOf l) (lastOf l) es
+    → Agree (written l es) (written m es)
+unfolding written
+agree-written [] l m a z f h = a
+agree-written (e ∷ es) l m a z f h =
+    agree-written es (write l e) (write m e) (agree-write l m a z f e (h .0)) (length-write l z f e) (room-write l z f e (h .0)) (rest-fits l z f e es h)
 
-  append-agree : (ps : List Pair) → FitsAll (logLength l) (decide (view l) (append ps) .stores)
-      → Agree (written l (decide (view l) (append ps) .stores)) (written m (decide (view l) (append ps) .stores))
-  unfolding decide written
-  append-agree ps = go (validChange ps) (ltb (length (view l .log)) 128)
-    where
-      go : (v f : Bool)
-          → FitsAll (logLength l)
-          (unless 3 v
-          (unless 4 f (record { reply = record { answer = 0; event = Rattle.kinds.specs.Events.numbered (length (view l .log) + 1) }; stores = grow (appended ps) ∷ [] })) .stores)
-          → (let es = unless 3 v
-          (unless 4 f (record { reply = record { answer = 0; event = Rattle.kinds.specs.Events.numbered (length (view l .log) + 1) }; stores = grow (appended ps) ∷ [] })) .stores in
-          Agree (written l es) (written m es))
-      go true true h = grow-agree (appended ps) (h .0)
-      go true false h = a
-      go false f h = a
-
-  module _ (y : Bytes l) where
-    other-agree : (c : Call) → isAppend c ≡ false → Agree (written l (decide (view l) c .stores)) (written m (decide (view l) c .stores))
-    other-agree c e =
-        still-agree (decide (view l) c .stores) (subst (λ (n : ℕ). Stills n (decide (view l) c .stores)) (view-length l) (decide-still (view l) (sizes l y w) c e))
-
-    decide-agree : (c : Call) → Agree (written l (decide (view l) c .stores)) (written m (decide (view l) c .stores))
-    decide-agree (append ps) = append-agree ps (decide-fits l (append ps) y w)
-    decide-agree (calls.rollback i) = other-agree (calls.rollback i) refl
-    decide-agree calls.start = other-agree calls.start refl
-    decide-agree calls.stop = other-agree calls.stop refl
-    decide-agree (calls.connect n) = other-agree (calls.connect n) refl
-    decide-agree (calls.disconnect n) = other-agree (calls.disconnect n) refl
-    decide-agree (calls.master n) = other-agree (calls.master n) refl
-    decide-agree (calls.sync n) = other-agree (calls.sync n) refl
-    decide-agree (calls.work n j i r c) = other-agree (calls.work n j i r c) refl
-
--- what is left agrees again: the new entry of an append too
+-- ---- one call: what is left agrees again, the new entry of an append too
 pub agree-next : (l m : List ℕ) (c : Call) (r r' : Reply) (l' m' : List ℕ) → Agree l m → Bytes l → Claims l c r l' → Claims m c r' m' → Agree l' m'
 unfolding outcomeOf written
 agree-next l m c r r' l' m' a y p q =
-    let e : m' ≡ written m (outcomeOf l c .stores) = q .1 ∙ ap (λ (o : Outcome). written m (o .stores)) (same-outcome l m (a .length) (a .outside) c) in
+    let e : m' ≡ written m (outcomeOf l c .stores) = q .1 ∙ ap (λ (o : Outcome). written m (o .stores)) (same-outcome l m a c) in
     subst (λ (x : List ℕ). Agree x m') (sym (p .1)) (subst (λ (x : List ℕ). Agree (written l (outcomeOf l c .stores)) x) (sym e) (go (formed l) refl))
   where
     go : (w : Bool) → formed l ≡ w → (let es = unless 1 w (decide (view l) c) .stores in Agree (written l es) (written m es))
-    go true w = decide-agree l m a w y c
+    go true w = agree-written (decide (view l) c .stores) l m a (formed-length l w) (formed-room l w) (decide-fits l c y w)
     go false w = a
 
 -- ---- any calls: the same replies, and what is left agrees
@@ -233,6 +173,6 @@ pub agree-run : {l m : List ℕ} {cs : List Call} {rs us : List Reply} {l' m' : 
 agree-run none none a y = (refl, (a, y))
 agree-run (next {k = k} d c r l' p) (next {k = k'} d' _ r' m' q) a y =
     let h = agree-run d d' a y in (
-      ap₂ (λ (x : Reply) (xs : List Reply). x ∷ xs) (same-reply k k' (h .1 .0 .length) (h .1 .0 .outside) c r r' l' m' p q) (h .0),
+      ap₂ (λ (x : Reply) (xs : List Reply). x ∷ xs) (same-reply k k' (h .1 .0) c r r' l' m' p q) (h .0),
       (agree-next k k' c r r' l' m' (h .1 .0) (h .1 .1) p q, stays-bytes k c r l' p (h .1 .1)),
     )

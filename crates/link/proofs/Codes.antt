@@ -19,15 +19,16 @@ use Rattle.fields.specs.Field.{field, putField, fieldsAt, putFields, total}
 use Rattle.fields.proofs.Laws.{Outside, put-outside}
 use Rattle.fields.proofs.Runs.{Fit, puts-outside, puts-same, fields-kept}
 use Rattle.machine.proofs.Entries.{and-both}
-use Rattle.machine.specs.Stores.{Table, ofCommitted, ofApplied, ofTarget, Store, grow, entry, change, committedHead, appliedHead, value, targetValues, configuration, mastership, connections, target}
-use Rattle.image.specs.Layout.{entryWidths, headWidths, tableWidths, configurationWidths, mastershipWidths, targetWidths, connectionsWidths, placeOf, lengthAt, changeAt, committedAt, appliedAt, valuesAt, configurationAt, mastershipAt, targetAt, connectionsAt, imageLength}
-use Rattle.image.specs.Records.{flagCode, entryNumbers, putEntryAt, logLength, headNumbers, putHeadAt, configurationNumbers, putConfiguration, mastershipNumbers, putMastership, targetNumbers, putTarget, connectionsNumbers, eight, putConnections}
+use Rattle.machine.specs.Stores.{Table, ofCommitted, ofApplied, ofTarget, ofBase, Store, grow, entry, fold, change, committedHead, appliedHead, value, targetValues, configuration, mastership, connections, target}
+use Rattle.image.specs.Layout.{entryWidths, headWidths, tableWidths, configurationWidths, mastershipWidths, targetWidths, connectionsWidths, placeOf, lastAt, changeAt, committedAt, appliedAt, valuesAt, configurationAt, mastershipAt, targetAt, connectionsAt, foldedAt, imageLength}
+use Rattle.image.specs.Records.{flagCode, entryNumbers, putEntryAt, lastOf, foldedOf, headNumbers, putHeadAt, configurationNumbers, putConfiguration, mastershipNumbers, putMastership, targetNumbers, putTarget, connectionsNumbers, eight, putConnections}
 use Rattle.image.specs.View.{write, written}
-use Rattle.image.specs.Formed.{allUpTo, statusesOk, entryStatusesOk, flagsOk, codesOk}
-use Rattle.image.proofs.UpTo.{and-left, and-right, all-at, all-from}
-use Rattle.image.proofs.Kept.{Apart, statuses-kept, length-kept}
+use Rattle.image.specs.Formed.{allKept, statusesOk, entryStatusesOk, flagsOk, codesOk}
+use Rattle.image.proofs.UpTo.{and-left, and-right, kept-at, kept-from}
+use Rattle.image.proofs.Kept.{Apart, statuses-kept, last-kept, folded-kept}
+use Rattle.image.proofs.Scanned.{Room}
 use Rattle.image.proofs.Sized.{SizedEntry, SizedConnections, code-low, progress-low, flag-low, entry-room, configuration-room, target-room, connections-room, eight-all}
-use Rattle.image.proofs.Shown.{Fits, FitsAll, grown, entries-apart, entry-outside, grow-outside, length-write, count-write, grown-few}
+use Rattle.image.proofs.Shown.{Fits, FitsAll, entries-apart, entry-outside, grow-outside, length-write, ends-write, room-write, rest-fits}
 
 -- ---- the flags, in the three runs where they lie
 abbrev pub stateOk : List ℕ → Bool
@@ -80,26 +81,29 @@ stored-statuses m at t q =
 
 -- ---- an image of which the codes are codes
 pub record Codes (l : List ℕ) : Type 0 where
-  pub entries : (k : ℕ) → 1 ≤ k → k ≤ logLength l → statusesOk l (placeOf k) ≡ true
+  pub entries : (k : ℕ) → foldedOf l < k → k ≤ lastOf l → statusesOk l (placeOf k) ≡ true
   pub state : stateOk (stateRun l) ≡ true
   pub running : runningOk (targetRun l) ≡ true
   pub nodes : nodesOk (nodesRun l) ≡ true
 
 pub codes : (l : List ℕ) → codesOk l ≡ true → Codes l
 codes l h =
-    let e : (stateOk (stateRun l) && (runningOk (targetRun l) && nodesOk (nodesRun l))) ≡ true = sym (flags-are l) ∙ and-right (allUpTo (entryStatusesOk l) (logLength l)) (flagsOk l) h in
+    let g : (allKept (entryStatusesOk l) (foldedOf l) (lastOf l) && flagsOk l) ≡ true = and-right (leb (foldedOf l) (lastOf l)) _ h in
+    let e : (stateOk (stateRun l) && (runningOk (targetRun l) && nodesOk (nodesRun l))) ≡ true =
+    sym (flags-are l) ∙ and-right (allKept (entryStatusesOk l) (foldedOf l) (lastOf l)) (flagsOk l) g in
     let r : (runningOk (targetRun l) && nodesOk (nodesRun l)) ≡ true = and-right (stateOk (stateRun l)) _ e in
     record {
-      entries = all-at (entryStatusesOk l) (logLength l) (and-left (allUpTo (entryStatusesOk l) (logLength l)) (flagsOk l) h);
+      entries = kept-at (entryStatusesOk l) (foldedOf l) (lastOf l) (and-left (allKept (entryStatusesOk l) (foldedOf l) (lastOf l)) (flagsOk l) g);
       state = and-left (stateOk (stateRun l)) _ e;
       running = and-left (runningOk (targetRun l)) _ r;
       nodes = and-right (runningOk (targetRun l)) _ r;
     }
 
-pub codes-ok : (l : List ℕ) → Codes l → codesOk l ≡ true
-codes-ok l c =
-    and-both (allUpTo (entryStatusesOk l) (logLength l)) (flagsOk l) (all-from (entryStatusesOk l) (logLength l) (c .entries))
-    (flags-are l ∙ and-both (stateOk (stateRun l)) _ (c .state) (and-both (runningOk (targetRun l)) (nodesOk (nodesRun l)) (c .running) (c .nodes)))
+pub codes-ok : (l : List ℕ) → foldedOf l ≤ lastOf l → Codes l → codesOk l ≡ true
+codes-ok l f c =
+    and-both (leb (foldedOf l) (lastOf l)) _ (le-leb _ _ f)
+    (and-both (allKept (entryStatusesOk l) (foldedOf l) (lastOf l)) (flagsOk l) (kept-from (entryStatusesOk l) (foldedOf l) (lastOf l) (c .entries))
+    (flags-are l ∙ and-both (stateOk (stateRun l)) _ (c .state) (and-both (runningOk (targetRun l)) (nodesOk (nodesRun l)) (c .running) (c .nodes))))
 
 -- ---- what a store changes, from a to below e
 module _ (l m : List ℕ) (a e : ℕ) (o : Outside l m a e) (c : Codes l) where
@@ -113,66 +117,94 @@ module _ (l m : List ℕ) (a e : ℕ) (o : Outside l m a e) (c : Codes l) where
   same-nodes h = ap (λ (x : List ℕ). nodesOk x) (fields-kept l m a e o connectionsWidths connectionsAt h) ∙ c .nodes
 
   -- before the flags
-  below : ((k : ℕ) → 1 ≤ k → k ≤ logLength m → statusesOk m (placeOf k) ≡ true) → e ≤ configurationAt → Codes m
+  below : ((k : ℕ) → foldedOf m < k → k ≤ lastOf m → statusesOk m (placeOf k) ≡ true) → e ≤ configurationAt → Codes m
   below h q = record { entries = h; state = same-state (inr (omega arith)); running = same-running (inr (omega arith)); nodes = same-nodes (inr (omega arith)) }
 
-  -- past the log
-  same-statuses : lengthAt + 2 ≤ a → logLength l ≤ 128 → (k : ℕ) → 1 ≤ k → k ≤ logLength m → statusesOk m (placeOf k) ≡ true
-  same-statuses p f k x y =
-      let n : logLength m ≡ logLength l = length-kept l m a e o (inl p) in statuses-kept l m a e o k (inl (omega arith)) ∙ c .entries k x (omega arith)
+  -- past them
+  above : ((k : ℕ) → foldedOf m < k → k ≤ lastOf m → statusesOk m (placeOf k) ≡ true) → foldedAt ≤ a → Codes m
+  above h q = record { entries = h; state = same-state (inl (omega arith)); running = same-running (inl (omega arith)); nodes = same-nodes (inl (omega arith)) }
 
-module _ (l : List ℕ) (z : length l ≡ imageLength) (f : logLength l ≤ 128) (c : Codes l) where
+  -- past the ring, where no number is kept that was not
+  same-statuses : lastAt + 2 ≤ a → foldedOf l ≤ foldedOf m → (k : ℕ) → foldedOf m < k → k ≤ lastOf m → statusesOk m (placeOf k) ≡ true
+  same-statuses p g k x y =
+      let n : lastOf m ≡ lastOf l = last-kept l m a e o (inl p) in statuses-kept l m a e o k (inl (omega arith)) ∙ c .entries k (omega arith) (omega arith)
+
+  same-fold : e ≤ foldedAt → foldedOf l ≤ foldedOf m
+  same-fold h = omega (arith, folded-kept l m a e o (inr h))
+
+module _ (l : List ℕ) (z : length l ≡ imageLength) (f : Room (foldedOf l) (lastOf l)) (c : Codes l) where
   -- ---- entries
-  stored : (i : ℕ) (t : Transaction) → SizedEntry t → i ≤ 128 → statusesOk (putEntryAt l i t) (placeOf i) ≡ true
+  stored : (i : ℕ) (t : Transaction) → SizedEntry t → statusesOk (putEntryAt l i t) (placeOf i) ≡ true
   unfolding putEntryAt
-  stored i t h k = stored-statuses _ (placeOf i) t (puts-same entryWidths (entryNumbers t) l (placeOf i) (entry-room t h) (omega arith))
+  stored i t h = stored-statuses _ (placeOf i) t (puts-same entryWidths (entryNumbers t) l (placeOf i) (entry-room t h) (omega arith))
 
-  entry-codes : (i : ℕ) (t : Transaction) → SizedEntry t → (1 ≤ i) × (i ≤ logLength l) → Codes (putEntryAt l i t)
+  -- another kept number's
+  others : (i : ℕ) (t : Transaction) → foldedOf l < i → i ≤ foldedOf l + 128 → (k : ℕ) → foldedOf l < k → k ≤ lastOf l → (k ≡ i → ⊥)
+      → statusesOk (putEntryAt l i t) (placeOf k) ≡ true
+  others i t p q k u v d =
+      statuses-kept l (putEntryAt l i t) _ _ (entry-outside l z f i t) k (entries-apart (foldedOf l) i k p q u (omega (arith, f .1 .0)) d) ∙ c .entries k u v
+
+  entry-codes : (i : ℕ) (t : Transaction) → SizedEntry t → (foldedOf l < i) × (i ≤ lastOf l) → Codes (putEntryAt l i t)
   entry-codes i t h b =
       let m = putEntryAt l i t in
       let o : Outside l m (placeOf i) (placeOf i + 36) = entry-outside l z f i t in
-      let n : logLength m ≡ logLength l = length-kept l m _ _ o (inr (omega (arith, b .0, b .1))) in
-      below l m _ _ o c (λ k p q. go k p (omega arith) (eqb k i) refl) (omega (arith, b .0, b .1))
+      let x : placeOf i + 36 ≤ lastAt = omega arith in
+      let n : lastOf m ≡ lastOf l = last-kept l m _ _ o (inr x) in
+      let g : foldedOf m ≡ foldedOf l = folded-kept l m _ _ o (inr (omega arith)) in
+      below l m _ _ o c (λ k p q. go k (omega arith) (omega arith) (eqb k i) refl) (omega arith)
     where
-      go : (k : ℕ) → 1 ≤ k → k ≤ logLength l → (x : Bool) → eqb k i ≡ x → statusesOk (putEntryAt l i t) (placeOf k) ≡ true
-      go k p q true e = subst (λ (x : ℕ). statusesOk (putEntryAt l i t) (placeOf x) ≡ true) (sym (eqb-true k i e)) (stored i t h (omega (arith, b .1)))
-      go k p q false e =
-          statuses-kept l (putEntryAt l i t) _ _ (entry-outside l z f i t) k (entries-apart i k (b .0) p (eqb-false k i e)) ∙ c .entries k p q
+      go : (k : ℕ) → foldedOf l < k → k ≤ lastOf l → (x : Bool) → eqb k i ≡ x → statusesOk (putEntryAt l i t) (placeOf k) ≡ true
+      go k p q true e = subst (λ (x : ℕ). statusesOk (putEntryAt l i t) (placeOf x) ≡ true) (sym (eqb-true k i e)) (stored i t h)
+      go k p q false e = others i t (b .0) (omega (arith, b .1, f .1 .0)) k p q (eqb-false k i e)
 
-  grow-codes : (t : Transaction) → SizedEntry t → logLength l < 128 → Codes (putField (putEntryAt l (logLength l + 1) t) lengthAt 2 (logLength l + 1))
+  grow-codes : (t : Transaction) → SizedEntry t → (lastOf l < foldedOf l + 128) × (lastOf l < 65535)
+      → Codes (putField (putEntryAt l (lastOf l + 1) t) lastAt 2 (lastOf l + 1))
   unfolding write
   grow-codes t h b =
-      let n = logLength l in
+      let n = lastOf l in
       let l1 = putEntryAt l (n + 1) t in
-      let m = putField l1 lengthAt 2 (n + 1) in
-      let w : logLength m ≡ n + 1 = count-write l z f (grow t) (h, b) in
-      below l m _ _ (grow-outside l z f t b) c (λ k p q. go k p (omega arith) (ltb k (n + 1)) refl) (omega arith)
+      let m = putField l1 lastAt 2 (n + 1) in
+      let w = ends-write l z f (grow t) (h, b) in
+      below l m _ _ (grow-outside l z f t) c (λ k p q. go k (omega (arith, w .0)) (omega (arith, w .1)) (ltb k (n + 1)) refl) (omega arith)
     where
-      up : (k : ℕ) → k ≤ 128 → statusesOk (putField (putEntryAt l (logLength l + 1) t) lengthAt 2 (logLength l + 1)) (placeOf k) ≡ statusesOk (putEntryAt l (logLength l + 1) t) (placeOf k)
-      up k q =
-          statuses-kept (putEntryAt l (logLength l + 1) t) _ lengthAt (lengthAt + 2) (put-outside 2 (putEntryAt l (logLength l + 1) t) lengthAt (logLength l + 1)) k (inl (omega arith))
+      up : (k : ℕ) → statusesOk (putField (putEntryAt l (lastOf l + 1) t) lastAt 2 (lastOf l + 1)) (placeOf k) ≡ statusesOk (putEntryAt l (lastOf l + 1) t) (placeOf k)
+      up k =
+          statuses-kept (putEntryAt l (lastOf l + 1) t) _ lastAt (lastAt + 2) (put-outside 2 (putEntryAt l (lastOf l + 1) t) lastAt (lastOf l + 1)) k (inl (omega arith))
 
-      go : (k : ℕ) → 1 ≤ k → k ≤ logLength l + 1 → (x : Bool) → ltb k (logLength l + 1) ≡ x
-          → statusesOk (putField (putEntryAt l (logLength l + 1) t) lengthAt 2 (logLength l + 1)) (placeOf k) ≡ true
+      go : (k : ℕ) → foldedOf l < k → k ≤ lastOf l + 1 → (x : Bool) → ltb k (lastOf l + 1) ≡ x
+          → statusesOk (putField (putEntryAt l (lastOf l + 1) t) lastAt 2 (lastOf l + 1)) (placeOf k) ≡ true
       go k p q true e =
-          let d : k < logLength l + 1 = ltb-true k (logLength l + 1) e in
-          up k (omega arith) ∙ statuses-kept l (putEntryAt l (logLength l + 1) t) _ _ (entry-outside l z f (logLength l + 1) t) k (inl (omega arith)) ∙ c .entries k p (omega arith)
+          let d : k < lastOf l + 1 = ltb-true k (lastOf l + 1) e in
+          up k ∙ others (lastOf l + 1) t (omega (arith, f .0)) (omega (arith, b .0)) k p (omega arith) (λ y. absurd (omega arith))
       go k p q false e =
-          let d : logLength l + 1 ≡ k = omega (arith, ltb-false k (logLength l + 1) e) in
-          up k (omega arith) ∙ subst (λ (x : ℕ). statusesOk (putEntryAt l (logLength l + 1) t) (placeOf x) ≡ true) d (stored (logLength l + 1) t h (omega arith))
+          let d : lastOf l + 1 ≡ k = omega (arith, ltb-false k (lastOf l + 1) e) in
+          up k ∙ subst (λ (x : ℕ). statusesOk (putEntryAt l (lastOf l + 1) t) (placeOf x) ≡ true) d (stored (lastOf l + 1) t h)
+
+  -- ---- the last fold: fewer are kept
+  fold-codes : (b : ℕ) → (foldedOf l ≤ b) × (b ≤ lastOf l) → foldedOf (putField l foldedAt 2 b) ≡ b → Codes (putField l foldedAt 2 b)
+  fold-codes b h g =
+      let o : Outside l (putField l foldedAt 2 b) foldedAt (foldedAt + 2) = put-outside 2 l foldedAt b in
+      above l _ _ _ o c (same-statuses l _ _ _ o c (omega arith) (omega (arith, h .0))) (omega arith)
+
+  base-codes : (p v : ℕ) → p < 32 → Codes (putField l (valuesAt ofBase + 2 * p) 2 v)
+  base-codes p v h =
+      let o : Outside l (putField l (valuesAt ofBase + 2 * p) 2 v) (valuesAt ofBase + 2 * p) (valuesAt ofBase + 2 * p + 2) = put-outside 2 l (valuesAt ofBase + 2 * p) v in
+      let g : foldedOf (putField l (valuesAt ofBase + 2 * p) 2 v) ≡ foldedOf l = folded-kept l _ _ _ o (inl (omega arith)) in
+      above l _ _ _ o c (same-statuses l _ _ _ o c (omega arith) (omega arith)) (omega arith)
 
   -- ---- past the log
-  put-codes : (at x : ℕ) → lengthAt + 2 ≤ at → at + 2 ≤ configurationAt → Codes (putField l at 2 x)
-  put-codes at x p q = let o : Outside l (putField l at 2 x) at (at + 2) = put-outside 2 l at x in below l _ _ _ o c (same-statuses l _ _ _ o c p f) q
+  put-codes : (at x : ℕ) → lastAt + 2 ≤ at → at + 2 ≤ configurationAt → Codes (putField l at 2 x)
+  put-codes at x p q = let o : Outside l (putField l at 2 x) at (at + 2) = put-outside 2 l at x in below l _ _ _ o c (same-statuses l _ _ _ o c p (same-fold l _ _ _ o c (omega arith))) q
 
-  puts-codes : (ws xs : List ℕ) (at : ℕ) → lengthAt + 2 ≤ at → at + total ws ≤ configurationAt → Codes (putFields l at ws xs)
+  puts-codes : (ws xs : List ℕ) (at : ℕ) → lastAt + 2 ≤ at → at + total ws ≤ configurationAt → Codes (putFields l at ws xs)
   puts-codes ws xs at p q =
-      let o : Outside l (putFields l at ws xs) at (at + total ws) = puts-outside ws xs l at in below l _ _ _ o c (same-statuses l _ _ _ o c p f) q
+      let o : Outside l (putFields l at ws xs) at (at + total ws) = puts-outside ws xs l at in below l _ _ _ o c (same-statuses l _ _ _ o c p (same-fold l _ _ _ o c (omega arith))) q
 
   value-codes : (x : Bool) (b : Table) (p v : ℕ) → ltb p 32 ≡ x → Codes (cond x (putField l (valuesAt b + 2 * p) 2 v) l)
   value-codes true ofCommitted p v e = put-codes _ v (omega arith) (omega (arith, ltb-true p 32 e))
   value-codes true ofApplied p v e = put-codes _ v (omega arith) (omega (arith, ltb-true p 32 e))
   value-codes true ofTarget p v e = put-codes _ v (omega arith) (omega (arith, ltb-true p 32 e))
+  value-codes true ofBase p v e = base-codes p v (ltb-true p 32 e)
   value-codes false b p v e = c
 
   configuration-codes : (g : Configuration) → g .term .0 < 4294967296 → Codes (putConfiguration l g)
@@ -181,7 +213,7 @@ module _ (l : List ℕ) (z : length l ≡ imageLength) (f : logLength l ≤ 128)
       let m = putFields l configurationAt configurationWidths (configurationNumbers g) in
       let o : Outside l m configurationAt (configurationAt + 5) = puts-outside configurationWidths (configurationNumbers g) l configurationAt in
       record {
-        entries = same-statuses l m _ _ o c (omega arith) f;
+        entries = same-statuses l m _ _ o c (omega arith) (same-fold l m _ _ o c (omega arith));
         state = ap (λ (x : List ℕ). stateOk x) (puts-same configurationWidths (configurationNumbers g) l configurationAt (configuration-room g h) (omega arith)) ∙ state-ok g;
         running = same-running l m _ _ o c (inr (omega arith));
         nodes = same-nodes l m _ _ o c (inr (omega arith));
@@ -193,7 +225,7 @@ module _ (l : List ℕ) (z : length l ≡ imageLength) (f : logLength l ≤ 128)
       let m = putFields l mastershipAt mastershipWidths (mastershipNumbers x) in
       let o : Outside l m mastershipAt (mastershipAt + 9) = puts-outside mastershipWidths (mastershipNumbers x) l mastershipAt in
       record {
-        entries = same-statuses l m _ _ o c (omega arith) f;
+        entries = same-statuses l m _ _ o c (omega arith) (same-fold l m _ _ o c (omega arith));
         state = same-state l m _ _ o c (inl (omega arith));
         running = same-running l m _ _ o c (inr (omega arith));
         nodes = same-nodes l m _ _ o c (inr (omega arith));
@@ -205,7 +237,7 @@ module _ (l : List ℕ) (z : length l ≡ imageLength) (f : logLength l ≤ 128)
       let m = putFields l targetAt targetWidths (targetNumbers t) in
       let o : Outside l m targetAt (targetAt + 5) = puts-outside targetWidths (targetNumbers t) l targetAt in
       record {
-        entries = same-statuses l m _ _ o c (omega arith) f;
+        entries = same-statuses l m _ _ o c (omega arith) (same-fold l m _ _ o c (omega arith));
         state = same-state l m _ _ o c (inl (omega arith));
         running = ap (λ (x : List ℕ). runningOk x) (puts-same targetWidths (targetNumbers t) l targetAt (target-room t h) (omega arith)) ∙ running-ok t;
         nodes = same-nodes l m _ _ o c (inr (omega arith));
@@ -219,17 +251,18 @@ module _ (l : List ℕ) (z : length l ≡ imageLength) (f : logLength l ≤ 128)
       let o : Outside l m connectionsAt (connectionsAt + 40) = puts-outside connectionsWidths ns l connectionsAt in
       let r : Fit connectionsWidths ns = subst (λ (y : List Connection). Fit connectionsWidths (connectionsNumbers y)) (eight-all xs (h .size)) (connections-room xs h) in
       record {
-        entries = same-statuses l m _ _ o c (omega arith) f;
+        entries = same-statuses l m _ _ o c (omega arith) (same-fold l m _ _ o c (omega arith));
         state = same-state l m _ _ o c (inl (omega arith));
         running = same-running l m _ _ o c (inl (omega arith));
         nodes = ap (λ (x : List ℕ). nodesOk x) (puts-same connectionsWidths ns l connectionsAt r (omega arith)) ∙ nodes-ok xs;
       }
 
   -- ---- any store
-  pub write-codes : (e : Store) → Fits (logLength l) e → Codes (write l e)
+  pub write-codes : (e : Store) → Fits (foldedOf l) (lastOf l) e → Codes (write l e)
   unfolding write putHeadAt
   write-codes (grow t) h = grow-codes t (h .0) (h .1)
   write-codes (entry i t) h = entry-codes i t (h .0) (h .1)
+  write-codes (fold b) h = fold-codes (b .0) h (ends-write l z f (fold b) h .0)
   write-codes (change n) h = put-codes changeAt (n .0) (omega arith) (omega arith)
   write-codes (committedHead k) h = puts-codes headWidths (headNumbers k) committedAt (omega arith) (omega arith)
   write-codes (appliedHead k) h = puts-codes headWidths (headNumbers k) appliedAt (omega arith) (omega arith)
@@ -241,9 +274,9 @@ module _ (l : List ℕ) (z : length l ≡ imageLength) (f : logLength l ≤ 128)
   write-codes (target t) h = target-codes t h
 
 -- ---- any row of stores
-pub codes-written : (es : List Store) (l : List ℕ) → length l ≡ imageLength → logLength l ≤ 128 → FitsAll (logLength l) es → Codes l → Codes (written l es)
+pub codes-written : (es : List Store) (l : List ℕ) → length l ≡ imageLength → Room (foldedOf l) (lastOf l) → FitsAll (foldedOf l) (lastOf l) es → Codes l
+    → Codes (written l es) × Room (foldedOf (written l es)) (lastOf (written l es))
 unfolding written
-codes-written [] l z f h c = c
+codes-written [] l z f h c = (c, f)
 codes-written (e ∷ es) l z f h c =
-    let n : logLength (write l e) ≡ grown (logLength l) e = count-write l z f e (h .0) in
-    codes-written es (write l e) (length-write l z f e) (omega (arith, grown-few (logLength l) e (h .0) f)) (rw n (h .1)) (write-codes l z f c e (h .0))
+    codes-written es (write l e) (length-write l z f e) (room-write l z f e (h .0)) (rest-fits l z f e es h) (write-codes l z f c e (h .0))

@@ -8,9 +8,9 @@ use lib.ListN.{set}
 use Rattle.fields.specs.Field.{putField, putFields}
 use Rattle.fields.proofs.Laws.{Bytes}
 use Rattle.machine.proofs.Entries.{set-all}
-use Rattle.machine.specs.Stores.{Store, grow, entry, change, committedHead, appliedHead, value, targetValues, configuration, mastership, connections, target, ofTarget}
-use Rattle.image.specs.Layout.{entryWidths, headWidths, tableWidths, configurationWidths, mastershipWidths, targetWidths, connectionsWidths, placeOf, lengthAt, changeAt, committedAt, appliedAt, valuesAt, configurationAt, mastershipAt, targetAt, connectionsAt}
-use Rattle.image.specs.Records.{entryNumbers, putEntryAt, logLength, headNumbers, putHeadAt, configurationNumbers, putConfiguration, mastershipNumbers, putMastership, targetNumbers, putTarget, connectionsNumbers, eight, putConnections}
+use Rattle.machine.specs.Stores.{Store, grow, entry, fold, change, committedHead, appliedHead, value, targetValues, configuration, mastership, connections, target, ofTarget}
+use Rattle.image.specs.Layout.{entryWidths, headWidths, tableWidths, configurationWidths, mastershipWidths, targetWidths, connectionsWidths, placeOf, lastAt, changeAt, committedAt, appliedAt, valuesAt, configurationAt, mastershipAt, targetAt, connectionsAt, foldedAt}
+use Rattle.image.specs.Records.{entryNumbers, putEntryAt, lastOf, headNumbers, putHeadAt, configurationNumbers, putConfiguration, mastershipNumbers, putMastership, targetNumbers, putTarget, connectionsNumbers, eight, putConnections}
 use Rattle.image.specs.View.{write, written}
 
 pub bytes-put : (w : ℕ) (l : List ℕ) (at x : ℕ) → Bytes l → Bytes (putField l at w x)
@@ -31,8 +31,9 @@ bytes-if false l m p q = q
 bytes-write : (l : List ℕ) (e : Store) → Bytes l → Bytes (write l e)
 unfolding write putEntryAt putHeadAt putConfiguration putMastership putConnections putTarget
 bytes-write l (grow t) h =
-    bytes-put 2 (putFields l (placeOf (logLength l + 1)) entryWidths (entryNumbers t)) lengthAt (logLength l + 1) (bytes-puts entryWidths (entryNumbers t) l (placeOf (logLength l + 1)) h)
+    bytes-put 2 (putFields l (placeOf (lastOf l + 1)) entryWidths (entryNumbers t)) lastAt (lastOf l + 1) (bytes-puts entryWidths (entryNumbers t) l (placeOf (lastOf l + 1)) h)
 bytes-write l (entry i t) h = bytes-puts entryWidths (entryNumbers t) l (placeOf i) h
+bytes-write l (fold b) h = bytes-put 2 l foldedAt (b .0) h
 bytes-write l (change n) h = bytes-put 2 l changeAt (n .0) h
 bytes-write l (committedHead k) h = bytes-puts headWidths (headNumbers k) l committedAt h
 bytes-write l (appliedHead k) h = bytes-puts headWidths (headNumbers k) l appliedAt h

@@ -1,9 +1,9 @@
 -- A refusal stores nothing. Assumes nothing.
 use Prim.Native.Nat.{ℕ}
 use mathlib.Core.Path.{_≡_, refl, ap}
-use mathlib.Core.Bool.{Bool, true, false, cond}
+use mathlib.Core.Bool.{Bool, true, false, _&&_, cond}
 use mathlib.Core.List.{List, []}
-use lib.Dec.{eqb, ltb}
+use lib.Dec.{eqb, ltb, leb}
 use lib.ListN.{length}
 use Rattle.kinds.specs.declared.Transaction.{Transaction}
 use Rattle.kinds.specs.declared.Head.{Head}
@@ -26,11 +26,13 @@ use Rattle.rules.specs.CommitRollback as job3
 use Rattle.rules.specs.ApplyChange as job2
 use Rattle.rules.specs.ApplyRollback as job4
 use Rattle.rules.specs.Outside as outside
-use Rattle.machine.specs.State.{State, entryOf, inLog, isNode, nodeOf, isMaster, reachesTarget, lineOpenFor}
+use Rattle.machine.specs.State.{State, entryOf, last, inLog, isKept, isNode, nodeOf, isMaster, reachesTarget, lineOpenFor}
 use Rattle.machine.specs.Settled.{settled}
+use Rattle.machine.specs.Rest.{restOf}
+use Rattle.machine.specs.Folding.{mayFold}
 use Rattle.machine.specs.Rows.{rowsBy, rowsOf}
 use Rattle.machine.specs.Calls as calls
-use Rattle.machine.specs.Calls.{Call, Outcome, append, start, stop, connect, disconnect, master, sync, work, unless, validChange, present, restOf, planOf, commits, planned, workOk, decide}
+use Rattle.machine.specs.Calls.{Call, Outcome, append, start, stop, connect, disconnect, master, sync, work, foldTo, unless, validChange, present, planOf, commits, planned, workOk, decide}
 use Rattle.image.specs.View.{view}
 use Rattle.image.specs.Formed.{formed}
 use Rattle.controller.specs.Claims.{outcomeOf}
@@ -114,8 +116,8 @@ module _ (s : State) where
   -- ---- every call
   decide-quiet : (c : Call) → Quiet (decide s c)
   unfolding decide
-  decide-quiet (append ps) = unless-quiet 3 (validChange ps) _ (unless-quiet 4 (ltb (length (s .log)) 128) _ (λ x. absurd (x refl)))
-  decide-quiet (calls.rollback i) = unless-quiet 5 (inLog s i) _ (unless-quiet 6 (outside.mayRollBack (entryOf (s .log) i)) _ (λ x. absurd (x refl)))
+  decide-quiet (append ps) = unless-quiet 3 (validChange ps) _ (unless-quiet 4 (ltb (length (s .log .entries)) 128) _ (unless-quiet 9 (ltb (last (s .log)) 65535) _ (λ x. absurd (x refl))))
+  decide-quiet (calls.rollback i) = unless-quiet 5 (inLog s i) _ (unless-quiet 18 (isKept s i) _ (unless-quiet 6 (outside.mayRollBack (entryOf (s .log) i)) _ (λ x. absurd (x refl))))
   decide-quiet start = let a = outside.start (s .net .target) .answer in unless-quiet a (eqb a 0) _ (λ x. absurd (x refl))
   decide-quiet stop = let a = outside.stop (s .net .target) .answer in unless-quiet a (eqb a 0) _ (λ x. absurd (x refl))
   decide-quiet (connect n) =
@@ -129,7 +131,8 @@ module _ (s : State) where
       unless-quiet 2 (isNode n) _ (unless-quiet a (eqb a 0) _ (λ x. absurd (x refl)))
   decide-quiet (work n j i r c) =
       unless-quiet 2 (workOk n j r c) _
-      (unless-quiet 5 (inLog s i) _ (unless-quiet 10 (isMaster (s .net) n) _ (planned-quiet j (planOf s n j i (eqb r 0)) i c (plan-quiet n j i (eqb r 0)))))
+      (unless-quiet 5 (inLog s i) _ (unless-quiet 18 (isKept s i) _ (unless-quiet 10 (isMaster (s .net) n) _ (planned-quiet j (planOf s n j i (eqb r 0)) i c (plan-quiet n j i (eqb r 0))))))
+  decide-quiet (foldTo b) = unless-quiet 5 (isKept s b && leb b (last (s .log))) _ (unless-quiet 17 (mayFold s b) _ (λ x. absurd (x refl)))
 
 -- refusal 1 too
 pub refusal-stores-nothing : (l : List ℕ) (c : Call) → Quiet (outcomeOf l c)

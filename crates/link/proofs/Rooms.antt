@@ -1,8 +1,8 @@
--- What a call decides to store has room: every number in its field, every entry in the log. And only append makes the
--- log longer. Assumes nothing.
+-- What a call decides to store has room: every number in its field, every entry kept. And only append gives a number, only
+-- a fold moves the last fold. Assumes nothing.
 use Prim.Native.Nat.{ℕ, zero, suc, _+_, _≤_, _<_}
 use mathlib.Core.Path.{_≡_, refl, sym, _∙_, subst}
-use mathlib.Core.Bool.{Bool, true, false, _&&_, _||_, cond}
+use mathlib.Core.Bool.{Bool, true, false, _&&_, _||_, cond, true≢false}
 use mathlib.Core.List.{List, [], _∷_, _++_, map}
 use native.Mathlib.Omega.{arith}
 use borrow.Author.Tests.{leb-true, leb-false, ltb-true}
@@ -41,35 +41,47 @@ use Rattle.rules.specs.CommitRollback as job3
 use Rattle.rules.specs.ApplyChange as job2
 use Rattle.rules.specs.ApplyRollback as job4
 use Rattle.rules.specs.Outside as outside
-use Rattle.machine.specs.State.{State, entryOf, inLog, isNode, nodeOf, putNode, never, isMaster, reachesTarget, lineOpenFor}
+use Rattle.machine.specs.State.{Log, State, entryOf, last, inLog, isKept, isNode, nodeOf, putNode, never, isMaster, reachesTarget, lineOpenFor}
 use Rattle.machine.specs.Settled.{settled}
-use Rattle.machine.specs.Stores.{Table, ofCommitted, ofApplied, ofTarget, Store, grow, entry, value, targetValues, configuration, mastership, connections, target}
+use Rattle.machine.specs.Stores.{Table, ofCommitted, ofApplied, ofTarget, ofBase, Store, grow, entry, fold, value, targetValues, configuration, mastership, connections, target}
 use Rattle.machine.specs.Stores as store
 use Rattle.machine.specs.Rows.{layOne, layAt, overlay, laid, entryRow, changeRow, headRow, thenRow, rowsBy, rowsOf}
 use Rattle.machine.specs.WellFormed.{pairsOk}
+use Rattle.machine.specs.Rest.{restOf}
+use Rattle.machine.specs.LiveList.{hops, live}
+use Rattle.machine.specs.Folding.{mayFold, baseIf, baseRow}
+use Rattle.machine.proofs.Kept as kept
 use Rattle.machine.proofs.Entries.{set-all}
 use Rattle.machine.proofs.Cases.{and-left, and-right, or-cases}
 use Rattle.machine.specs.Calls as calls
-use Rattle.machine.specs.Calls.{Pair, Call, Outcome, append, start, stop, connect, disconnect, master, sync, work, unless, validChange, valuesOk, pathOf, valueOf, appended, presentOne, present, planOf, commits, workOk, copyRow, decide}
+use Rattle.machine.specs.Calls.{Pair, Call, Outcome, append, start, stop, connect, disconnect, master, sync, work, foldTo, unless, validChange, valuesOk, pathOf, valueOf, appended, presentOne, present, planOf, commits, workOk, copyRow, decide}
 use Rattle.image.proofs.Sized.{Four, SizedEntry, SizedHead, SizedMastership, SizedTable, SizedConnections}
-use Rattle.image.proofs.Shown.{Fits, FitsAll, grown}
+use Rattle.image.proofs.Shown.{Fits, FitsAll, lastAfter, foldedAfter}
 use Rattle.link.proofs.Sizes.{Sizes, four}
 
--- ---- rows of stores that have room and leave the log's length n
-pub record Still (n : ℕ) (e : Store) : Type 0 where
-  pub fits : Fits n e
-  pub same : grown n e ≡ n
+-- ---- rows of stores that have room and leave the last fold d and the highest number n
+pub record Still (d n : ℕ) (e : Store) : Type 0 where
+  pub fits : Fits d n e
+  pub fold : foldedAfter d e ≡ d
+  pub last : lastAfter n e ≡ n
 
-pub data Stills (n : ℕ) : List Store → Type 0 where
-  none : Stills n []
-  more : {e : Store} {es : List Store} → Still n e → Stills n es → Stills n (e ∷ es)
+pub data Stills (d n : ℕ) : List Store → Type 0 where
+  none : Stills d n []
+  more : {e : Store} {es : List Store} → Still d n e → Stills d n es → Stills d n (e ∷ es)
 
-module _ (n : ℕ) where
-  pub stills-fit : {es : List Store} → Stills n es → FitsAll n es
+module _ (d n : ℕ) where
+  -- and then any row that fits
+  pub stills-then : {es : List Store} → Stills d n es → (fs : List Store) → FitsAll d n fs → FitsAll d n (es ++ fs)
+  stills-then none fs g = g
+  stills-then (more {e = e} {es = es} h k) fs g =
+      (h .fits, subst (λ (x : ℕ). FitsAll x (lastAfter n e) (es ++ fs)) (sym (h .fold)) (subst (λ (x : ℕ). FitsAll d x (es ++ fs)) (sym (h .last)) (stills-then k fs g)))
+
+  pub stills-fit : {es : List Store} → Stills d n es → FitsAll d n es
   stills-fit none = tt
-  stills-fit (more {es = es} h k) = (h .fits, subst (λ (x : ℕ). FitsAll x es) (sym (h .same)) (stills-fit k))
+  stills-fit (more {e = e} {es = es} h k) =
+      (h .fits, subst (λ (x : ℕ). FitsAll x (lastAfter n e) es) (sym (h .fold)) (subst (λ (x : ℕ). FitsAll d x es) (sym (h .last)) (stills-fit k)))
 
-  join : {a b : List Store} → Stills n a → Stills n b → Stills n (a ++ b)
+  join : {a b : List Store} → Stills d n a → Stills d n b → Stills d n (a ++ b)
   join none q = q
   join (more h p) q = more h (join p q)
 
@@ -78,46 +90,46 @@ pub record Roomy (p : Plan) : Type 0 where
   pub entry : SizedEntry (p .entry)
   pub head : SizedHead (p .head)
 
-module _ (n : ℕ) where
-  lay-still : (x : Bool) (b : Table) (p v : ℕ) → v < 65536 → Stills n (layOne x b p v)
-  lay-still true b p v h = more (record { fits = h; same = refl }) none
+module _ (d n : ℕ) where
+  lay-still : (x : Bool) (b : Table) (p v : ℕ) → v < 65536 → Stills d n (layOne x b p v)
+  lay-still true b p v h = more (record { fits = h; fold = refl; last = refl }) none
   lay-still false b p v h = none
 
-  overlay-still : (b : Table) (ps vs : List ℕ) (m : ℕ) → ((k : ℕ) → getD vs k 0 < 65536) → Stills n (overlay b ps vs m)
+  overlay-still : (b : Table) (ps vs : List ℕ) (m : ℕ) → ((k : ℕ) → getD vs k 0 < 65536) → Stills d n (overlay b ps vs m)
   unfolding overlay
   overlay-still b ps vs m h =
-      let at : (k : ℕ) → Stills n (layAt b ps vs m k) = λ k. lay-still (ltb k m) b _ _ (h k) in
-      join n (at 0) (join n (at 1) (join n (at 2) (at 3)))
+      let at : (k : ℕ) → Stills d n (layAt b ps vs m k) = λ k. lay-still (ltb k m) b _ _ (h k) in
+      join d n (at 0) (join d n (at 1) (join d n (at 2) (at 3)))
 
-  laid-still : (b : Table) (v : Lay) (t : Transaction) → SizedEntry t → Stills n (laid b v t)
+  laid-still : (b : Table) (v : Lay) (t : Transaction) → SizedEntry t → Stills d n (laid b v t)
   laid-still b Nothing t h = none
   laid-still b Values t h = overlay-still b (t .paths) (t .values) (t .count) (h .values .small)
   laid-still b Kept t h = overlay-still b (t .paths) (t .kept) (t .count) (h .kept .small)
 
-  module _ (i : ℕ) (one : 1 ≤ i) (last : i ≤ n) (few : n ≤ 128) where
-    entry-still : (p : Plan) → Roomy p → Stills n (entryRow p i)
-    entry-still p r = more {e = entry i (p .entry)} (record { fits = (r .entry, (one, last)); same = refl }) none
+  module _ (i : ℕ) (one : d < i) (last : i ≤ n) (few : n ≤ 65535) where
+    entry-still : (p : Plan) → Roomy p → Stills d n (entryRow p i)
+    entry-still p r = more {e = entry i (p .entry)} (record { fits = (r .entry, (one, last)); fold = refl; last = refl }) none
 
-    change-still : (b : Bool) → Stills n (changeRow b i)
-    change-still true = more {e = store.change (num i)} (record { fits = omega arith; same = refl }) none
+    change-still : (b : Bool) → Stills d n (changeRow b i)
+    change-still true = more {e = store.change (num i)} (record { fits = omega arith; fold = refl; last = refl }) none
     change-still false = none
 
-    head-still : (c : Bool) (p : Plan) → Roomy p → Stills n (headRow c p i)
+    head-still : (c : Bool) (p : Plan) → Roomy p → Stills d n (headRow c p i)
     head-still true p r =
-        more (record { fits = r .head; same = refl }) (join n (change-still (p .change)) (laid-still ofCommitted (p .lay) (p .entry) (r .entry)))
+        more (record { fits = r .head; fold = refl; last = refl }) (join d n (change-still (p .change)) (laid-still ofCommitted (p .lay) (p .entry) (r .entry)))
     head-still false p r =
-        join n (laid-still ofTarget (p .lay) (p .entry) (r .entry))
-        (more (record { fits = r .head; same = refl }) (laid-still ofApplied (p .lay) (p .entry) (r .entry)))
+        join d n (laid-still ofTarget (p .lay) (p .entry) (r .entry))
+        (more (record { fits = r .head; fold = refl; last = refl }) (laid-still ofApplied (p .lay) (p .entry) (r .entry)))
 
-    then-still : (cut : Bool) {a b : List Store} → Stills n a → Stills n b → Stills n (thenRow cut a b)
+    then-still : (cut : Bool) {a b : List Store} → Stills d n a → Stills d n b → Stills d n (thenRow cut a b)
     then-still true p q = p
-    then-still false p q = join n p q
+    then-still false p q = join d n p q
 
-    rows-still : (c : Bool) (p : Plan) (cut : Bool) → Roomy p → Stills n (rowsOf c p i cut)
+    rows-still : (c : Bool) (p : Plan) (cut : Bool) → Roomy p → Stills d n (rowsOf c p i cut)
     unfolding rowsOf
     rows-still c p cut r = go (p .order)
       where
-        go : (o : Order) → Stills n (rowsBy o c p i cut)
+        go : (o : Order) → Stills d n (rowsBy o c p i cut)
         go Neither = none
         go EntryOnly = entry-still p r
         go HeadOnly = head-still c p r
@@ -130,7 +142,7 @@ next-small o h = go (isFull (o .0)) refl
   where
     go : (b : Bool) → isFull (o .0) ≡ b → ordinalUnless b (o .0) .0 < 4294967296
     go true e = h
-    go false e = omega (arith, leb-false 256 (o .0) e)
+    go false e = omega (arith, leb-false 131070 (o .0) e)
 
 module _ (t : Transaction) (h : Head) (i : ℕ) (f : SizedEntry t) (g : SizedHead h) (k : i < 65536) where
   changed : (x : Side) → x .ordinal .0 < 4294967296 → SizedEntry (withChange t x)
@@ -348,32 +360,33 @@ zeros-small (suc n) zero = omega arith
 zeros-small (suc n) (suc k) = zeros-small n k
 
 -- ---- what a call decides
--- every call but append
-abbrev pub isAppend : Call → Bool
-isAppend (append ps) = true
-isAppend (calls.rollback i) = false
-isAppend start = false
-isAppend stop = false
-isAppend (connect n) = false
-isAppend (disconnect n) = false
-isAppend (master n) = false
-isAppend (sync n) = false
-isAppend (work n j i r c) = false
+-- every call but append and fold
+abbrev pub isPlain : Call → Bool
+isPlain (append ps) = false
+isPlain (calls.rollback i) = true
+isPlain start = true
+isPlain stop = true
+isPlain (connect n) = true
+isPlain (disconnect n) = true
+isPlain (master n) = true
+isPlain (sync n) = true
+isPlain (work n j i r c) = true
+isPlain (foldTo b) = false
 
 module _ (s : State) (f : Sizes s) where
   abbrev Calm : Outcome → Type 0
-  Calm o = Stills (length (s .log)) (o .stores)
+  Calm o = Stills (s .log .folded .0) (last (s .log)) (o .stores)
 
   unless-calm : (a : ℕ) (b : Bool) (o : Outcome) → (b ≡ true → Calm o) → Calm (unless a b o)
   unless-calm a true o h = h refl
   unless-calm a false o h = none
 
-  one-store : (e : Store) → Fits (length (s .log)) e → grown (length (s .log)) e ≡ length (s .log) → Stills (length (s .log)) (e ∷ [])
-  one-store e h k = more (record { fits = h; same = k }) none
+  one-store : (e : Store) → Fits (s .log .folded .0) (last (s .log)) e → foldedAfter (s .log .folded .0) e ≡ s .log .folded .0 → lastAfter (last (s .log)) e ≡ last (s .log) → Stills (s .log .folded .0) (last (s .log)) (e ∷ [])
+  one-store e h g k = more (record { fits = h; fold = g; last = k }) none
 
-  module _ (i : ℕ) (p : 1 ≤ i) (q : i ≤ length (s .log)) where
+  module _ (i : ℕ) (p : s .log .folded .0 < i) (q : i ≤ last (s .log)) where
     short : i < 65536
-    short = let d = f .few in omega arith
+    short = let d = f .room .1 .1 in omega arith
 
     job1-roomy : (ok : Bool) → Roomy (calls.job1 s i ok)
     job1-roomy ok =
@@ -381,7 +394,7 @@ module _ (s : State) (f : Sizes s) where
         let h = s .committed .head in
         commit-change t h i (f .entries i p q) (f .committed) short (nextOrdinal (h .ordinal)) (next-small (h .ordinal) (f .committed .ordinal))
         (present (s .committed .values) t) (present-small (s .committed .values) t (f .committedValues))
-        (job1.rule (t .change .commit) (job1.tests h (s .change) (calls.restOf s) (num i) ok))
+        (job1.rule (t .change .commit) (job1.tests h (s .change) (restOf s) (num i) ok))
 
     job2-roomy : (n : ℕ) (ok : Bool) → Roomy (calls.job2 s n i ok)
     job2-roomy n ok =
@@ -394,7 +407,7 @@ module _ (s : State) (f : Sizes s) where
         let t = entryOf (s .log) i in
         let h = s .committed .head in
         commit-rollback t h i (f .entries i p q) (f .committed) short (nextOrdinal (h .ordinal)) (next-small (h .ordinal) (f .committed .ordinal))
-        (job3.rule (t .rollback .commit) (job3.tests h (t .index) (calls.restOf s) (num i)))
+        (job3.rule (t .rollback .commit) (job3.tests h (t .index) (restOf s) (num i)))
 
     job4-roomy : (n : ℕ) (ok : Bool) → Roomy (calls.job4 s n i ok)
     job4-roomy n ok =
@@ -412,82 +425,124 @@ module _ (s : State) (f : Sizes s) where
         go false false true = job3-roomy
         go false false false = job4-roomy n ok
 
-  copy-calm : (b : Bool) → Stills (length (s .log)) (copyRow b (s .applied .values))
-  copy-calm true = one-store (targetValues (s .applied .values)) (f .appliedValues) refl
+  copy-calm : (b : Bool) → Stills (s .log .folded .0) (last (s .log)) (copyRow b (s .applied .values))
+  copy-calm true = one-store (targetValues (s .applied .values)) (f .appliedValues) refl refl
   copy-calm false = none
 
-  low : (i : ℕ) → inLog s i ≡ true → 1 ≤ i
-  low i e = leb-true 1 i (and-left (leb 1 i) _ e)
+  low : (i : ℕ) → isKept s i ≡ true → s .log .folded .0 < i
+  low i e = ltb-true (s .log .folded .0) i e
 
-  high : (i : ℕ) → inLog s i ≡ true → i ≤ length (s .log)
+  high : (i : ℕ) → inLog s i ≡ true → i ≤ last (s .log)
   high i e = leb-true i _ (and-right (leb 1 i) _ e)
 
-  rolled-back : (i : ℕ) → 1 ≤ i → i ≤ length (s .log) → SizedEntry (outside.rolledBack (entryOf (s .log) i))
+  rolled-back : (i : ℕ) → s .log .folded .0 < i → i ≤ last (s .log) → SizedEntry (outside.rolledBack (entryOf (s .log) i))
   rolled-back i p q =
       let e = f .entries i p q in
       record { phase = omega arith; count = e .count; index = e .index; changeOrdinal = e .changeOrdinal; rollbackOrdinal = e .rollbackOrdinal; paths = e .paths; values = e .values; kept = e .kept }
 
-  -- every call but append leaves the log's length, and what it stores has room
-  pub decide-still : (c : Call) → isAppend c ≡ false → Stills (length (s .log)) (decide s c .stores)
+  -- every call but append and fold leaves the last fold and the highest number, and what it stores has room
+  pub decide-still : (c : Call) → isPlain c ≡ true → Stills (s .log .folded .0) (last (s .log)) (decide s c .stores)
   unfolding decide
-  decide-still (append ps) e = absurd (let z : _≡_ {A = ℕ} 0 1 = cc in omega arith)
+  decide-still (append ps) e = absurd (true≢false (sym e))
+  decide-still (foldTo b) e = absurd (true≢false (sym e))
   decide-still (calls.rollback i) e =
       unless-calm 5 (inLog s i) _
-      (λ a. unless-calm 6 (outside.mayRollBack (entryOf (s .log) i)) _ (λ b. one-store _ (rolled-back i (low i a) (high i a), (low i a, high i a)) refl))
-  decide-still start e = let x = outside.start (s .net .target) in unless-calm (x .answer) (eqb (x .answer) 0) _ (λ a. one-store _ (start-small (s .net .target) (f .target)) refl)
+      (λ a. unless-calm 18 (isKept s i) _
+      (λ k. unless-calm 6 (outside.mayRollBack (entryOf (s .log) i)) _ (λ b. one-store _ (rolled-back i (low i k) (high i a), (low i k, high i a)) refl refl)))
+  decide-still start e = let x = outside.start (s .net .target) in unless-calm (x .answer) (eqb (x .answer) 0) _ (λ a. one-store _ (start-small (s .net .target) (f .target)) refl refl)
   decide-still stop e =
       let x = outside.stop (s .net .target) in
       unless-calm (x .answer) (eqb (x .answer) 0) _
-      (λ a. more (record { fits = stop-small (s .net .target) (f .target); same = refl })
-      (more (record { fits = record { size = refl; small = zeros-small 32 }; same = refl })
-      (one-store _ (record { size = length-map (s .net .connections) outside.off ∙ f .connections .size; small = off-small (s .net .connections) (f .connections .small) }) refl)))
+      (λ a. more (record { fits = stop-small (s .net .target) (f .target); fold = refl; last = refl })
+      (more (record { fits = record { size = refl; small = zeros-small 32 }; fold = refl; last = refl })
+      (one-store _ (record { size = length-map (s .net .connections) outside.off ∙ f .connections .size; small = off-small (s .net .connections) (f .connections .small) }) refl refl)))
   decide-still (connect n) e =
       let y = nodeOf (s .net .connections) n in
       let x = outside.connect y (s .net .target .running) in
       unless-calm 2 (isNode n) _
       (λ a. unless-calm (x .answer) (eqb (x .answer) 0) _
-      (λ b. one-store _ (put-node (s .net .connections) n (x .connection) (f .connections) (connect-small y (s .net .target .running) (node-small _ (f .connections) n))) refl))
+      (λ b. one-store _ (put-node (s .net .connections) n (x .connection) (f .connections) (connect-small y (s .net .target .running) (node-small _ (f .connections) n))) refl refl))
   decide-still (disconnect n) e =
       let y = nodeOf (s .net .connections) n in
       let x = outside.disconnect y in
       unless-calm 2 (isNode n) _
       (λ a. unless-calm (x .answer) (eqb (x .answer) 0) _
-      (λ b. one-store _ (put-node (s .net .connections) n (x .connection) (f .connections) (disconnect-small y (node-small _ (f .connections) n))) refl))
+      (λ b. one-store _ (put-node (s .net .connections) n (x .connection) (f .connections) (disconnect-small y (node-small _ (f .connections) n))) refl refl))
   decide-still (master n) e =
       let y = nodeOf (s .net .connections) n in
       let x = outside.master (s .net .mastership) n y in
       unless-calm 2 (isNode n) _
       (λ a. unless-calm (x .answer) (eqb (x .answer) 0) _
-      (λ b. one-store _ (master-sized (s .net .mastership) n y (leb-true n 8 (and-right (leb 1 n) _ a)) (f .mastership) (node-small _ (f .connections) n)) refl))
+      (λ b. one-store _ (master-sized (s .net .mastership) n y (leb-true n 8 (and-right (leb 1 n) _ a)) (f .mastership) (node-small _ (f .connections) n)) refl refl))
   decide-still (sync n) e =
       let x = outside.synchronise (s .net .configuration) (s .net .mastership .term) (isMaster (s .net) n) (reachesTarget (s .net) n) in
       unless-calm 2 (isNode n) _
       (λ a. unless-calm (x .answer) (eqb (x .answer) 0) _
-      (λ b. more (record { fits = sync-small (s .net .configuration) (s .net .mastership .term) (isMaster (s .net) n) (reachesTarget (s .net) n) (f .configuration) (f .mastership .term); same = refl }) (copy-calm (x .copies))))
+      (λ b. more (record { fits = sync-small (s .net .configuration) (s .net .mastership .term) (isMaster (s .net) n) (reachesTarget (s .net) n) (f .configuration) (f .mastership .term); fold = refl; last = refl }) (copy-calm (x .copies))))
   decide-still (work n j i r c) e =
       unless-calm 2 (workOk n j r c) _
       (λ a. unless-calm 5 (inLog s i) _
-      (λ b. unless-calm 10 (isMaster (s .net) n) _
-      (λ d. rows-still (length (s .log)) i (low i b) (high i b) (f .few) (commits j) (planOf s n j i (eqb r 0)) (eqb c 1) (plan-roomy i (low i b) (high i b) n j (eqb r 0)))))
+      (λ b. unless-calm 18 (isKept s i) _
+      (λ k. unless-calm 10 (isMaster (s .net) n) _
+      (λ d. rows-still (s .log .folded .0) (last (s .log)) i (low i k) (high i b) (f .room .1 .1) (commits j) (planOf s n j i (eqb r 0)) (eqb c 1)
+      (plan-roomy i (low i k) (high i b) n j (eqb r 0))))))
 
-  append-fits : (ps : List Pair) → FitsAll (length (s .log)) (decide s (append ps) .stores)
+  append-fits : (ps : List Pair) → FitsAll (s .log .folded .0) (last (s .log)) (decide s (append ps) .stores)
   unfolding decide
-  append-fits ps = go (validChange ps) refl (ltb (length (s .log)) 128) refl
+  append-fits ps = go (validChange ps) refl (ltb (length (s .log .entries)) 128) refl (ltb (last (s .log)) 65535) refl
     where
-      go : (a : Bool) → validChange ps ≡ a → (b : Bool) → ltb (length (s .log)) 128 ≡ b
-          → FitsAll (length (s .log))
-          (unless 3 a (unless 4 b (record { reply = record { answer = 0; event = Rattle.kinds.specs.Events.numbered (length (s .log) + 1) }; stores = grow (appended ps) ∷ [] })) .stores)
-      go true e true h = ((appended-sized ps e, ltb-true _ _ h), tt)
-      go true e false h = tt
-      go false e b h = tt
+      go : (a : Bool) → validChange ps ≡ a → (b : Bool) → ltb (length (s .log .entries)) 128 ≡ b → (c : Bool) → ltb (last (s .log)) 65535 ≡ c
+          → FitsAll (s .log .folded .0) (last (s .log))
+          (unless 3 a (unless 4 b (unless 9 c (record { reply = record { answer = 0; event = Rattle.kinds.specs.Events.numbered (last (s .log) + 1) }; stores = grow (appended ps) ∷ [] }))) .stores)
+      go true e true h true k = let x = ltb-true (length (s .log .entries)) 128 h in ((appended-sized ps e, (omega arith, ltb-true _ _ k)), tt)
+      go true e true h false k = tt
+      go true e false h c k = tt
+      go false e b h c k = tt
 
-  pub decide-fits : (c : Call) → FitsAll (length (s .log)) (decide s c .stores)
-  decide-fits (append ps) = append-fits ps
-  decide-fits (calls.rollback i) = stills-fit _ (decide-still (calls.rollback i) refl)
-  decide-fits start = stills-fit _ (decide-still start refl)
-  decide-fits stop = stills-fit _ (decide-still stop refl)
-  decide-fits (connect n) = stills-fit _ (decide-still (connect n) refl)
-  decide-fits (disconnect n) = stills-fit _ (decide-still (disconnect n) refl)
-  decide-fits (master n) = stills-fit _ (decide-still (master n) refl)
-  decide-fits (sync n) = stills-fit _ (decide-still (sync n) refl)
-  decide-fits (work n j i r c) = stills-fit _ (decide-still (work n j i r c) refl)
+  -- ---- fold: the base's values are the entries', and the last fold moves within the log
+  module _ (w : kept.Formed s) where
+    base-if : (x : Bool) (t : Transaction) → SizedEntry t → Stills (s .log .folded .0) (last (s .log)) (baseIf x t)
+    base-if true t h = laid-still (s .log .folded .0) (last (s .log)) ofBase Values t h
+    base-if false t h = none
+
+    base-still : (to k v : ℕ) → v ≤ last (s .log) → Stills (s .log .folded .0) (last (s .log)) (baseRow (s .log) to (hops k (s .log) v))
+    unfolding hops baseRow
+    base-still to zero v h = none
+    base-still to (suc k) v h = go (leb v (s .log .folded .0)) refl (base-still to k (entryOf (s .log) v .index .0))
+      where
+        go : (x : Bool) → leb v (s .log .folded .0) ≡ x
+            → (entryOf (s .log) v .index .0 ≤ last (s .log) → Stills (s .log .folded .0) (last (s .log)) (baseRow (s .log) to (hops k (s .log) (entryOf (s .log) v .index .0))))
+            → Stills (s .log .folded .0) (last (s .log)) (baseRow (s .log) to (cond x [] (v ∷ hops k (s .log) (entryOf (s .log) v .index .0))))
+        go true e r = none
+        go false e r =
+            let a : s .log .folded .0 < v = leb-false v (s .log .folded .0) e in
+            let b : entryOf (s .log) v .index .0 < v = w .entries v a h .below in
+            join (s .log .folded .0) (last (s .log)) (r (omega arith)) (base-if (leb v to) (entryOf (s .log) v) (f .entries v a h))
+
+    pub base-row-still : (to : ℕ) → Stills (s .log .folded .0) (last (s .log)) (baseRow (s .log) to (live s))
+    base-row-still to = base-still to _ _ (w .committed .revision)
+
+    fold-fits : (b : ℕ) → FitsAll (s .log .folded .0) (last (s .log)) (decide s (foldTo b) .stores)
+    unfolding decide
+    fold-fits b = go (isKept s b && leb b (last (s .log))) refl (mayFold s b)
+      where
+        go : (x : Bool) → (isKept s b && leb b (last (s .log))) ≡ x → (y : Bool)
+            → FitsAll (s .log .folded .0) (last (s .log)) (unless 5 x (unless 17 y (calls.accepted (baseRow (s .log) b (live s) ++ (fold (num b) ∷ [])))) .stores)
+        go true e true =
+            let p : s .log .folded .0 < b = ltb-true _ _ (and-left (isKept s b) _ e) in
+            let q : b ≤ last (s .log) = leb-true _ _ (and-right (isKept s b) _ e) in
+            stills-then (s .log .folded .0) (last (s .log)) (base-row-still b) (fold (num b) ∷ []) ((omega arith, q), tt)
+        go true e false = tt
+        go false e y = tt
+
+    pub decide-fits : (c : Call) → FitsAll (s .log .folded .0) (last (s .log)) (decide s c .stores)
+    decide-fits (append ps) = append-fits ps
+    decide-fits (calls.rollback i) = stills-fit _ _ (decide-still (calls.rollback i) refl)
+    decide-fits start = stills-fit _ _ (decide-still start refl)
+    decide-fits stop = stills-fit _ _ (decide-still stop refl)
+    decide-fits (connect n) = stills-fit _ _ (decide-still (connect n) refl)
+    decide-fits (disconnect n) = stills-fit _ _ (decide-still (disconnect n) refl)
+    decide-fits (master n) = stills-fit _ _ (decide-still (master n) refl)
+    decide-fits (sync n) = stills-fit _ _ (decide-still (sync n) refl)
+    decide-fits (work n j i r c) = stills-fit _ _ (decide-still (work n j i r c) refl)
+    decide-fits (foldTo b) = fold-fits b

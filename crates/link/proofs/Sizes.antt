@@ -8,20 +8,19 @@ use lib.ListN.{length, getD, replicate}
 use Rattle.fields.specs.Field.{field, fieldsAt}
 use Rattle.fields.proofs.Laws.{Bytes, field-lt}
 use Rattle.fields.proofs.Runs.{Fit, fields-fit, length-fields}
-use Rattle.machine.specs.State.{State, entryOf, never}
+use Rattle.machine.specs.State.{State, entryOf, last, never}
 use Rattle.machine.specs.Stores.{Table, ofCommitted, ofApplied}
 use Rattle.image.specs.Layout.{tableWidths, nodeWidths, connectionsWidths, valuesAt, connectionsAt, committedAt, appliedAt}
-use Rattle.image.specs.Records.{entryAt, logLength, headAt, configurationOf, mastershipOf, targetOf, toConnections, connectionsOf}
+use Rattle.image.specs.Records.{entryAt, headAt, configurationOf, mastershipOf, targetOf, toConnections, connectionsOf}
 use Rattle.image.specs.View.{tableOf, view}
 use Rattle.image.specs.Formed.{formed}
-use Rattle.image.proofs.UpTo.{entry-upTo}
-use Rattle.image.proofs.Scanned.{view-length, formed-few}
+use Rattle.image.proofs.Scanned.{Room, view-last, view-folded, view-entry, formed-room}
 use Rattle.image.proofs.Sized.{Four, SizedEntry, SizedHead, SizedMastership, SizedTable, SizedConnections}
 
--- ---- a state of which each number has room, over a log of at most 128
+-- ---- a state of which each number has room, with at most 128 kept, numbered up to 65,535
 pub record Sizes (s : State) : Type 0 where
-  pub few : length (s .log) ≤ 128
-  pub entries : (i : ℕ) → 1 ≤ i → i ≤ length (s .log) → SizedEntry (entryOf (s .log) i)
+  pub room : Room (s .log .folded .0) (last (s .log))
+  pub entries : (i : ℕ) → s .log .folded .0 < i → i ≤ last (s .log) → SizedEntry (entryOf (s .log) i)
   pub committed : SizedHead (s .committed .head)
   pub committedValues : SizedTable (s .committed .values)
   pub applied : SizedHead (s .applied .head)
@@ -111,13 +110,24 @@ module _ (l : List ℕ) (y : Bytes l) where
   unfolding targetOf fieldsAt
   sized-id = long _
 
+  view-room : formed l ≡ true → Room (view l .log .folded .0) (last (view l .log))
+  view-room w =
+      let k = formed-room l w in
+      let e = view-last l (k .0) in
+      let d = view-folded l in
+      (omega (arith, k .0), (omega (arith, k .1 .0), omega (arith, k .1 .1)))
+
+  view-entries : formed l ≡ true → (i : ℕ) → view l .log .folded .0 < i → i ≤ last (view l .log) → SizedEntry (entryOf (view l .log) i)
+  view-entries w i p q =
+      subst SizedEntry (sym (view-entry l i (omega (arith, view-folded l)) (omega (arith, view-last l (formed-room l w .0))))) (sized-entry i)
+
   -- the state that a well-formed image shows
   pub sizes : formed l ≡ true → Sizes (view l)
   unfolding view
   sizes w =
       record {
-        few = omega (arith, view-length l, formed-few l w);
-        entries = λ i p q. subst SizedEntry (sym (entry-upTo (entryAt l) (logLength l) i p (omega (arith, view-length l)))) (sized-entry i);
+        room = view-room w;
+        entries = view-entries w;
         committed = sized-head committedAt;
         committedValues = sized-table ofCommitted;
         applied = sized-head appliedAt;

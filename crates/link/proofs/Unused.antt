@@ -1,56 +1,105 @@
--- Entries past the log's end are not read, and only append changes one of them: the new entry's. Assumes nothing.
-use Prim.Native.Nat.{ℕ, _+_, _*_, _≤_, _<_}
+-- Slots of no number kept are not read, and only append changes one of them: the new entry's. Assumes nothing.
+use Prim.Native.Nat.{ℕ, zero, suc, _+_, _*_, _≤_, _<_}
 use mathlib.Core.Path.{_≡_, refl, ap, ap₂, sym, _∙_, subst}
-use mathlib.Core.Logic.{inl, inr}
-use mathlib.Core.Bool.{Bool, true, false, _&&_, cond}
-use mathlib.Core.List.{List, [], _∷_}
+use mathlib.Core.Logic.{_⊎_, inl, inr, ⊎-elim}
+use mathlib.Core.Bool.{Bool, true, false, _&&_, cond, true≢false}
+use mathlib.Core.List.{List, [], _∷_, _++_}
 use native.Mathlib.Omega.{arith}
-use lib.Dec.{eqb, ltb}
+use lib.Dec.{eqb, leb, ltb}
 use lib.ListN.{length, getD}
 use Rattle.kinds.specs.declared.Transaction.{Transaction}
 use Rattle.kinds.specs.declared.Reply.{Reply}
-use Rattle.fields.specs.Field.{putField, putFields}
+use Rattle.kinds.specs.Numbers.{num}
+use Rattle.fields.specs.Field.{field, putField, fieldsAt, putFields, total}
 use Rattle.fields.proofs.Laws.{Outside, Bytes, put-outside}
 use Rattle.fields.proofs.Runs.{puts-outside}
+use Rattle.machine.specs.State.{State, last, isKept}
 use Rattle.machine.specs.WellFormed.{wellFormed}
-use Rattle.machine.specs.Stores.{Table, ofCommitted, ofApplied, ofTarget, Store, grow, entry, change, committedHead, appliedHead, value, targetValues, configuration, mastership, connections, target}
-use Rattle.machine.specs.Calls.{Pair, Call, Outcome, append, unless, validChange, appended, decide}
-use Rattle.image.specs.Layout.{entryWidths, headWidths, tableWidths, configurationWidths, mastershipWidths, targetWidths, connectionsWidths, placeOf, lengthAt, changeAt, committedAt, appliedAt, valuesAt, configurationAt, mastershipAt, targetAt, connectionsAt, imageLength}
-use Rattle.image.specs.Records.{entryAt, entryNumbers, putEntryAt, logLength, headNumbers, putHeadAt, configurationNumbers, putConfiguration, mastershipNumbers, putMastership, targetNumbers, putTarget, connectionsNumbers, eight, putConnections}
-use Rattle.image.specs.View.{upTo, view, write, written}
-use Rattle.image.specs.Formed.{allUpTo, entryStatusesOk, codesOk, formed}
-use Rattle.image.proofs.UpTo.{all-same}
-use Rattle.image.proofs.Kept.{statuses-kept, length-kept, entries-kept, flags-kept}
-use Rattle.image.proofs.Scanned.{view-length}
+use Rattle.machine.specs.LiveList.{live}
+use Rattle.machine.specs.Folding.{mayFold, baseRow}
+use Rattle.machine.specs.Stores.{Table, ofCommitted, ofApplied, ofTarget, ofBase, Store, grow, entry, fold, change, committedHead, appliedHead, value, targetValues, configuration, mastership, connections, target}
+use Rattle.machine.specs.Calls as calls
+use Rattle.machine.specs.Calls.{Pair, Call, Outcome, append, foldTo, unless, accepted, validChange, appended, decide}
+use Rattle.machine.proofs.Kept as kept
+use Rattle.image.specs.Layout.{entryWidths, headWidths, tableWidths, configurationWidths, mastershipWidths, targetWidths, connectionsWidths, placeOf, lastAt, changeAt, committedAt, appliedAt, valuesAt, configurationAt, mastershipAt, targetAt, connectionsAt, foldedAt, imageLength}
+use Rattle.image.specs.Records.{toEntry, entryAt, entryNumbers, putEntryAt, lastOf, foldedOf, headNumbers, putHeadAt, configurationNumbers, putConfiguration, mastershipNumbers, putMastership, targetNumbers, putTarget, connectionsNumbers, eight, putConnections}
+use Rattle.image.specs.View.{upFrom, entriesOf, view, write, written}
+use Rattle.image.specs.Formed.{allKept, statusesOk, entryStatusesOk, flagsOk, codesOk, formed}
+use Rattle.image.proofs.UpTo.{upFrom-same, kept-same}
+use Rattle.image.proofs.Kept.{last-kept, folded-kept, flags-kept}
+use Rattle.image.proofs.Scanned.{view-last, view-folded, formed-room, formed-state}
 use Rattle.image.proofs.Shown.{shown-log}
 use Rattle.controller.specs.Claims.{outcomeOf, Claims}
+use Rattle.controller.proofs.Performed.{written-append}
 use Rattle.link.proofs.Sizes.{sizes}
-use Rattle.link.proofs.Rooms.{Still, Stills, none, more, isAppend, decide-still}
+use Rattle.link.proofs.Rooms.{Still, Stills, none, more, isPlain, decide-still, base-row-still}
 
--- ---- not read: images that agree in length, and outside the unused entries
-module _ (l m : List ℕ) (z : length m ≡ length l) (o : Outside l m (36 * logLength l) lengthAt) where
-  pub same-count : logLength m ≡ logLength l
-  same-count = length-kept l m _ _ o (inr (omega arith))
+-- a byte in use, where b is the last fold and n the highest number: past the ring, or of the entry of a number kept
+pub data Used (b n j : ℕ) : Type 0 where
+  past : lastAt ≤ j → Used b n j
+  slot : (k : ℕ) → b < k → k ≤ n → placeOf k ≤ j → j < placeOf k + 36 → Used b n j
 
-  -- show the same state
+-- images that agree in length and in every byte in use
+pub record Agree (l m : List ℕ) : Type 0 where
+  pub length : length m ≡ length l
+  pub used : (j : ℕ) → Used (foldedOf l) (lastOf l) j → getD m j 0 ≡ getD l j 0
+
+-- ---- fields of bytes that are the same
+field-same : (w : ℕ) (l m : List ℕ) (at : ℕ) → ((j : ℕ) → at ≤ j → j < at + w → getD m j 0 ≡ getD l j 0) → field m at w ≡ field l at w
+unfolding field
+field-same zero l m at h = refl
+field-same (suc w) l m at h =
+    ap₂ (λ (x y : ℕ). x + 256 * y) (h at (omega arith) (omega arith)) (field-same w l m (at + 1) (λ j p q. h j (omega arith) (omega arith)))
+
+fields-same : (ws l m : List ℕ) (at : ℕ) → ((j : ℕ) → at ≤ j → j < at + total ws → getD m j 0 ≡ getD l j 0) → fieldsAt m at ws ≡ fieldsAt l at ws
+unfolding fieldsAt
+fields-same [] l m at h = refl
+fields-same (w ∷ ws) l m at h =
+    ap₂ (λ (x : ℕ) (xs : List ℕ). x ∷ xs) (field-same w l m at (λ j p q. h j p (omega arith)))
+    (fields-same ws l m (at + w) (λ j p q. h j (omega arith) (omega arith)))
+
+-- ---- not read
+module _ (l m : List ℕ) (a : Agree l m) where
+  outside : Outside l m 0 lastAt
+  outside j h = ⊎-elim (λ x. absurd (omega arith)) (λ y. a .used j (past y)) h
+
+  pub same-last : lastOf m ≡ lastOf l
+  same-last = last-kept l m _ _ outside (inr (omega arith))
+
+  pub same-folded : foldedOf m ≡ foldedOf l
+  same-folded = folded-kept l m _ _ outside (inr (omega arith))
+
+  same-entry : (k : ℕ) → foldedOf l < k → k ≤ lastOf l → entryAt m k ≡ entryAt l k
+  unfolding entryAt
+  same-entry k u v = ap toEntry (fields-same entryWidths l m (placeOf k) (λ j p q. a .used j (slot k u v p q)))
+
+  -- they show the same state
   pub same-view : view m ≡ view l
   unfolding view
   same-view =
-      shown-log l m _ _ o (omega arith) (upTo (entryAt l) (logLength l))
-      (ap (upTo (entryAt m)) same-count ∙ entries-kept l m _ _ o (logLength l) (inl (omega arith)))
+      shown-log l m _ _ outside (omega arith) (entriesOf l)
+      (ap₂ (λ (b n : ℕ). upFrom (entryAt m) b n) same-folded same-last ∙ upFrom-same (entryAt l) (entryAt m) (foldedOf l) (lastOf l) same-entry)
+
+  same-statuses : (k : ℕ) → foldedOf l < k → k ≤ lastOf l → statusesOk m (placeOf k) ≡ statusesOk l (placeOf k)
+  unfolding statusesOk
+  same-statuses k u v =
+      let z : field m (placeOf k) 1 ≡ field l (placeOf k) 1 = field-same 1 l m (placeOf k) (λ j p q. a .used j (slot k u v p (omega arith))) in
+      let at : (d : ℕ) → d ≤ 3 → field m (placeOf k + d) 1 ≡ field l (placeOf k + d) 1 =
+      λ d e. field-same 1 l m (placeOf k + d) (λ j p q. a .used j (slot k u v (omega arith) (omega arith))) in
+      rw (z, at 1 (omega arith), at 2 (omega arith), at 3 (omega arith))
 
   same-codes : codesOk m ≡ codesOk l
   same-codes =
-      ap₂ (λ (x y : Bool). x && y)
-      (ap (allUpTo (entryStatusesOk m)) same-count
-      ∙ all-same (entryStatusesOk m) (entryStatusesOk l) (logLength l) (λ k p q. statuses-kept l m _ _ o k (inl (omega arith))))
-      (flags-kept l m _ _ o (inr (omega arith)) (inr (omega arith)) (inr (omega arith)))
+      ap₂ (λ (b n : ℕ). leb b n && (allKept (entryStatusesOk m) b n && flagsOk m)) same-folded same-last
+      ∙ ap₂ (λ (x y : Bool). leb (foldedOf l) (lastOf l) && (x && y))
+      (kept-same (entryStatusesOk m) (entryStatusesOk l) (foldedOf l) (lastOf l) same-statuses)
+      (flags-kept l m _ _ outside (inr (omega arith)) (inr (omega arith)) (inr (omega arith)))
 
   -- are both well-formed, or neither
   pub same-formed : formed m ≡ formed l
   unfolding formed
   same-formed =
-      ap₂ (λ (x y : Bool). x && y) (ap (λ (n : ℕ). eqb n imageLength) z) (ap₂ (λ (x y : Bool). x && y) same-codes (ap wellFormed same-view))
+      ap₂ (λ (x y : Bool). x && y) (ap (λ (n : ℕ). eqb n imageLength) (a .length)) (ap₂ (λ (x y : Bool). x && y) same-codes (ap wellFormed same-view))
 
   -- and have the same outcome of every call: the same reply and the same stores
   pub same-outcome : (c : Call) → outcomeOf m c ≡ outcomeOf l c
@@ -60,76 +109,127 @@ module _ (l m : List ℕ) (z : length m ≡ length l) (o : Outside l m (36 * log
   pub same-reply : (c : Call) (r r' : Reply) (l' m' : List ℕ) → Claims l c r l' → Claims m c r' m' → r' ≡ r
   same-reply c r r' l' m' p q = q .0 ∙ ap (λ (x : Outcome). x .reply) (same-outcome c) ∙ sym (p .0)
 
--- ---- not changed: the byte j of an entry past a log of n
-module _ (n j : ℕ) (a : 36 * n ≤ j) (b : j < lengthAt) (l : List ℕ) where
-  put-past : (at w x : ℕ) → lengthAt ≤ at → getD (putField l at w x) j 0 ≡ getD l j 0
-  put-past at w x h = put-outside w l at x j (inl (omega arith))
+-- ---- not changed: a byte of no entry kept
+abbrev pub Free : ℕ → ℕ → ℕ → Type 0
+Free b n j = (k : ℕ) → b < k → k ≤ n → (j < placeOf k) ⊎ (placeOf k + 36 ≤ j)
 
-  puts-past : (ws xs : List ℕ) (at : ℕ) → lengthAt ≤ at → getD (putFields l at ws xs) j 0 ≡ getD l j 0
-  puts-past ws xs at h = puts-outside ws xs l at j (inl (omega arith))
+module _ (j : ℕ) (q : j < lastAt) where
+  put-past : (l : List ℕ) (at w x : ℕ) → lastAt ≤ at → getD (putField l at w x) j 0 ≡ getD l j 0
+  put-past l at w x h = put-outside w l at x j (inl (omega arith))
 
-  value-past : (x : Bool) (at v : ℕ) → lengthAt ≤ at → getD (cond x (putField l at 2 v) l) j 0 ≡ getD l j 0
-  value-past true at v h = put-past at 2 v h
-  value-past false at v h = refl
+  puts-past : (l ws xs : List ℕ) (at : ℕ) → lastAt ≤ at → getD (putFields l at ws xs) j 0 ≡ getD l j 0
+  puts-past l ws xs at h = puts-outside ws xs l at j (inl (omega arith))
 
-  table-past : (t : Table) (p : ℕ) → lengthAt ≤ valuesAt t + 2 * p
+  value-past : (l : List ℕ) (x : Bool) (at v : ℕ) → lastAt ≤ at → getD (cond x (putField l at 2 v) l) j 0 ≡ getD l j 0
+  value-past l true at v h = put-past l at 2 v h
+  value-past l false at v h = refl
+
+  table-past : (t : Table) (p : ℕ) → lastAt ≤ valuesAt t + 2 * p
   table-past ofCommitted p = omega arith
   table-past ofApplied p = omega arith
   table-past ofTarget p = omega arith
+  table-past ofBase p = omega arith
 
-  write-unused : (e : Store) → Still n e → getD (write l e) j 0 ≡ getD l j 0
-  unfolding write putEntryAt putHeadAt putConfiguration putMastership putConnections putTarget
-  write-unused (grow t) h = absurd (omega (arith, h .same))
-  write-unused (entry i t) h = let p = h .fits .1 .0 in let q = h .fits .1 .1 in puts-outside entryWidths (entryNumbers t) l (placeOf i) j (inr (omega arith))
-  write-unused (change k) h = put-past changeAt 2 (k .0) (omega arith)
-  write-unused (committedHead k) h = puts-past headWidths (headNumbers k) committedAt (omega arith)
-  write-unused (appliedHead k) h = puts-past headWidths (headNumbers k) appliedAt (omega arith)
-  write-unused (value t p v) h = value-past (ltb p 32) (valuesAt t + 2 * p) v (table-past t p)
-  write-unused (targetValues vs) h = puts-past tableWidths vs (valuesAt ofTarget) (omega arith)
-  write-unused (configuration g) h = puts-past configurationWidths (configurationNumbers g) configurationAt (omega arith)
-  write-unused (mastership x) h = puts-past mastershipWidths (mastershipNumbers x) mastershipAt (omega arith)
-  write-unused (connections xs) h = puts-past connectionsWidths (connectionsNumbers (eight xs)) connectionsAt (omega arith)
-  write-unused (target t) h = puts-past targetWidths (targetNumbers t) targetAt (omega arith)
+  module _ (b n : ℕ) (free : Free b n j) where
+    write-unused : (l : List ℕ) (e : Store) → Still b n e → getD (write l e) j 0 ≡ getD l j 0
+    unfolding write putEntryAt putHeadAt putConfiguration putMastership putConnections putTarget
+    write-unused l (grow t) h = absurd (omega (arith, h .last))
+    write-unused l (entry i t) h = puts-outside entryWidths (entryNumbers t) l (placeOf i) j (free i (h .fits .1 .0) (h .fits .1 .1))
+    write-unused l (fold k) h = put-past l foldedAt 2 (k .0) (omega arith)
+    write-unused l (change k) h = put-past l changeAt 2 (k .0) (omega arith)
+    write-unused l (committedHead k) h = puts-past l headWidths (headNumbers k) committedAt (omega arith)
+    write-unused l (appliedHead k) h = puts-past l headWidths (headNumbers k) appliedAt (omega arith)
+    write-unused l (value t p v) h = value-past l (ltb p 32) (valuesAt t + 2 * p) v (table-past t p)
+    write-unused l (targetValues vs) h = puts-past l tableWidths vs (valuesAt ofTarget) (omega arith)
+    write-unused l (configuration g) h = puts-past l configurationWidths (configurationNumbers g) configurationAt (omega arith)
+    write-unused l (mastership x) h = puts-past l mastershipWidths (mastershipNumbers x) mastershipAt (omega arith)
+    write-unused l (connections xs) h = puts-past l connectionsWidths (connectionsNumbers (eight xs)) connectionsAt (omega arith)
+    write-unused l (target t) h = puts-past l targetWidths (targetNumbers t) targetAt (omega arith)
 
-module _ (n j : ℕ) (a : 36 * n ≤ j) (b : j < lengthAt) where
-  written-unused : {es : List Store} → Stills n es → (l : List ℕ) → getD (written l es) j 0 ≡ getD l j 0
-  unfolding written
-  written-unused none l = refl
-  written-unused (more {e = e} h k) l = written-unused k (write l e) ∙ write-unused n j a b l e h
+    written-unused : {es : List Store} → Stills b n es → (l : List ℕ) → getD (written l es) j 0 ≡ getD l j 0
+    unfolding written
+    written-unused none l = refl
+    written-unused (more {e = e} h k) l = written-unused k (write l e) ∙ write-unused l e h
 
-module _ (l : List ℕ) (j : ℕ) (b : j < lengthAt) where
-  -- every call but append leaves every byte of the unused entries
-  pub keeps-unused : (c : Call) (r : Reply) (m : List ℕ) → Claims l c r m → Bytes l → isAppend c ≡ false → 36 * logLength l ≤ j → getD m j 0 ≡ getD l j 0
+abbrev pub isAppend : Call → Bool
+isAppend (append ps) = true
+isAppend (calls.rollback i) = false
+isAppend calls.start = false
+isAppend calls.stop = false
+isAppend (calls.connect n) = false
+isAppend (calls.disconnect n) = false
+isAppend (calls.master n) = false
+isAppend (calls.sync n) = false
+isAppend (calls.work n j i r c) = false
+isAppend (foldTo b) = false
+
+module _ (l : List ℕ) (j : ℕ) (q : j < lastAt) where
+  module _ (y : Bytes l) (w : formed l ≡ true) (free : Free (foldedOf l) (lastOf l) j) where
+    here : {es : List Store} → Stills (view l .log .folded .0) (last (view l .log)) es → Stills (foldedOf l) (lastOf l) es
+    here {es} h =
+        subst (λ (n : ℕ). Stills (foldedOf l) n es) (view-last l (formed-room l w .0))
+        (subst (λ (b : ℕ). Stills b (last (view l .log)) es) (view-folded l) h)
+
+    plain : (c : Call) → isPlain c ≡ true → getD (written l (decide (view l) c .stores)) j 0 ≡ getD l j 0
+    plain c e = written-unused j q (foldedOf l) (lastOf l) free (here (decide-still (view l) (sizes l y w) c e)) l
+
+    folds : (b : ℕ) → getD (written l (decide (view l) (foldTo b) .stores)) j 0 ≡ getD l j 0
+    unfolding decide written write
+    folds b = go (isKept (view l) b && leb b (last (view l .log))) (mayFold (view l) b)
+      where
+        go : (x z : Bool) → getD (written l (unless 5 x (unless 17 z (accepted (baseRow (view l .log) b (live (view l)) ++ (fold (num b) ∷ [])))) .stores)) j 0 ≡ getD l j 0
+        go true true =
+            ap (λ (m : List ℕ). getD m j 0) (written-append l (baseRow (view l .log) b (live (view l))) (fold (num b) ∷ []))
+            ∙ put-past j q (written l (baseRow (view l .log) b (live (view l)))) foldedAt 2 b (omega arith)
+            ∙ written-unused j q (foldedOf l) (lastOf l) free (here (base-row-still (view l) (sizes l y w) (kept.formed (view l) (formed-state l w)) b)) l
+        go true false = refl
+        go false z = refl
+
+    stays : (c : Call) → isAppend c ≡ false → getD (written l (decide (view l) c .stores)) j 0 ≡ getD l j 0
+    stays (append ps) e = absurd (true≢false e)
+    stays (calls.rollback i) e = plain (calls.rollback i) refl
+    stays calls.start e = plain calls.start refl
+    stays calls.stop e = plain calls.stop refl
+    stays (calls.connect n) e = plain (calls.connect n) refl
+    stays (calls.disconnect n) e = plain (calls.disconnect n) refl
+    stays (calls.master n) e = plain (calls.master n) refl
+    stays (calls.sync n) e = plain (calls.sync n) refl
+    stays (calls.work n k i r c) e = plain (calls.work n k i r c) refl
+    stays (foldTo b) e = folds b
+
+  -- every call but append leaves every byte of the slots of no number kept: a fold too
+  pub keeps-unused : (c : Call) (r : Reply) (m : List ℕ) → Claims l c r m → Bytes l → isAppend c ≡ false → Free (foldedOf l) (lastOf l) j → getD m j 0 ≡ getD l j 0
   unfolding outcomeOf written
   keeps-unused c r m p y x a = ap (λ (k : List ℕ). getD k j 0) (p .1) ∙ go (formed l) refl
     where
       go : (w : Bool) → formed l ≡ w → getD (written l (unless 1 w (decide (view l) c) .stores)) j 0 ≡ getD l j 0
-      go true w =
-          let h : Stills (logLength l) (decide (view l) c .stores) =
-          subst (λ (n : ℕ). Stills n (decide (view l) c .stores)) (view-length l) (decide-still (view l) (sizes l y w) c x) in
-          written-unused (logLength l) j a b h l
+      go true w = stays y w a c x
       go false w = refl
 
-  grow-keeps : (t : Transaction) → 36 * (logLength l + 1) ≤ j → getD (write l (grow t)) j 0 ≡ getD l j 0
+  grow-keeps : (t : Transaction) → (j < placeOf (lastOf l + 1)) ⊎ (placeOf (lastOf l + 1) + 36 ≤ j) → getD (write l (grow t)) j 0 ≡ getD l j 0
   unfolding write putEntryAt
   grow-keeps t a =
-      let m = putFields l (placeOf (logLength l + 1)) entryWidths (entryNumbers t) in
-      put-outside 2 m lengthAt (logLength l + 1) j (inl (omega arith)) ∙ puts-outside entryWidths (entryNumbers t) l (placeOf (logLength l + 1)) j (inr (omega arith))
+      let m = putFields l (placeOf (lastOf l + 1)) entryWidths (entryNumbers t) in
+      put-outside 2 m lastAt (lastOf l + 1) j (inl (omega arith)) ∙ puts-outside entryWidths (entryNumbers t) l (placeOf (lastOf l + 1)) j a
 
-  -- append leaves every byte past the new entry
-  pub append-unused : (ps : List Pair) (r : Reply) (m : List ℕ) → Claims l (append ps) r m → 36 * (logLength l + 1) ≤ j → getD m j 0 ≡ getD l j 0
+  -- append leaves every byte but the new entry's
+  pub append-unused : (ps : List Pair) (r : Reply) (m : List ℕ) → Claims l (append ps) r m → (j < placeOf (lastOf l + 1)) ⊎ (placeOf (lastOf l + 1) + 36 ≤ j)
+      → getD m j 0 ≡ getD l j 0
   unfolding outcomeOf decide written
-  append-unused ps r m p a = ap (λ (k : List ℕ). getD k j 0) (p .1) ∙ go (formed l) (validChange ps) (ltb (length (view l .log)) 128)
+  append-unused ps r m p a =
+      ap (λ (k : List ℕ). getD k j 0) (p .1) ∙ go (formed l) (validChange ps) (ltb (length (view l .log .entries)) 128) (ltb (last (view l .log)) 65535)
     where
-      go : (w v f : Bool)
+      go : (w v f h : Bool)
           → getD
           (written l
           (unless 1 w
           (unless 3 v
-          (unless 4 f (record { reply = record { answer = 0; event = Rattle.kinds.specs.Events.numbered (length (view l .log) + 1) }; stores = grow (appended ps) ∷ [] }))) .stores))
+          (unless 4 f
+          (unless 9 h (record { reply = record { answer = 0; event = Rattle.kinds.specs.Events.numbered (last (view l .log) + 1) }; stores = grow (appended ps) ∷ [] })))) .stores))
           j 0
           ≡ getD l j 0
-      go true true true = grow-keeps (appended ps) a
-      go true true false = refl
-      go true false f = refl
-      go false v f = refl
+      go true true true true = grow-keeps (appended ps) a
+      go true true true false = refl
+      go true true false h = refl
+      go true false f h = refl
+      go false v f h = refl
