@@ -29,16 +29,17 @@ extern "C" {
 #endif
 
 /* An image's length in bytes. Bytes of any other length are no image (MAKOWIST_NOT_WELL_FORMED). */
-#define MAKOWIST_IMAGE_LENGTH 4883
+#define MAKOWIST_IMAGE_LENGTH 4949
 
 /* Limits of the state. */
 enum {
-    MAKOWIST_LOG_LIMIT = 128,     /* transactions, numbered from 1 */
+    MAKOWIST_LOG_LIMIT = 128,     /* transactions kept, numbered from 1 to MAKOWIST_NUMBER_LIMIT */
+    MAKOWIST_NUMBER_LIMIT = 65535,
     MAKOWIST_NODES = 8,           /* nodes, numbered from 1; 0 means none */
     MAKOWIST_PATHS = 32,          /* paths, from 0 */
     MAKOWIST_PAIR_LIMIT = 4,      /* pairs of a change */
     MAKOWIST_PAIR_LENGTH = 4,     /* bytes of a lent pair */
-    MAKOWIST_ORDINAL_LIMIT = 256  /* the greatest ordinal; 0 means none */
+    MAKOWIST_ORDINAL_LIMIT = 131070  /* the greatest ordinal; 0 means none */
 };
 
 /* What a call answers: accepted, or why it was refused. */
@@ -47,17 +48,19 @@ enum {
     MAKOWIST_NOT_WELL_FORMED = 1,   /* the lent bytes are no well-formed image */
     MAKOWIST_OUT_OF_RANGE = 2,      /* node, job, outcome, cut, table, path or field out of range */
     MAKOWIST_NOT_A_CHANGE = 3,      /* the pairs are no valid change */
-    MAKOWIST_LOG_FULL = 4,          /* append to a log of 128 */
-    MAKOWIST_NO_SUCH_NUMBER = 5,    /* number 0 or past the log's end */
+    MAKOWIST_LOG_FULL = 4,          /* append where 128 are kept */
+    MAKOWIST_NO_SUCH_NUMBER = 5,    /* number 0 or past the log's end; to fold, one that is not kept */
     MAKOWIST_NO_ROLLBACK = 6,       /* phase is not Change, or c.commit is not Complete */
     MAKOWIST_ALREADY_SO = 7,        /* target or connection already so */
     MAKOWIST_TARGET_STOPPED = 8,    /* connect while the target is stopped */
-    MAKOWIST_COUNTER_AT_LIMIT = 9,  /* an ordinal, id or term would pass its limit */
+    MAKOWIST_COUNTER_AT_LIMIT = 9,  /* a number, ordinal, id or term would pass its limit */
     MAKOWIST_NOT_MASTER = 10,       /* the node is not master */
     MAKOWIST_NO_RULE = 11,          /* no rule holds */
     MAKOWIST_LINE_NOT_OPEN = 12,    /* the rule needs an open line */
     MAKOWIST_PUSH_REJECTED = 13,    /* the target rejects a rollback push */
-    MAKOWIST_NO_ROOM = 14           /* the live list is longer than the room lent */
+    MAKOWIST_NO_ROOM = 14,          /* the live list is longer than the room lent */
+    MAKOWIST_NOT_FINISHED = 17,     /* something is left to do of what is to be folded, or is under way */
+    MAKOWIST_FOLDED = 18            /* the number is folded */
 };
 
 /* Statuses. Done is Complete, Aborted, Canceled or Failed. A configuration's state is Pending, InProgress or Complete. */
@@ -106,7 +109,8 @@ uint64_t makowist_fresh(uint8_t *image, size_t length);
 
 /* Takes a change of 1 to 4 pairs, paths strictly rising, into the log; its number is in the reply. A pair is four
  * bytes: path, then value, 16-bit little-endian (makowist_put_pair writes one); pairs_length is in bytes. Value 0 deletes.
- * Refuses MAKOWIST_NOT_A_CHANGE (also a pairs_length that is no multiple of 4), MAKOWIST_LOG_FULL. */
+ * Refuses MAKOWIST_NOT_A_CHANGE (also a pairs_length that is no multiple of 4), MAKOWIST_LOG_FULL,
+ * MAKOWIST_COUNTER_AT_LIMIT. */
 uint64_t makowist_append(uint8_t *image, size_t length, const uint8_t *pairs, size_t pairs_length);
 
 /* Writes one pair, MAKOWIST_PAIR_LENGTH bytes, as makowist_append takes it. */
@@ -117,7 +121,7 @@ static inline void makowist_put_pair(uint8_t *pair, uint16_t path, uint16_t valu
     pair[3] = (uint8_t)(value >> 8);
 }
 
-/* Asks for the rollback of a committed change. Refuses MAKOWIST_NO_SUCH_NUMBER, MAKOWIST_NO_ROLLBACK. */
+/* Asks for the rollback of a committed change. Refuses MAKOWIST_NO_SUCH_NUMBER, MAKOWIST_FOLDED, MAKOWIST_NO_ROLLBACK. */
 uint64_t makowist_rollback(uint8_t *image, size_t length, uint16_t number);
 
 /* The target runs from now on, under its next id. Refuses MAKOWIST_ALREADY_SO, MAKOWIST_COUNTER_AT_LIMIT. */
@@ -145,10 +149,14 @@ uint64_t makowist_sync(uint8_t *image, size_t length, uint16_t node);
 
 /* One step of a job on a transaction, by a node; its event is in the reply where the step gives one. A cut of 1 leaves
  * out the second store of a step that has two, as when the node is lost between them; the next step makes it good.
- * Refuses MAKOWIST_OUT_OF_RANGE, MAKOWIST_NO_SUCH_NUMBER, MAKOWIST_NOT_MASTER, MAKOWIST_NO_RULE, MAKOWIST_COUNTER_AT_LIMIT,
- * MAKOWIST_LINE_NOT_OPEN, MAKOWIST_PUSH_REJECTED. */
+ * Refuses MAKOWIST_OUT_OF_RANGE, MAKOWIST_NO_SUCH_NUMBER, MAKOWIST_FOLDED, MAKOWIST_NOT_MASTER, MAKOWIST_NO_RULE,
+ * MAKOWIST_COUNTER_AT_LIMIT, MAKOWIST_LINE_NOT_OPEN, MAKOWIST_PUSH_REJECTED. */
 uint64_t makowist_work(uint8_t *image, size_t length, uint16_t node, uint16_t job, uint16_t number, uint16_t outcome,
                        uint16_t cut);
+
+/* Folds all up to the number away: they are kept no more, and what those of them that are live set stays as the base. Gives
+ * no event. Refuses MAKOWIST_NO_SUCH_NUMBER, MAKOWIST_NOT_FINISHED. */
+uint64_t makowist_fold(uint8_t *image, size_t length, uint16_t number);
 
 /* ---- Reads. They change no byte of the image. All refuse MAKOWIST_NOT_WELL_FORMED first. */
 
@@ -159,12 +167,13 @@ uint64_t makowist_well_formed(const uint8_t *image, size_t length);
  * room past them stays. room_length is in elements; MAKOWIST_LOG_LIMIT is always enough. Refuses MAKOWIST_NO_ROOM. */
 uint64_t makowist_live(const uint8_t *image, size_t length, uint16_t *room, size_t room_length);
 
-/* A path's value in one of the three tables. Refuses MAKOWIST_OUT_OF_RANGE. */
-enum { MAKOWIST_TABLE_COMMITTED = 1, MAKOWIST_TABLE_APPLIED = 2, MAKOWIST_TABLE_TARGET = 3 };
+/* A path's value in one of the four tables. Refuses MAKOWIST_OUT_OF_RANGE. */
+enum { MAKOWIST_TABLE_COMMITTED = 1, MAKOWIST_TABLE_APPLIED = 2, MAKOWIST_TABLE_TARGET = 3, MAKOWIST_TABLE_BASE = 4 };
 uint64_t makowist_value(const uint8_t *image, size_t length, uint16_t table, uint16_t path);
 
 /* A field of a transaction. Pair k, from 0, has path, value and r.value at the field named with + k; places past the
- * transaction's pairs carry nothing. Refuses MAKOWIST_OUT_OF_RANGE (the field), MAKOWIST_NO_SUCH_NUMBER. */
+ * transaction's pairs carry nothing. Refuses MAKOWIST_OUT_OF_RANGE (the field), MAKOWIST_NO_SUCH_NUMBER,
+ * MAKOWIST_FOLDED. */
 enum {
     MAKOWIST_TRANSACTION_PHASE = 1,
     MAKOWIST_TRANSACTION_C_COMMIT = 2,
@@ -183,7 +192,7 @@ uint64_t makowist_transaction(const uint8_t *image, size_t length, uint16_t numb
 
 /* A field of what the state has once. Refuses MAKOWIST_OUT_OF_RANGE. */
 enum {
-    MAKOWIST_LOG_LENGTH = 1,
+    MAKOWIST_LOG_LENGTH = 1,  /* the highest number given */
     MAKOWIST_COMMITTED_INDEX = 2,
     MAKOWIST_COMMITTED_CHANGE = 3,
     MAKOWIST_COMMITTED_TARGET = 4,
@@ -199,7 +208,8 @@ enum {
     MAKOWIST_MASTERSHIP_TERM = 14,
     MAKOWIST_MASTERSHIP_CONN = 15,
     MAKOWIST_TARGET_ID = 16,
-    MAKOWIST_TARGET_RUNNING = 17
+    MAKOWIST_TARGET_RUNNING = 17,
+    MAKOWIST_LAST_FOLD = 18
 };
 uint64_t makowist_record(const uint8_t *image, size_t length, uint16_t field);
 

@@ -14,7 +14,7 @@ use Rattle.machine.specs.Calls.{Pair}
 use Rattle.lines.specs.declared.reading.Reader.{Reader}
 use Rattle.lines.specs.Text.{text}
 use Rattle.lines.specs.Decimal.{isDigit}
-use Rattle.lines.specs.Grammar.{allDigits, tenfold, Number, Row, one, more, Says, says-no-pairs, says-append, says-rollback, says-start, says-stop, says-connect, says-disconnect, says-master, says-sync, says-work}
+use Rattle.lines.specs.Grammar.{allDigits, tenfold, Number, Row, one, more, Says, says-no-pairs, says-append, says-rollback, says-start, says-stop, says-connect, says-disconnect, says-master, says-sync, says-work, says-fold}
 use Rattle.lines.specs.Reading.{order, up, stored, storedIf, pushed, fresh, wordAt, finished, said, twoBytes, ten, bytesOf, low, high}
 use Rattle.lines.specs.Handed.{Hands, flat}
 use Rattle.lines.proofs.Steps.{and-left, and-right, st, digit-begins, digit-path, digit-more}
@@ -229,4 +229,5 @@ complete (says-connect x) = reads (single (text "call=connect node=") 40 refl re
 complete (says-disconnect x) = reads (single (text "call=disconnect node=") 59 refl refl refl x) (record { calls = refl; bytes = refl })
 complete (says-master x) = reads (single (text "call=master node=") 74 refl refl refl x) (record { calls = refl; bytes = refl })
 complete (says-sync x) = reads (single (text "call=sync node=") 116 refl refl refl x) (record { calls = refl; bytes = refl })
+complete (says-fold x) = reads (single (text "call=fold number=") 179 refl refl refl x) (record { calls = refl; bytes = refl })
 complete (says-work x y z u w) = reads (work-runs x y z u w) (record { calls = refl; bytes = refl })

@@ -18,7 +18,7 @@ use Rattle.lines.specs.declared.reading.Call.the-variants.{Unreadable}
 use Rattle.lines.specs.Grammar.{Says}
 use Rattle.lines.specs.declared.reading.Reader.{Reader}
 use Rattle.lines.specs.declared.reading.Word.{Word}
-use Rattle.lines.specs.declared.reading.Word.the-variants.{Nothing, NoPairs, Pairs, Rollback, Start, Stop, Connect, Disconnect, Master, Sync, Work}
+use Rattle.lines.specs.declared.reading.Word.the-variants.{Nothing, NoPairs, Pairs, Rollback, Start, Stop, Connect, Disconnect, Master, Sync, Work, Fold}
 use Rattle.lines.specs.Reading.{stored, wordAt, lineOf, finished, said}
 use Rattle.lines.specs.Handed.{Hands, callFor}
 use Rattle.lines.proofs.Complete.{complete}
@@ -35,6 +35,7 @@ told-apart (machine.disconnect n) e = let z : _≡_ {A = ℕ} 0 1 = cc in omega 
 told-apart (machine.master n) e = let z : _≡_ {A = ℕ} 0 1 = cc in omega arith
 told-apart (machine.sync n) e = let z : _≡_ {A = ℕ} 0 1 = cc in omega arith
 told-apart (machine.work n j i o c) e = let z : _≡_ {A = ℕ} 0 1 = cc in omega arith
+told-apart (machine.foldTo n) e = let z : _≡_ {A = ℕ} 0 1 = cc in omega arith
 
 -- a readable line: the grammar has it as a call, and that call is handed on
 pub record Readable (l : List ℕ) : Type 0 where
@@ -76,6 +77,7 @@ within r = by (wordAt (r .at)) (ltb (stored r .count) 10) refl
     by Master t e = omega arith
     by Sync t e = omega arith
     by Work t e = omega arith
+    by Fold t e = omega arith
 
 -- ---- five pairs are refused as more are
 module _ (a b d e f : Pair) (ps : List Pair) where

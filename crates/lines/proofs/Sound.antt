@@ -16,10 +16,10 @@ use Rattle.lines.specs.declared.reading.Reader.{Reader}
 use Rattle.lines.specs.declared.reading.Call.{Call}
 use Rattle.lines.specs.declared.reading.Call.the-variants.{Unreadable}
 use Rattle.lines.specs.declared.reading.Word.{Word}
-use Rattle.lines.specs.declared.reading.Word.the-variants.{Nothing, NoPairs, Pairs, Rollback, Start, Stop, Connect, Disconnect, Master, Sync, Work}
+use Rattle.lines.specs.declared.reading.Word.the-variants.{Nothing, NoPairs, Pairs, Rollback, Start, Stop, Connect, Disconnect, Master, Sync, Work, Fold}
 use Rattle.lines.specs.Text.{text}
 use Rattle.lines.specs.Decimal.{isDigit}
-use Rattle.lines.specs.Grammar.{allDigits, tenfold, pair, Number, Row, one, more, Says, says-no-pairs, says-append, says-rollback, says-start, says-stop, says-connect, says-disconnect, says-master, says-sync, says-work}
+use Rattle.lines.specs.Grammar.{allDigits, tenfold, pair, Number, Row, one, more, Says, says-no-pairs, says-append, says-rollback, says-start, says-stop, says-connect, says-disconnect, says-master, says-sync, says-work, says-fold}
 use Rattle.lines.specs.Reading.{order, up, afterCall, afterS, afterSt, placed, stored, pushed, pushedIf, fresh, wordAt, lineOf, finished, said}
 use Rattle.lines.proofs.Steps.{and-left, and-right, st, apart, text-begins, text-path, text-over, next-letter, digit-begins, digit-path, digit-more, text-ends, at-letter}
 
@@ -68,6 +68,7 @@ isNothing Disconnect = false
 isNothing Master = false
 isNothing Sync = false
 isNothing Work = false
+isNothing Fold = false
 
 abbrev quiet : ℕ → Bool
 quiet p = isNothing (wordAt p)
@@ -84,6 +85,7 @@ nothing Disconnect r h = absurd (differ h)
 nothing Master r h = absurd (differ h)
 nothing Sync r h = absurd (differ h)
 nothing Work r h = absurd (differ h)
+nothing Fold r h = absurd (differ h)
 
 short : (p v k : ℕ) (m : List ℕ) → quiet p ≡ true → Lost (st p v k m) []
 unfolding ends
@@ -534,6 +536,10 @@ module _ where
   unfolding Said spells past order wordAt
   at-rollback = at-text (text "call=r") (text "ollback number=") 78 refl (at-last (text "call=rollback number=") 93 refl refl refl refl (λ d n x. (machine.rollback n, says-rollback x)))
 
+  at-fold : Tail (text "call=f") 168
+  unfolding Said spells past order wordAt
+  at-fold = at-text (text "call=f") (text "old number=") 168 refl (at-last (text "call=fold number=") 179 refl refl refl refl (λ d n x. (machine.foldTo n, says-fold x)))
+
   at-sync : Tail (text "call=sy") 108
   unfolding Said spells past order wordAt
   at-sync = at-text (text "call=sy") (text "nc node=") 108 refl (at-last (text "call=sync node=") 116 refl refl refl refl (λ d n x. (machine.sync n, says-sync x)))
@@ -575,7 +581,7 @@ module _ where
       turning (text "call=") 6 afterCall turns-call refl
       (λ b v k m l.
       let to : (x q n : ℕ) → Tail (text "call=" ++ (x ∷ [])) q → Turned (text "call=") 6 b v k m l n → Turned (text "call=") 6 b v k m l (cond (eqb b x) q n) = turn (text "call=") 6 b v k m l in
-      to 97 8 _ at-append (to 99 28 _ at-connect (to 100 44 _ at-disconnect (to 109 63 _ at-master (to 114 78 _ at-rollback (to 115 97 _ at-s (to 119 120 0 at-work (nowhere (text "call=") 6 b v k m l))))))))
+      to 97 8 _ at-append (to 99 28 _ at-connect (to 100 44 _ at-disconnect (to 109 63 _ at-master (to 114 78 _ at-rollback (to 115 97 _ at-s (to 119 120 _ at-work (to 102 168 0 at-fold (nowhere (text "call=") 6 b v k m l)))))))))
 
 -- every line: one of the grammar, or read as unreadable
 pub sound : (l : List ℕ) → ((c : machine.Call) × Says l c) ⊎ (said l .call ≡ Unreadable)

@@ -7,7 +7,7 @@ use Rattle.machine.specs.Calls as machine
 use Rattle.machine.specs.Calls.{Pair}
 use Rattle.lines.specs.declared.reading.Line.{Line}
 use Rattle.lines.specs.declared.reading.Call.{Call}
-use Rattle.lines.specs.declared.reading.Call.the-variants.{Append, Rollback, Start, Stop, Connect, Disconnect, Master, Sync, Work}
+use Rattle.lines.specs.declared.reading.Call.the-variants.{Append, Rollback, Start, Stop, Connect, Disconnect, Master, Sync, Work, Fold}
 use Rattle.lines.specs.Reading.{twoBytes}
 
 abbrev pub callFor : machine.Call → Call
@@ -20,6 +20,7 @@ callFor (machine.disconnect n) = Disconnect n
 callFor (machine.master n) = Master n
 callFor (machine.sync n) = Sync n
 callFor (machine.work n j i o c) = Work n j i o c
+callFor (machine.foldTo n) = Fold n
 
 -- path, value, path, value, ..
 unfoldable pub flat : List Pair → List ℕ
@@ -37,6 +38,7 @@ pairsFor (machine.disconnect n) = []
 pairsFor (machine.master n) = []
 pairsFor (machine.sync n) = []
 pairsFor (machine.work n j i o c) = []
+pairsFor (machine.foldTo n) = []
 
 pub record Hands (c : machine.Call) (r : Line) : Type 0 where
   pub calls : r .call ≡ callFor c

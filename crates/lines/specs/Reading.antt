@@ -7,7 +7,7 @@ use lib.Dec.{eqb, ltb, leb}
 use lib.ListN.{getD, set, replicate}
 use Rattle.lines.specs.declared.reading.Reader.{Reader}
 use Rattle.lines.specs.declared.reading.Word.{Word}
-use Rattle.lines.specs.declared.reading.Word.the-variants.{Nothing, NoPairs, Pairs, Rollback, Start, Stop, Connect, Disconnect, Master, Sync, Work}
+use Rattle.lines.specs.declared.reading.Word.the-variants.{Nothing, NoPairs, Pairs, Rollback, Start, Stop, Connect, Disconnect, Master, Sync, Work, Fold}
 use Rattle.lines.specs.declared.reading.Line.{Line}
 use Rattle.lines.specs.declared.reading.Call.{Call}
 use Rattle.lines.specs.declared.reading.Call.the-variants as call
@@ -20,7 +20,7 @@ use Rattle.lines.specs.Decimal.{isDigit}
 abbrev pub script : List ℕ
 script =
     text
-    "0call=5append pairs=32:12,3connect node=129disconnect node=129master node=129rollback number=129s6t7art9op9ync node=129work node=12 job=12 number=12 outcome=12 cut=129"
+    "0call=5append pairs=32:12,3connect node=129disconnect node=129master node=129rollback number=129s6t7art9op9ync node=129work node=12 job=12 number=12 outcome=12 cut=129fold number=129"
 
 unfoldable pub order : ℕ → ℕ
 order p = getD script p 48
@@ -32,7 +32,7 @@ up p = cond (ltb p 255) (p + 1) 0
 abbrev pub afterCall : ℕ → ℕ
 afterCall b =
     cond (eqb b 97) 8
-    (cond (eqb b 99) 28 (cond (eqb b 100) 44 (cond (eqb b 109) 63 (cond (eqb b 114) 78 (cond (eqb b 115) 97 (cond (eqb b 119) 120 0))))))
+    (cond (eqb b 99) 28 (cond (eqb b 100) 44 (cond (eqb b 109) 63 (cond (eqb b 114) 78 (cond (eqb b 115) 97 (cond (eqb b 119) 120 (cond (eqb b 102) 168 0)))))))
 
 abbrev pub afterS : ℕ → ℕ
 afterS b = cond (eqb b 116) 99 (cond (eqb b 121) 108 0)
@@ -97,7 +97,7 @@ wordAt p =
     (cond (eqb p 103) Start
     (cond (eqb p 106) Stop
     (cond (eqb p 41) Connect
-    (cond (eqb p 60) Disconnect (cond (eqb p 75) Master (cond (eqb p 117) Sync (cond (eqb p 165) Work Nothing)))))))))
+    (cond (eqb p 60) Disconnect (cond (eqb p 75) Master (cond (eqb p 117) Sync (cond (eqb p 165) Work (cond (eqb p 180) Fold Nothing))))))))))
 
 abbrev pub low : ℕ → ℕ
 low n = n % 256
@@ -140,6 +140,7 @@ lineOf Disconnect r = plain (call.Disconnect (r .value))
 lineOf Master r = plain (call.Master (r .value))
 lineOf Sync r = plain (call.Sync (r .value))
 lineOf Work r = plain (workOf (r .numbers) (r .value))
+lineOf Fold r = plain (call.Fold (r .value))
 
 abbrev pub finished : Reader → Line
 finished r = lineOf (wordAt (r .at)) r

@@ -24,6 +24,7 @@ enum Word {
     Master,
     Sync,
     Work,
+    Fold,
 }
 
 // What a line asks for, with its numbers; the pairs of an append stand beside it, in `Line`.
@@ -44,6 +45,7 @@ pub enum Call {
         outcome: u16,
         cut: u16,
     },
+    Fold(u16),
 }
 
 // A line that was read. The first `length` bytes of `pairs` are the pairs of an append, the first five of them at most, four
@@ -59,7 +61,7 @@ fn order(at: u8) -> u8
     ensures { λ r. ⌜ r ≡ order at ⌝ }
 {
     let script =
-        b"0call=5append pairs=32:12,3connect node=129disconnect node=129master node=129rollback number=129s6t7art9op9ync node=129work node=12 job=12 number=12 outcome=12 cut=129";
+        b"0call=5append pairs=32:12,3connect node=129disconnect node=129master node=129rollback number=129s6t7art9op9ync node=129work node=12 job=12 number=12 outcome=12 cut=129fold number=129";
     let i = at as usize;
     if i < script.len() {
         return script[i];
@@ -87,6 +89,7 @@ fn after_call(b: u8) -> u8
         b'r' => 78,
         b's' => 97,
         b'w' => 120,
+        b'f' => 168,
         _ => 0,
     }
 }
@@ -243,6 +246,7 @@ fn word_at(at: u8) -> Word
         75 => Word::Master,
         117 => Word::Sync,
         165 => Word::Work,
+        180 => Word::Fold,
         _ => Word::Nothing,
     }
 }
@@ -333,6 +337,7 @@ pub fn finish(r: Reader) -> Line
             outcome: n[3],
             cut: v,
         }),
+        Word::Fold => plain(Call::Fold(v)),
     }
 }
 

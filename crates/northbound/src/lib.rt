@@ -1,7 +1,7 @@
 // What the northbound server, written in C, calls: numbers and lent slices in, one packed number out. A slice is a pointer
 // and a length. Nothing is decided here.
 ghost use mathlib.Core.Path.{_≡_};
-ghost use Rattle.machine.specs.Calls.{rollback, start, stop, connect, disconnect, master, sync, work};
+ghost use Rattle.machine.specs.Calls.{rollback, start, stop, connect, disconnect, master, sync, work, foldTo};
 ghost use Rattle.machine.specs.Reads.{ofTable, ofEntry, ofState, ofNode};
 ghost use Rattle.controller.specs.Bytes.{appendOf};
 ghost use Rattle.northbound.specs.Packing.{Packs, PacksRead, PacksListed};
@@ -42,7 +42,7 @@ fn pack_listed(r: Listed) -> u64
 
 // ---- the calls
 
-// Makes a fresh image; 1 where the length is not 4,883.
+// Makes a fresh image; 1 where the length is not 4,949.
 #[no_mangle]
 pub extern "C" fn makowist_fresh(image: &mut [u8]) -> u64
     ensures { λ r. ⌜ Freshens (now (image .entry)) r (now (image .exit)) ⌝ }
@@ -125,6 +125,14 @@ pub extern "C" fn makowist_work(
     pack(controller::work(image, node, job, number, outcome, cut))
 }
 
+// Folds all up to a number away, where nothing is left to do of them: 17 where it may not be.
+#[no_mangle]
+pub extern "C" fn makowist_fold(image: &mut [u8], number: u16) -> u64
+    ensures { λ r. ⌜ Claims (now (image .entry)) (foldTo number) r (now (image .exit)) ⌝ }
+{
+    pack(controller::fold(image, number))
+}
+
 // ---- the reads
 
 // Whether the image is well-formed: 0 where it is, 1 where not.
@@ -146,7 +154,7 @@ pub extern "C" fn makowist_live(image: &[u8], room: &mut [u16]) -> u64
     pack_listed(controller::live(image, room))
 }
 
-// The value of a path: table 1 Committed, 2 Applied, 3 the target.
+// The value of a path: table 1 Committed, 2 Applied, 3 the target, 4 the base.
 #[no_mangle]
 pub extern "C" fn makowist_value(image: &[u8], table: u16, path: u16) -> u64
     ensures { λ r. ⌜ Shows (now (image .entry)) (ofTable table path) r ⌝ }

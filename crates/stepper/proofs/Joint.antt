@@ -15,7 +15,7 @@ use Rattle.machine.specs.Calls as machine
 use Rattle.machine.specs.Calls.{Pair}
 use Rattle.lines.specs.declared.reading.Call.{Call}
 use Rattle.lines.specs.declared.reading.Call.the-variants.{Unreadable}
-use Rattle.lines.specs.Grammar.{Row, one, more, Says, says-no-pairs, says-append, says-rollback, says-start, says-stop, says-connect, says-disconnect, says-master, says-sync, says-work, pair}
+use Rattle.lines.specs.Grammar.{Row, one, more, Says, says-no-pairs, says-append, says-rollback, says-start, says-stop, says-connect, says-disconnect, says-master, says-sync, says-work, says-fold, pair}
 use Rattle.lines.specs.Reading.{low, high, twoBytes, said}
 use Rattle.lines.specs.Handed.{callFor, flat, pairsFor}
 use Rattle.lines.proofs.Complete.{complete}
@@ -72,6 +72,7 @@ claimed (says-disconnect x) l r m p = p
 claimed (says-master x) l r m p = p
 claimed (says-sync x) l r m p = p
 claimed (says-work x y z u w) l r m p = p
+claimed (says-fold x) l r m p = p
 
 -- ---- each line
 module _ (t l : List ℕ) (r : Reply) (m : List ℕ) (p : Answers l (said t) r m) where

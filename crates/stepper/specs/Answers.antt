@@ -10,7 +10,7 @@ use Rattle.kinds.specs.Outcome.{both}
 use Rattle.machine.specs.Calls as machine
 use Rattle.lines.specs.declared.reading.Line.{Line}
 use Rattle.lines.specs.declared.reading.Call.{Call}
-use Rattle.lines.specs.declared.reading.Call.the-variants.{Unreadable, Append, Rollback, Start, Stop, Connect, Disconnect, Master, Sync, Work}
+use Rattle.lines.specs.declared.reading.Call.the-variants.{Unreadable, Append, Rollback, Start, Stop, Connect, Disconnect, Master, Sync, Work, Fold}
 use Rattle.controller.specs.Bytes.{appendOf}
 use Rattle.controller.specs.Claims.{Claims}
 
@@ -27,6 +27,7 @@ AnswersCall (Disconnect n) b l r m = Claims l (machine.disconnect n) r m
 AnswersCall (Master n) b l r m = Claims l (machine.master n) r m
 AnswersCall (Sync n) b l r m = Claims l (machine.sync n) r m
 AnswersCall (Work n j i o c) b l r m = Claims l (machine.work n j i o c) r m
+AnswersCall (Fold n) b l r m = Claims l (machine.foldTo n) r m
 
 -- the pairs are the first `length` bytes of those that the line holds
 abbrev pub Answers : List ℕ → Line → Reply → List ℕ → Type 0
@@ -44,6 +45,7 @@ answers-call-only (Disconnect i) b l r q m n = both
 answers-call-only (Master i) b l r q m n = both
 answers-call-only (Sync i) b l r q m n = both
 answers-call-only (Work i j k o c) b l r q m n = both
+answers-call-only (Fold i) b l r q m n = both
 
 pub answers-only : (l : List ℕ) (line : Line) (r q : Reply) (m n : List ℕ) → Answers l line r m → Answers l line q n → (r ≡ q) × (m ≡ n)
 answers-only l line r q m n = answers-call-only (line .call) (take (line .length) (line .pairs)) l r q m n

@@ -61,6 +61,7 @@ fn answer(image: &mut [u8], line: Line) -> Reply
             outcome,
             cut,
         } => controller::work(image, node, job, number, outcome, cut),
+        Call::Fold(number) => controller::fold(image, number),
     }
 }
 
@@ -207,7 +208,7 @@ fn close(image: &[u8], out: &mut [u8], used: usize) {
 }
 
 fn main() {
-    let mut image = [0u8; 4883];
+    let mut image = [0u8; 4949];
     controller::fresh(&mut image);
     let mut out = [0u8; 65536];
     let last = read_all(&mut image, &mut out);

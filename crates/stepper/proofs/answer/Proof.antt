@@ -9,6 +9,7 @@ use Rattle.stepper.proofs.answer.Lts as lts
 use Rattle.controller.proofs.connect.Reads as connect-reads
 use Rattle.controller.proofs.disconnect.Reads as disconnect-reads
 use Rattle.controller.proofs.master.Reads as master-reads
+use Rattle.controller.proofs.fold.Reads as fold-reads
 use Rattle.controller.proofs.rollback.Reads as rollback-reads
 use Rattle.controller.proofs.start.Reads as start-reads
 use Rattle.controller.proofs.stop.Reads as stop-reads
@@ -98,6 +99,12 @@ work-requires : tie.Need-work-requires
 work-requires c κs = search needs
 
 -- src/main.rt:36:1
+enum-known-call-7 : tie.Need-enum-known-call-7
+enum-known-call-7 c = search needs
+
+fold-requires : tie.Need-fold-requires
+fold-requires c κs = search needs
+
 returns : tie.Need-returns
 returns c = asked (c .before .before .before .before .args .line) _ _ _ _ (c .before .enum-told .given .1) (c .of .ensures, refl)
 
@@ -173,6 +180,12 @@ same-length-9 c = search needs
 returns-10 : tie.Need-returns-10
 returns-10 c = asked (c .before .before .before .before .before .before .before .before .args .line) _ _ _ _ (c .before .before .before .before .before .call6 .given .1) (c .before .before .work .ensures)
 
+same-length-10 : tie.Need-same-length-10
+same-length-10 c = search needs
+
+returns-11 : tie.Need-returns-11
+returns-11 c = asked (c .before .before .before .before .before .before .before .before .args .line) _ _ _ _ (c .before .before .before .before .before .call7 .given .1) (c .before .before .fold .ensures)
+
 pub answer-spec : {M : Type 1} → statement M
 answer-spec =
     tie.close
@@ -197,6 +210,8 @@ answer-spec =
     sync-requires
     enum-known-call-6
     work-requires
+    enum-known-call-7
+    fold-requires
     returns
     same-length
     returns-2
@@ -215,4 +230,6 @@ answer-spec =
     same-length-8
     returns-9
     same-length-9
-    returns-10)
+    returns-10
+    same-length-10
+    returns-11)

@@ -121,6 +121,12 @@ plain-requires-10 : tie.Need-plain-requires-10
 plain-requires-10 c κs = search needs
 
 -- src/reading.rt:306:1
+enum-told-12 : tie.Need-enum-told-12
+enum-told-12 c = search needs
+
+plain-requires-11 : tie.Need-plain-requires-11
+plain-requires-11 c κs = search needs
+
 returns : tie.Need-returns
 returns c = rw (c .plain .ensures, ← c .before .before .before .word-at .ensures, c .before .enum-told .given .1)
 
@@ -164,6 +170,9 @@ returns-10 c = rw (c .plain9 .ensures, ← c .before .before .before .word-at .e
 returns-11 : tie.Need-returns-11
 returns-11 c = rw (c .plain10 .ensures, ← c .before .before .before .word-at .ensures, c .before .enum-told11 .given .1)
 
+returns-12 : tie.Need-returns-12
+returns-12 c = rw (c .plain11 .ensures, ← c .before .before .before .word-at .ensures, c .before .enum-told12 .given .1)
+
 pub finish-spec : {M : Type 1} → statement M
 finish-spec =
     tie.close
@@ -196,6 +205,8 @@ finish-spec =
     array-read-t24
     array-read-t27
     plain-requires-10
+    enum-told-12
+    plain-requires-11
     returns
     returns-2
     returns-3
@@ -206,4 +217,5 @@ finish-spec =
     returns-8
     returns-9
     returns-10
-    returns-11)
+    returns-11
+    returns-12)
