@@ -5,7 +5,7 @@
 
 use crate::jobs::{self, Work, Worked};
 
-/// The most transactions that a log holds.
+/// The most transactions that a log keeps.
 pub const LOG_LIMIT: usize = 128;
 /// The most pairs that a change holds.
 pub const PAIR_LIMIT: usize = 4;
@@ -20,15 +20,11 @@ pub struct Number(pub u16);
 
 impl Number {
     pub const NONE: Number = Number(0);
+    pub const LIMIT: Number = Number(u16::MAX);
 
     /// The number before this one. Asked only of a transaction's number, which is 1 or more.
     pub fn before(self) -> Number {
         Number(self.0 - 1)
-    }
-
-    /// Where the transaction stands in the log, where there is one.
-    pub fn place(self) -> Option<usize> {
-        usize::from(self.0).checked_sub(1)
     }
 }
 
@@ -38,7 +34,7 @@ pub struct Ordinal(pub u32);
 
 impl Ordinal {
     pub const NONE: Ordinal = Ordinal(0);
-    pub const LIMIT: Ordinal = Ordinal(256);
+    pub const LIMIT: Ordinal = Ordinal(131_070);
 
     /// The next ordinal, where there is one within the limit.
     pub fn next(self) -> Option<Ordinal> {
@@ -209,6 +205,12 @@ impl Transaction {
         returning
     }
 
+    /// Whether nothing is left to do of it: invalid, or applied with no rollback asked, or rolled back to the end.
+    pub fn is_finished(&self) -> bool {
+        let applied = self.c.apply == Status::Complete && self.phase == Phase::Change;
+        self.c.commit == Status::Failed || applied || self.r.apply.is_done()
+    }
+
     fn is_well_formed(&self, number: Number) -> bool {
         self.r_index < number && self.c.ordinal <= Ordinal::LIMIT && self.r.ordinal <= Ordinal::LIMIT
     }
@@ -270,6 +272,11 @@ pub struct Target {
 
 #[derive(Clone, PartialEq, Eq, Hash, Debug)]
 pub struct State {
+    /// The last fold: this number and all below it are dropped. 0 is none.
+    pub folded: Number,
+    /// What the dropped live changes have set.
+    pub base: Values,
+    /// The transactions that are kept: their numbers follow on the last fold.
     pub log: Vec<Transaction>,
     pub committed: Committed,
     pub applied: Applied,
@@ -296,14 +303,58 @@ pub enum Refusal {
     LineNotOpen,
     PushRejected,
     NoRoom,
+    NotFinished = 17,
+    Folded,
 }
 
 impl Refusal {
-    pub const COUNT: usize = 14;
+    pub const ALL: [Refusal; 16] = [
+        Refusal::NotWellFormed,
+        Refusal::OutOfRange,
+        Refusal::NotAChange,
+        Refusal::LogFull,
+        Refusal::NoSuchNumber,
+        Refusal::NoRollback,
+        Refusal::AlreadySo,
+        Refusal::TargetStopped,
+        Refusal::CounterAtLimit,
+        Refusal::NotMaster,
+        Refusal::NoRule,
+        Refusal::LineNotOpen,
+        Refusal::PushRejected,
+        Refusal::NoRoom,
+        Refusal::NotFinished,
+        Refusal::Folded,
+    ];
 
     pub fn number(self) -> u8 {
         self as u8
     }
+}
+
+/// What keeps a fold from being allowed.
+#[derive(Clone, Copy, PartialEq, Eq, Hash, Debug)]
+pub enum Hindrance {
+    /// The commit side is not at rest.
+    NotAtRest,
+    /// The applied side is not settled.
+    NotSettled,
+    /// The event with the next ordinal is not Pending any more.
+    NextBegun,
+    /// The applied target has moved to it.
+    TargetMoved,
+    /// One of those to be dropped is not finished.
+    Unfinished,
+}
+
+impl Hindrance {
+    pub const ALL: [Hindrance; 5] = [
+        Hindrance::NotAtRest,
+        Hindrance::NotSettled,
+        Hindrance::NextBegun,
+        Hindrance::TargetMoved,
+        Hindrance::Unfinished,
+    ];
 }
 
 #[derive(Clone, Copy, PartialEq, Eq, Hash, Debug)]
@@ -317,6 +368,8 @@ pub struct Event {
 impl State {
     pub fn fresh() -> State {
         State {
+            folded: Number::NONE,
+            base: [0; PATHS],
             log: Vec::new(),
             committed: Committed {
                 index: Number::NONE,
@@ -346,11 +399,22 @@ impl State {
         let applied = &self.applied;
         let numbers = [index, change, target, revision, applied.index, applied.target, applied.revision];
         self.log.len() <= LOG_LIMIT
-            && (1..).zip(&self.log).all(|(number, transaction)| transaction.is_well_formed(Number(number)))
-            && numbers.iter().all(|number| usize::from(number.0) <= self.log.len())
+            && usize::from(self.folded.0) + self.log.len() <= usize::from(Number::LIMIT.0)
+            && self.kept().all(|(number, transaction)| transaction.is_well_formed(number))
+            && numbers.iter().all(|number| *number <= self.highest())
             && revision <= change
             && ordinal <= Ordinal::LIMIT
             && applied.ordinal <= Ordinal::LIMIT
+    }
+
+    /// The highest number given.
+    pub fn highest(&self) -> Number {
+        Number(self.folded.0 + self.log.len() as u16)
+    }
+
+    /// The kept transactions, each with its number.
+    pub fn kept(&self) -> impl Iterator<Item = (Number, &Transaction)> {
+        (self.folded.0..Number::LIMIT.0).map(|before| Number(before + 1)).zip(&self.log)
     }
 
     /// Answers the new entry's number.
@@ -359,13 +423,16 @@ impl State {
         if self.log.len() >= LOG_LIMIT {
             return Err(Refusal::LogFull);
         }
+        if self.highest() == Number::LIMIT {
+            return Err(Refusal::CounterAtLimit);
+        }
         self.log.push(Transaction::appended(change));
-        Ok(Number(self.log.len() as u16))
+        Ok(self.highest())
     }
 
     /// Asks for the rollback of a committed change.
     pub fn rollback(&mut self, number: u16) -> Result<(), Refusal> {
-        let place = self.place(number)?;
+        let place = self.place(Number(number))?;
         let transaction = &mut self.log[place];
         if transaction.phase != Phase::Change || transaction.c.commit != Status::Complete {
             return Err(Refusal::NoRollback);
@@ -474,7 +541,7 @@ impl State {
             Some(ranged) => ranged,
             None => return Worked::refused(Refusal::OutOfRange),
         };
-        let place = match self.place(number) {
+        let place = match self.place(Number(number)) {
             Ok(place) => place,
             Err(refusal) => return Worked::refused(refusal),
         };
@@ -499,19 +566,70 @@ impl State {
         worked
     }
 
-    /// The live list, newest first: from the committed revision, each hop to r.index, until 0.
+    /// Folds the front of the log away, up to that number.
+    pub fn fold(&mut self, number: u16) -> Result<(), Refusal> {
+        let number = Number(number);
+        if number <= self.folded || number > self.highest() {
+            return Err(Refusal::NoSuchNumber);
+        }
+        if Hindrance::ALL.iter().any(|hindrance| self.is_hindered(number, *hindrance)) {
+            return Err(Refusal::NotFinished);
+        }
+        self.drop_up_to(number);
+        Ok(())
+    }
+
+    /// Whether that keeps the kept ones up to the number from being folded.
+    pub fn is_hindered(&self, number: Number, hindrance: Hindrance) -> bool {
+        match hindrance {
+            Hindrance::NotAtRest => !self.at_rest(),
+            Hindrance::NotSettled => !settled(&self.log, self.applied.ordinal),
+            Hindrance::NextBegun => self.next_events().any(|(apply, _)| apply != Status::Pending),
+            Hindrance::TargetMoved => self.next_events().any(|(_, moves_to)| moves_to == self.applied.target),
+            Hindrance::Unfinished => {
+                self.kept().take_while(|(kept, _)| *kept <= number).any(|(_, transaction)| !transaction.is_finished())
+            }
+        }
+    }
+
+    /// What carries the ordinal after the applied one: its apply status, and where the applied target moves for it.
+    fn next_events(&self) -> impl Iterator<Item = (Status, Number)> + '_ {
+        let both = |(number, it): (Number, &Transaction)| [(it.c, number), (it.r, it.r_index)];
+        let next = |progress: &Progress| progress.ordinal.follows(self.applied.ordinal);
+        self.kept().flat_map(both).filter(move |(progress, _)| next(progress)).map(|(progress, to)| (progress.apply, to))
+    }
+
+    /// Lays the live ones up to the number on the base, oldest first, and keeps none of them.
+    pub fn drop_up_to(&mut self, number: Number) {
+        let dropped: Vec<Number> = self.live().filter(|live| *live <= number).collect();
+        for live in dropped.into_iter().rev() {
+            let change = self.transaction(live).expect("a kept number").change;
+            overlay(&mut self.base, change.pairs());
+        }
+        self.log.drain(..usize::from(number.0 - self.folded.0));
+        self.folded = number;
+    }
+
+    /// The live list, newest first: from the committed revision, each hop to r.index, until 0 or the last fold.
     pub fn live(&self) -> impl Iterator<Item = Number> + '_ {
-        let known = |number: Number| number.place().map(|_| number);
-        std::iter::successors(known(self.committed.revision), move |number| known(self.transaction(*number)?.r_index))
+        let kept = |number: Number| (number > self.folded).then_some(number);
+        std::iter::successors(kept(self.committed.revision), move |number| kept(self.transaction(*number)?.r_index))
     }
 
-    /// The transaction of that number, where the log has it.
+    /// The transaction of that number, where it is kept.
     pub fn transaction(&self, number: Number) -> Option<&Transaction> {
-        self.log.get(number.place()?)
+        self.place(number).ok().map(|place| &self.log[place])
     }
 
-    fn place(&self, number: u16) -> Result<usize, Refusal> {
-        Number(number).place().filter(|place| *place < self.log.len()).ok_or(Refusal::NoSuchNumber)
+    /// Where the transaction of that number stands among the kept ones.
+    pub fn place(&self, number: Number) -> Result<usize, Refusal> {
+        if number == Number::NONE || number > self.highest() {
+            return Err(Refusal::NoSuchNumber);
+        }
+        if number <= self.folded {
+            return Err(Refusal::Folded);
+        }
+        Ok(usize::from(number.before().0 - self.folded.0))
     }
 
     pub fn connection(&self, node: Node) -> Connection {
@@ -537,16 +655,15 @@ impl State {
 }
 
 impl Committed {
-    /// Whether the commit side is at rest, given the transaction at `index`.
+    /// Whether the commit side is at rest, given the transaction at `index`, where it is kept. A folded one is Done.
     pub fn at_rest(&self, at_index: Option<&Transaction>) -> bool {
-        match at_index {
-            None => self.target == Number::NONE,
-            Some(transaction) => {
-                let change_done = self.target == self.index && transaction.c.commit.is_done();
-                let returned = self.target == self.revision && self.revision < self.index;
-                change_done || (returned && transaction.r.commit.is_done())
-            }
+        if self.index == Number::NONE {
+            return self.target == Number::NONE;
         }
+        let change_done = at_index.map_or(true, |transaction| transaction.c.commit.is_done());
+        let rollback_done = at_index.map_or(true, |transaction| transaction.r.commit.is_done());
+        let returned = self.target == self.revision && self.revision < self.index;
+        (self.target == self.index && change_done) || (returned && rollback_done)
     }
 }
 

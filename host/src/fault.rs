@@ -1,8 +1,11 @@
 //! Wrong copies of one rule, to show that the comparison finds them. Only the comparison asks for one.
 
-use crate::controller::{ConfigurationState, Event, Number, Phase, Refusal, Stage, State, Status, Term};
+use crate::controller::{
+    overlay, ConfigurationState, Event, Hindrance, Number, Phase, Refusal, Stage, State, Status, Term, Values, LOG_LIMIT,
+};
+use crate::image::{at, ENTRY};
 use crate::jobs::Rule;
-use crate::northbound::{act, Answer, Request, Served};
+use crate::northbound::{self, act, Answer, Request, Served};
 use crate::reads::Query;
 
 #[derive(Clone, Copy, PartialEq, Eq, Debug)]
@@ -35,6 +38,36 @@ pub enum Fault {
     AppliedReadFromTarget,
     /// A read of c.ordinal shows r.ordinal.
     OrdinalReadFromRollback,
+    /// A fold is made although that hinders it.
+    FoldDespite(Hindrance),
+    /// A fold leaves the base as it was.
+    BaseNotLaid,
+    /// A fold lays the live ones newest first.
+    BaseNewestFirst,
+    /// A fold lays all that it drops, live or not.
+    BaseOfAll,
+    /// Numbers past the first 128 are kept in the slot after their own.
+    RingOffByOne,
+    /// A commit side that rests at a folded mark is taken for one under way.
+    FoldedMarkNotDone,
+    /// The live list goes on to the first folded number.
+    LivePastTheFold,
+    /// An append is refused by 4 where 128 numbers are given, however many are kept.
+    FullByHighest,
+    /// An append after the last number is taken, as number 0.
+    LastNumberForgotten,
+    /// An append that both 4 and 9 refuse is refused by 9.
+    LastBeforeFull,
+    /// A rollback of a folded number goes on to 6.
+    RollbackWithout18,
+    /// A job on a folded number goes on to 10 and 11.
+    WorkWithout18,
+    /// A read of a folded transaction is refused by 5.
+    ReadWithout18,
+    /// A job on a folded number is refused by 10 before 18.
+    MasterBefore18,
+    /// Number 0 is refused by 18 before 5.
+    FoldedBefore5,
 }
 
 impl Fault {
@@ -47,6 +80,11 @@ impl Fault {
         all.extend([Fault::AbortedOnceBegun, Fault::RestInFlight, Fault::StaleTerm, Fault::AppliedForgotten]);
         all.extend([Fault::ReconnectedRefused, Fault::ReconnectedForgetsConn, Fault::ReconnectedForgetsTerm]);
         all.extend([Fault::FreedAtConn, Fault::AppliedReadFromTarget, Fault::OrdinalReadFromRollback]);
+        all.extend(Hindrance::ALL.map(Fault::FoldDespite));
+        all.extend([Fault::BaseNotLaid, Fault::BaseNewestFirst, Fault::BaseOfAll, Fault::RingOffByOne]);
+        all.extend([Fault::FoldedMarkNotDone, Fault::LivePastTheFold, Fault::FullByHighest]);
+        all.extend([Fault::LastNumberForgotten, Fault::LastBeforeFull, Fault::RollbackWithout18]);
+        all.extend([Fault::WorkWithout18, Fault::ReadWithout18, Fault::MasterBefore18, Fault::FoldedBefore5]);
         all
     }
 
@@ -64,18 +102,14 @@ impl Fault {
                 *state = before;
                 Served { reply: Err(Refusal::NoRule), rule: None }
             }
-            Fault::NeverCut(rule) if served.rule == Some(rule) => {
+            Fault::NeverCut(rule) | Fault::AlwaysCut(rule) if served.rule == Some(rule) => {
                 *state = before;
-                act(state, &with_cut(request, 0))
-            }
-            Fault::AlwaysCut(rule) if served.rule == Some(rule) => {
-                *state = before;
-                act(state, &with_cut(request, 1))
+                act(state, &with_cut(request, (self == Fault::AlwaysCut(rule)).into()))
             }
             Fault::Silent(rule) if served.rule == Some(rule) => {
                 Served { reply: served.reply.map(|_| Answer::Nothing), ..served }
             }
-            Fault::AbortedOnceBegun if served.rule == Some(Rule::ApplyChangeFail) => aborted(state, request, served),
+            Fault::AbortedOnceBegun if served.rule == Some(Rule::ApplyChangeFail) => aborted(state, served),
             Fault::RestInFlight if served.reply == Err(Refusal::NoRule) => opened_in_flight(state, request, served),
             Fault::StaleTerm if served.rule == Some(Rule::ApplyChangeNoLine) => pushed_on_stale_term(state, request),
             Fault::AppliedForgotten if served.rule == Some(Rule::ApplyChangePush) => {
@@ -95,13 +129,90 @@ impl Fault {
                 served
             }
             Fault::FreedAtConn if served.reply == Err(Refusal::NoRule) => freed_at_conn(state, request, served),
-            _ => served,
+            _ => self.folded(before, state, request, served),
+        }
+    }
+
+    /// The faults of order 10, from the state before a call and the one that it left.
+    fn folded(self, before: State, state: &mut State, request: &Request, served: Served) -> Served {
+        match (self, request, served.reply) {
+            (Fault::FoldDespite(hindrance), Request::Fold(number), Err(Refusal::NotFinished)) => {
+                return folded_despite(state, Number(*number), hindrance, served);
+            }
+            (Fault::BaseNotLaid, Request::Fold(_), Ok(_)) => state.base = before.base,
+            (Fault::BaseNewestFirst, Request::Fold(_), Ok(_)) => {
+                let dropped = before.live().filter(|number| *number <= state.folded);
+                state.base = laid(&before, dropped);
+            }
+            (Fault::BaseOfAll, Request::Fold(_), Ok(_)) => {
+                let dropped = before.kept().map(|(number, _)| number).take_while(|number| *number <= state.folded);
+                state.base = laid(&before, dropped);
+            }
+            _ => {
+                if let Some(reply) = self.answered(&before, request, served) {
+                    *state = before;
+                    return Served { reply, rule: None };
+                }
+            }
+        }
+        served
+    }
+
+    /// What is answered, with this fault, in place of a call's reply to the state before it; nothing is changed then.
+    fn answered(self, before: &State, request: &Request, served: Served) -> Option<Result<Answer, Refusal>> {
+        let is_folded = |number: Number| number != Number::NONE && number <= before.folded;
+        let not_master = |node: u16| before.mastership.master.map(|master| u16::from(master.number())) != Some(node);
+        let opened = matches!(served.rule, Some(Rule::CommitChangeOpen | Rule::CommitRollbackOpen));
+        let refusal = match (self, request, served.reply) {
+            (Fault::FoldedMarkNotDone, _, Ok(_)) if opened && is_folded(before.committed.index) => Refusal::NoRule,
+            (Fault::FullByHighest, Request::Append(_), Ok(_)) if usize::from(before.highest().0) >= LOG_LIMIT => {
+                Refusal::LogFull
+            }
+            (Fault::LastNumberForgotten, Request::Append(_), Err(Refusal::CounterAtLimit)) => {
+                return Some(Ok(Answer::Appended(Number::NONE)));
+            }
+            (Fault::LastBeforeFull, _, Err(Refusal::LogFull)) if before.highest() == Number::LIMIT => {
+                Refusal::CounterAtLimit
+            }
+            (Fault::RollbackWithout18, Request::Rollback(_), Err(Refusal::Folded)) => Refusal::NoRollback,
+            (Fault::WorkWithout18 | Fault::MasterBefore18, Request::Work { node, .. }, Err(Refusal::Folded))
+                if not_master(*node) =>
+            {
+                Refusal::NotMaster
+            }
+            (Fault::WorkWithout18, Request::Work { .. }, Err(Refusal::Folded)) => Refusal::NoRule,
+            (Fault::FoldedBefore5, Request::Rollback(0) | Request::Work { number: 0, .. }, Err(Refusal::NoSuchNumber)) => {
+                Refusal::Folded
+            }
+            _ => return None,
+        };
+        Some(Err(refusal))
+    }
+
+    /// As `northbound::store`, with this fault in it.
+    pub fn store(self, state: &State, request: &Request, image: &mut [u8]) {
+        let off_by_one = self == Fault::RingOffByOne && usize::from(state.highest().0) > LOG_LIMIT;
+        let slots = if off_by_one { ENTRY } else { 0 };
+        image[..at::HIGHEST].rotate_left(slots);
+        northbound::store(state, request, image);
+        image[..at::HIGHEST].rotate_right(slots);
+    }
+
+    /// As `northbound::live_of`, with this fault in it.
+    pub fn live_of(self, state: Option<&State>, room: &mut [u16]) -> u64 {
+        match state {
+            Some(state) if self == Fault::LivePastTheFold => northbound::listed(&live_past_the_fold(state), room),
+            _ => northbound::live_of(state, room),
         }
     }
 
     /// The query that is answered in place of this one, with this fault.
-    pub fn misread(self, query: Query) -> Query {
+    pub fn misread(self, state: Option<&State>, query: Query) -> Query {
+        let is_folded = |number: u16| state.is_some_and(|state| state.place(Number(number)) == Err(Refusal::Folded));
         match (self, query) {
+            (Fault::ReadWithout18, Query::Transaction { number, field }) if is_folded(number) => {
+                Query::Transaction { number: 0, field }
+            }
             (Fault::AppliedReadFromTarget, Query::Value { table: 2, path }) => Query::Value { table: 3, path },
             (Fault::OrdinalReadFromRollback, Query::Transaction { number, field: 4 }) => {
                 Query::Transaction { number, field: 7 }
@@ -118,11 +229,12 @@ fn with_cut(request: &Request, cut: u16) -> Request {
     }
 }
 
-fn aborted(state: &mut State, request: &Request, served: Served) -> Served {
-    let (Request::Work { number, .. }, Ok(Answer::Told(event))) = (request, served.reply) else {
+fn aborted(state: &mut State, served: Served) -> Served {
+    let Ok(Answer::Told(event)) = served.reply else {
         return served;
     };
-    state.log[usize::from(*number) - 1].c.apply = Status::Aborted;
+    let place = state.place(event.number).expect("a job's number is kept");
+    state.log[place].c.apply = Status::Aborted;
     Served { reply: Ok(Answer::Told(Event { status: Status::Aborted, ..event })), ..served }
 }
 
@@ -163,4 +275,32 @@ fn freed_at_conn(state: &mut State, request: &Request, served: Served) -> Served
         }
         _ => served,
     }
+}
+
+/// Folds where that is all that hinders it.
+fn folded_despite(state: &mut State, number: Number, despite: Hindrance, served: Served) -> Served {
+    let hinders = |hindrance: &Hindrance| *hindrance != despite && state.is_hindered(number, *hindrance);
+    if Hindrance::ALL.iter().any(hinders) {
+        return served;
+    }
+    state.drop_up_to(number);
+    Served { reply: Ok(Answer::Nothing), rule: None }
+}
+
+/// The base with these kept ones laid on it, in their order.
+fn laid(state: &State, numbers: impl Iterator<Item = Number>) -> Values {
+    let mut base = state.base;
+    for transaction in numbers.filter_map(|number| state.transaction(number)) {
+        overlay(&mut base, transaction.change.pairs());
+    }
+    base
+}
+
+/// The live list and one hop more.
+fn live_past_the_fold(state: &State) -> Vec<Number> {
+    let mut list: Vec<Number> = state.live().collect();
+    let last = list.last().and_then(|last| state.transaction(*last));
+    let next = last.map_or(state.committed.revision, |last| last.r_index);
+    list.extend((next != Number::NONE).then_some(next));
+    list
 }

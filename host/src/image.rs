@@ -1,7 +1,7 @@
 //! The byte image of a state: where each field lies, and the state's way out of the bytes and back into them.
 //!
 //! `decode` answers a state only for a well-formed image. `encode` writes over the image that the state was read from, so
-//! that every byte that carries nothing (places past a change's pairs, entries past the log's end) stays what it was.
+//! that every byte that carries nothing (places past a change's pairs, slots of no number kept) stays what it was.
 
 use crate::controller::{
     Applied, Change, Committed, Configuration, ConfigurationState, Connection, Mastership, Node, Number, Ordinal, Phase,
@@ -9,10 +9,25 @@ use crate::controller::{
 };
 
 /// An image's length; bytes of any other length are no image.
-pub const LENGTH: usize = 4883;
+pub const LENGTH: usize = 4949;
 
-/// How far apart the log's entries lie.
+/// How far apart the slots of the log's ring lie.
 pub const ENTRY: usize = 36;
+
+/// The slot of a transaction's number.
+pub fn slot(number: Number) -> usize {
+    usize::from(number.before().0) % LOG_LIMIT
+}
+
+/// The bytes of a number's slot.
+pub fn entry_at(image: &[u8], number: Number) -> &[u8] {
+    &image[ENTRY * slot(number)..][..ENTRY]
+}
+
+/// As `entry_at`, to write.
+pub fn entry_at_mut(image: &mut [u8], number: Number) -> &mut [u8] {
+    &mut image[ENTRY * slot(number)..][..ENTRY]
+}
 
 /// Where the fields of an entry lie in it.
 pub mod entry {
@@ -32,7 +47,7 @@ pub mod entry {
 
 /// Where the fields after the log lie.
 pub mod at {
-    pub const LOG_LENGTH: usize = 4608;
+    pub const HIGHEST: usize = 4608;
     pub const COMMITTED_CHANGE: usize = 4610;
     pub const COMMITTED: usize = 4612;
     pub const APPLIED: usize = 4686;
@@ -44,6 +59,8 @@ pub mod at {
     pub const TARGET: usize = 4838;
     pub const CONNECTIONS: usize = 4843;
     pub const CONNECTION: usize = 5;
+    pub const FOLDED: usize = 4883;
+    pub const BASE: usize = 4885;
 }
 
 pub fn u16_at(bytes: &[u8], at: usize) -> u16 {
@@ -67,13 +84,15 @@ pub fn decode(image: &[u8]) -> Option<State> {
     if image.len() != LENGTH {
         return None;
     }
-    let length = usize::from(u16_at(image, at::LOG_LENGTH));
-    if length > LOG_LIMIT {
+    let (folded, highest) = (u16_at(image, at::FOLDED), u16_at(image, at::HIGHEST));
+    if usize::from(highest.checked_sub(folded)?) > LOG_LIMIT {
         return None;
     }
-    let log = image.chunks_exact(ENTRY).take(length).map(decode_entry).collect::<Option<Vec<_>>>()?;
+    let kept = (folded..highest).map(|before| entry_at(image, Number(before + 1)));
     let state = State {
-        log,
+        folded: Number(folded),
+        base: decode_values(image, at::BASE),
+        log: kept.map(decode_entry).collect::<Option<Vec<_>>>()?,
         committed: decode_committed(image),
         applied: decode_applied(image),
         configuration: decode_configuration(image)?,
@@ -198,14 +217,17 @@ fn decode_flag(code: u8) -> Option<bool> {
 
 /// Writes the state over the image that it was read from, or that its last call was written to.
 pub fn encode(state: &State, image: &mut [u8]) {
-    let had = usize::from(u16_at(image, at::LOG_LENGTH));
-    for (place, (transaction, bytes)) in state.log.iter().zip(image.chunks_exact_mut(ENTRY)).enumerate() {
-        if place >= had {
+    let had = Number(u16_at(image, at::HIGHEST));
+    for (number, transaction) in state.kept() {
+        let bytes = entry_at_mut(image, number);
+        if number > had {
             bytes.fill(0);
         }
         encode_entry(transaction, bytes);
     }
-    put_u16(image, at::LOG_LENGTH, state.log.len() as u16);
+    put_u16(image, at::HIGHEST, state.highest().0);
+    put_u16(image, at::FOLDED, state.folded.0);
+    encode_values(&state.base, image, at::BASE);
     encode_committed(&state.committed, image);
     encode_applied(&state.applied, image);
     encode_configuration(&state.configuration, image);

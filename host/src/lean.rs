@@ -4,20 +4,46 @@
 //! `northbound` is the plain way to the same bytes.
 
 use crate::controller::{
-    counted, Change, Connection, ConfigurationState, Node, Number, Ordinal, Phase, Refusal, Status, Term, LOG_LIMIT,
+    counted, Change, Committed, Connection, ConfigurationState, Node, Number, Ordinal, Phase, Refusal, Status, Term, LOG_LIMIT,
 };
 use crate::image::{self, at, entry, put_u16, put_u32, u16_at, u32_at, ENTRY, LENGTH};
 use crate::jobs::{ranged, Job, Work};
 use crate::northbound::{Answer, Request, Served};
 use crate::reads::{Query, CONNECTION_FIELDS, RECORD_FIELDS, TRANSACTION_FIELDS};
+use std::ops::Range;
 
 type Image = [u8; LENGTH];
 
-/// The log's length, where the image is well-formed.
-fn checked(image: &Image) -> Option<usize> {
-    let length = u16_at(image, at::LOG_LENGTH);
-    let within = |at: usize| u16_at(image, at) <= length;
-    let formed = usize::from(length) <= LOG_LIMIT
+/// The numbers that a log keeps: those after the last fold, up to the highest given.
+#[derive(Clone, Copy)]
+struct Kept {
+    folded: u16,
+    highest: u16,
+}
+
+impl Kept {
+    fn count(self) -> usize {
+        usize::from(self.highest) - usize::from(self.folded)
+    }
+
+    fn number(self, number: u16) -> Result<Number, Refusal> {
+        if number == 0 || number > self.highest {
+            return Err(Refusal::NoSuchNumber);
+        }
+        if number <= self.folded {
+            return Err(Refusal::Folded);
+        }
+        Ok(Number(number))
+    }
+}
+
+/// What the log keeps, where the image is well-formed.
+fn checked(image: &Image) -> Option<Kept> {
+    let kept = Kept { folded: u16_at(image, at::FOLDED), highest: u16_at(image, at::HIGHEST) };
+    let within = |at: usize| u16_at(image, at) <= kept.highest;
+    let mut number = kept.folded;
+    let formed = within(at::FOLDED)
+        && kept.count() <= LOG_LIMIT
         && within(at::COMMITTED_CHANGE)
         && [0, 2, 4].iter().all(|field| within(at::COMMITTED + field) && within(at::APPLIED + field))
         && u16_at(image, at::COMMITTED + 4) <= u16_at(image, at::COMMITTED_CHANGE)
@@ -26,13 +52,21 @@ fn checked(image: &Image) -> Option<usize> {
         && matches!(image[at::CONFIGURATION], 1..=3)
         && image[at::MASTERSHIP] <= 8
         && image[at::TARGET + 4] <= 1
-        && image[at::CONNECTIONS..].chunks_exact(at::CONNECTION).all(|connection| connection[4] <= 1)
-        && entries(image, length.into()).zip(1..).all(|(bytes, number)| entry_is_formed(bytes, number));
-    formed.then_some(length.into())
+        && image[at::CONNECTIONS..at::FOLDED].chunks_exact(at::CONNECTION).all(|connection| connection[4] <= 1)
+        && entries(image, kept).all(|bytes| {
+            number += 1;
+            entry_is_formed(bytes, number)
+        });
+    formed.then_some(kept)
 }
 
-fn entries(image: &Image, length: usize) -> impl Iterator<Item = &[u8; ENTRY]> {
-    image[..ENTRY * length].chunks_exact(ENTRY).map(|bytes| bytes.try_into().expect("an entry's bytes"))
+/// The kept entries, oldest first: the ring from the first of them to its end, then the rest from its beginning.
+fn entries(image: &Image, kept: Kept) -> impl Iterator<Item = &[u8; ENTRY]> {
+    let first = usize::from(kept.folded) % LOG_LIMIT;
+    let upper = kept.count().min(LOG_LIMIT - first);
+    let run = |slots: Range<usize>| image[ENTRY * slots.start..ENTRY * slots.end].chunks_exact(ENTRY);
+    let runs = run(first..first + upper).chain(run(0..kept.count() - upper));
+    runs.map(|bytes| bytes.try_into().expect("an entry's bytes"))
 }
 
 fn entry_is_formed(bytes: &[u8; ENTRY], number: u16) -> bool {
@@ -55,9 +89,9 @@ fn paths_rise(paths: &[u8]) -> bool {
 }
 
 /// Runs a call on a well-formed image and packs its reply.
-fn on(image: &mut [u8], call: impl FnOnce(&mut Image, usize) -> Result<Answer, Refusal>) -> u64 {
+fn on(image: &mut [u8], call: impl FnOnce(&mut Image, Kept) -> Result<Answer, Refusal>) -> u64 {
     let reply = match <&mut Image>::try_from(image) {
-        Ok(image) => checked(image).ok_or(Refusal::NotWellFormed).and_then(|length| call(image, length)),
+        Ok(image) => checked(image).ok_or(Refusal::NotWellFormed).and_then(|kept| call(image, kept)),
         Err(_) => Err(Refusal::NotWellFormed),
     };
     Served { reply, rule: None }.packed()
@@ -77,6 +111,7 @@ pub fn serve(image: &mut [u8], request: &Request, pairs: &[u8]) -> u64 {
         Request::Master(node) => master(image, node),
         Request::Sync(node) => sync(image, node),
         Request::Work { node, job, number, outcome, cut } => work(image, node, job, number, outcome, cut),
+        Request::Fold(number) => fold(image, number),
     }
 }
 
@@ -92,16 +127,17 @@ pub fn fresh(image: &mut [u8]) -> u64 {
 
 #[inline(never)]
 pub fn append(image: &mut [u8], pairs: &[u8]) -> u64 {
-    on(image, |image, length| {
+    on(image, |image, kept| {
         if pairs.len() % 4 != 0 {
             return Err(Refusal::NotAChange);
         }
         let change = Change::new(pairs.chunks_exact(4).map(|four| (u16_at(four, 0), u16_at(four, 2))))
             .ok_or(Refusal::NotAChange)?;
-        if length == LOG_LIMIT {
+        if kept.count() == LOG_LIMIT {
             return Err(Refusal::LogFull);
         }
-        let bytes = &mut image[ENTRY * length..ENTRY * (length + 1)];
+        let number = Number(kept.highest.checked_add(1).ok_or(Refusal::CounterAtLimit)?);
+        let bytes = image::entry_at_mut(image, number);
         bytes.fill(0);
         bytes[entry::C_COMMIT] = Status::Pending.code();
         bytes[entry::C_APPLY] = Status::Pending.code();
@@ -111,22 +147,15 @@ pub fn append(image: &mut [u8], pairs: &[u8]) -> u64 {
             bytes[entry::PATHS + place] = pair.path;
             put_u16(bytes, entry::VALUES + 2 * place, pair.value);
         }
-        let number = length as u16 + 1;
-        put_u16(image, at::LOG_LENGTH, number);
-        Ok(Answer::Appended(Number(number)))
+        put_u16(image, at::HIGHEST, number.0);
+        Ok(Answer::Appended(number))
     })
-}
-
-/// The entry's bytes, where the log has that number.
-fn entry_of(image: &mut Image, length: usize, number: u16) -> Result<&mut [u8], Refusal> {
-    let place = Number(number).place().filter(|place| *place < length).ok_or(Refusal::NoSuchNumber)?;
-    Ok(&mut image[ENTRY * place..ENTRY * (place + 1)])
 }
 
 #[inline(never)]
 pub fn rollback(image: &mut [u8], number: u16) -> u64 {
-    on(image, |image, length| {
-        let bytes = entry_of(image, length, number)?;
+    on(image, |image, kept| {
+        let bytes = image::entry_at_mut(image, kept.number(number)?);
         let committed = bytes[entry::C_COMMIT] == Status::Complete.code();
         if bytes[entry::PHASE] != Phase::Change as u8 || !committed {
             return Err(Refusal::NoRollback);
@@ -159,7 +188,8 @@ pub fn stop(image: &mut [u8]) -> u64 {
         }
         image[at::TARGET + 4] = 0;
         image[at::TARGET_VALUES..at::TARGET_VALUES + 64].fill(0);
-        image[at::CONNECTIONS..].chunks_exact_mut(at::CONNECTION).for_each(|connection| connection[4] = 0);
+        let connections = image[at::CONNECTIONS..at::FOLDED].chunks_exact_mut(at::CONNECTION);
+        connections.for_each(|connection| connection[4] = 0);
         Ok(Answer::Nothing)
     })
 }
@@ -268,31 +298,40 @@ fn line_open(image: &Image, node: Node) -> bool {
 }
 
 /// Whether every change and rollback that carries the ordinal has a Done apply status.
-fn settled(image: &Image, length: usize, ordinal: Ordinal) -> bool {
-    let done = |code: u8| matches!(code, 3..=6);
+fn settled(image: &Image, kept: Kept, ordinal: Ordinal) -> bool {
     ordinal == Ordinal::NONE
-        || entries(image, length).all(|bytes| {
-            (u32_at(bytes, entry::C_ORDINAL) != ordinal.0 || done(bytes[entry::C_APPLY]))
-                && (u32_at(bytes, entry::R_ORDINAL) != ordinal.0 || done(bytes[entry::R_APPLY]))
+        || entries(image, kept).all(|bytes| {
+            (u32_at(bytes, entry::C_ORDINAL) != ordinal.0 || is_done(bytes[entry::C_APPLY]))
+                && (u32_at(bytes, entry::R_ORDINAL) != ordinal.0 || is_done(bytes[entry::R_APPLY]))
         })
+}
+
+fn is_done(code: u8) -> bool {
+    matches!(code, 3..=6)
+}
+
+/// Whether the commit side is at rest.
+fn at_rest(image: &Image, kept: Kept, committed: &Committed) -> bool {
+    let at_index = kept.number(committed.index.0).ok().and_then(|index| image::decode_entry(image::entry_at(image, index)));
+    committed.at_rest(at_index.as_ref())
 }
 
 #[inline(never)]
 pub fn work(image: &mut [u8], node: u16, job: u16, number: u16, outcome: u16, cut: u16) -> u64 {
-    on(image, |image, length| {
+    on(image, |image, kept| {
         let (node, job, outcome, cut) = ranged(node, job, outcome, cut).ok_or(Refusal::OutOfRange)?;
-        let mut transaction =
-            image::decode_entry(entry_of(image, length, number)?).ok_or(Refusal::NotWellFormed)?;
+        let number = kept.number(number)?;
+        let mut transaction = image::decode_entry(image::entry_at(image, number)).ok_or(Refusal::NotWellFormed)?;
         if image[at::MASTERSHIP] != node.number() {
             return Err(Refusal::NotMaster);
         }
         let mut committed = image::decode_committed(image);
         let mut applied = image::decode_applied(image);
         let mut target_values = image::decode_values(image, at::TARGET_VALUES);
-        let at_index = committed.index.place().and_then(|place| image::decode_entry(&image[ENTRY * place..][..ENTRY]));
+        let at_rest = at_rest(image, kept, &committed);
         let worked = Work {
             job,
-            number: Number(number),
+            number,
             outcome,
             cut,
             transaction: &mut transaction,
@@ -300,9 +339,8 @@ pub fn work(image: &mut [u8], node: u16, job: u16, number: u16, outcome: u16, cu
             applied: &mut applied,
             target_values: &mut target_values,
         };
-        let at_rest = worked.committed.at_rest(at_index.as_ref());
-        let event = worked.done(at_rest, line_open(image, node), |ordinal| settled(image, length, ordinal)).reply?;
-        image::encode_entry(&transaction, entry_of(image, length, number)?);
+        let event = worked.done(at_rest, line_open(image, node), |ordinal| settled(image, kept, ordinal)).reply?;
+        image::encode_entry(&transaction, image::entry_at_mut(image, number));
         match job {
             Job::CommitChange | Job::CommitRollback => image::encode_committed(&committed, image),
             Job::ApplyChange | Job::ApplyRollback => {
@@ -315,19 +353,76 @@ pub fn work(image: &mut [u8], node: u16, job: u16, number: u16, outcome: u16, cu
 }
 
 #[inline(never)]
+pub fn fold(image: &mut [u8], number: u16) -> u64 {
+    on(image, |image, kept| {
+        if number <= kept.folded || number > kept.highest {
+            return Err(Refusal::NoSuchNumber);
+        }
+        let dropped = Kept { highest: number, ..kept };
+        let allowed = at_rest(image, kept, &image::decode_committed(image))
+            && settled(image, kept, Ordinal(u32_at(image, at::APPLIED + 6)))
+            && next_waits(image, kept)
+            && entries(image, dropped).all(is_finished);
+        if !allowed {
+            return Err(Refusal::NotFinished);
+        }
+        lay_base(image, dropped);
+        put_u16(image, at::FOLDED, number);
+        Ok(Answer::Nothing)
+    })
+}
+
+/// Whether what carries the ordinal after the applied one is Pending, and the applied target elsewhere.
+fn next_waits(image: &Image, kept: Kept) -> bool {
+    let next = u32_at(image, at::APPLIED + 6) + 1;
+    let target = u16_at(image, at::APPLIED + 2);
+    let waits = |apply: u8, moves_to: u16| apply == Status::Pending.code() && moves_to != target;
+    let mut number = kept.folded;
+    entries(image, kept).all(|bytes| {
+        number += 1;
+        (u32_at(bytes, entry::C_ORDINAL) != next || waits(bytes[entry::C_APPLY], number))
+            && (u32_at(bytes, entry::R_ORDINAL) != next || waits(bytes[entry::R_APPLY], u16_at(bytes, entry::R_INDEX)))
+    })
+}
+
+fn is_finished(bytes: &[u8; ENTRY]) -> bool {
+    let applied = bytes[entry::C_APPLY] == Status::Complete.code() && bytes[entry::PHASE] == Phase::Change as u8;
+    applied || bytes[entry::C_COMMIT] == Status::Failed.code() || is_done(bytes[entry::R_APPLY])
+}
+
+/// Lays the live ones among the dropped on the base. They come newest first, so a path that has been laid stays.
+fn lay_base(image: &mut Image, dropped: Kept) {
+    let mut laid = 0u32;
+    let mut number = u16_at(image, at::COMMITTED + 4);
+    while number > dropped.folded {
+        let slot = ENTRY * image::slot(Number(number));
+        let pairs = if number <= dropped.highest { usize::from(image[slot + entry::PAIRS]) } else { 0 };
+        for place in 0..pairs {
+            let path = usize::from(image[slot + entry::PATHS + place]);
+            if laid & 1 << path == 0 {
+                let value = slot + entry::VALUES + 2 * place;
+                image.copy_within(value..value + 2, at::BASE + 2 * path);
+            }
+            laid |= 1 << path;
+        }
+        number = u16_at(image, slot + entry::R_INDEX);
+    }
+}
+
+#[inline(never)]
 pub fn is_well_formed(image: &[u8]) -> bool {
     <&Image>::try_from(image).is_ok_and(|image| checked(image).is_some())
 }
 
 #[inline(never)]
 pub fn live(image: &[u8], room: &mut [u16]) -> u64 {
-    let Some((image, _)) = <&Image>::try_from(image).ok().and_then(|image| Some((image, checked(image)?))) else {
+    let Some((image, kept)) = <&Image>::try_from(image).ok().and_then(|image| Some((image, checked(image)?))) else {
         return u64::from(Refusal::NotWellFormed.number());
     };
-    let revision = |at: usize| Some(u16_at(image, at)).filter(|number| *number != 0);
+    let revision = |at: usize| Some(u16_at(image, at)).filter(|number| *number > kept.folded);
     let list = || {
         std::iter::successors(revision(at::COMMITTED + 4), |number| {
-            revision(ENTRY * (usize::from(*number) - 1) + entry::R_INDEX)
+            revision(ENTRY * image::slot(Number(*number)) + entry::R_INDEX)
         })
     };
     let hops = list().count();
@@ -368,7 +463,7 @@ const IN_ENTRY: [Field; TRANSACTION_FIELDS as usize] = [
 
 /// The fields that a state has once.
 const ONCE: [Field; RECORD_FIELDS as usize] = [
-    (at::LOG_LENGTH, 2),
+    (at::HIGHEST, 2),
     (at::COMMITTED, 2),
     (at::COMMITTED_CHANGE, 2),
     (at::COMMITTED + 2, 2),
@@ -385,6 +480,7 @@ const ONCE: [Field; RECORD_FIELDS as usize] = [
     (at::MASTERSHIP + 5, 4),
     (at::TARGET, 4),
     (at::TARGET + 4, 1),
+    (at::FOLDED, 2),
 ];
 
 const IN_CONNECTION: [Field; CONNECTION_FIELDS as usize] = [(0, 4), (4, 1)];
@@ -403,18 +499,17 @@ pub fn read(image: &[u8], query: Query) -> u64 {
 #[inline(never)]
 pub fn value(image: &[u8], table: u16, path: u16) -> u64 {
     shown(image, |_| {
-        let (values, width) =
-            one_of(&[(at::COMMITTED_VALUES, 2), (at::APPLIED_VALUES, 2), (at::TARGET_VALUES, 2)], table)?;
+        let tables = [(at::COMMITTED_VALUES, 2), (at::APPLIED_VALUES, 2), (at::TARGET_VALUES, 2), (at::BASE, 2)];
+        let (values, width) = one_of(&tables, table)?;
         (path < 32).then(|| (values + 2 * usize::from(path), width)).ok_or(Refusal::OutOfRange)
     })
 }
 
 #[inline(never)]
 pub fn transaction(image: &[u8], number: u16, field: u16) -> u64 {
-    shown(image, |length| {
+    shown(image, |kept| {
         let (at, width) = one_of(&IN_ENTRY, field)?;
-        let place = Number(number).place().filter(|place| *place < length).ok_or(Refusal::NoSuchNumber)?;
-        Ok((ENTRY * place + at, width))
+        Ok((ENTRY * image::slot(kept.number(number)?) + at, width))
     })
 }
 
@@ -436,8 +531,8 @@ fn one_of(fields: &[Field], field: u16) -> Result<Field, Refusal> {
     usize::from(field).checked_sub(1).and_then(|place| fields.get(place)).copied().ok_or(Refusal::OutOfRange)
 }
 
-/// The number at the place that is found in a well-formed image, whose log has the length given.
-fn shown(image: &[u8], find: impl FnOnce(usize) -> Result<Field, Refusal>) -> u64 {
+/// The number at the place that is found in a well-formed image, whose log keeps what is given.
+fn shown(image: &[u8], find: impl FnOnce(Kept) -> Result<Field, Refusal>) -> u64 {
     let read = <&Image>::try_from(image).map_err(|_| Refusal::NotWellFormed).and_then(|image| {
         let (at, width) = find(checked(image).ok_or(Refusal::NotWellFormed)?)?;
         Ok(match width {

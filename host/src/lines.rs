@@ -15,6 +15,7 @@ pub fn read(line: &[u8]) -> Option<Request> {
         ("stop", None) => Some(Request::Stop),
         ("append", Some(operands)) => Some(Request::Append(bytes_of(&read_pairs(operands.strip_prefix("pairs=")?)?))),
         ("rollback", Some(operands)) => numbers(operands, ["number"]).map(|[number]| Request::Rollback(number)),
+        ("fold", Some(operands)) => numbers(operands, ["number"]).map(|[number]| Request::Fold(number)),
         ("connect", Some(operands)) => numbers(operands, ["node"]).map(|[node]| Request::Connect(node)),
         ("disconnect", Some(operands)) => numbers(operands, ["node"]).map(|[node]| Request::Disconnect(node)),
         ("master", Some(operands)) => numbers(operands, ["node"]).map(|[node]| Request::Master(node)),
@@ -66,6 +67,7 @@ pub fn asking(request: &Request) -> Option<String> {
             format!("call=append pairs={}\n", pairs.join(","))
         }
         Request::Rollback(number) => format!("call=rollback number={number}\n"),
+        Request::Fold(number) => format!("call=fold number={number}\n"),
         Request::Start => "call=start\n".to_string(),
         Request::Stop => "call=stop\n".to_string(),
         Request::Connect(node) => format!("call=connect node={node}\n"),

@@ -18,6 +18,7 @@ pub enum Request {
     Master(u16),
     Sync(u16),
     Work { node: u16, job: u16, number: u16, outcome: u16, cut: u16 },
+    Fold(u16),
 }
 
 impl Request {
@@ -96,6 +97,7 @@ pub fn act(state: &mut State, request: &Request) -> Served {
             let worked = state.work(node, job, number, outcome, cut);
             Served { reply: worked.reply.map(|event| event.map_or(Answer::Nothing, Answer::Told)), rule: worked.rule }
         }
+        Request::Fold(number) => Served::plain(state.fold(number)),
     }
 }
 
@@ -133,10 +135,14 @@ pub fn live_of(state: Option<&State>, room: &mut [u16]) -> u64 {
     let Some(state) = state else {
         return u64::from(Refusal::NotWellFormed.number());
     };
-    let hops = state.live().count();
-    if hops > room.len() {
+    listed(&state.live().collect::<Vec<_>>(), room)
+}
+
+/// Writes a list into the room and answers its length, packed.
+pub fn listed(list: &[Number], room: &mut [u16]) -> u64 {
+    if list.len() > room.len() {
         return u64::from(Refusal::NoRoom.number());
     }
-    room.iter_mut().zip(state.live()).for_each(|(place, number)| *place = number.0);
-    (hops as u64) << 32
+    room.iter_mut().zip(list).for_each(|(place, number)| *place = number.0);
+    (list.len() as u64) << 32
 }

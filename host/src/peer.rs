@@ -23,6 +23,7 @@ mod exported {
             outcome: u16,
             cut: u16,
         ) -> u64;
+        pub fn makowist_fold(image: *mut u8, length: usize, number: u16) -> u64;
         pub fn makowist_live(image: *const u8, length: usize, room: *mut u16, room_length: usize) -> u64;
         pub fn makowist_well_formed(image: *const u8, length: usize) -> u64;
         pub fn makowist_value(image: *const u8, length: usize, table: u16, path: u16) -> u64;
@@ -55,6 +56,7 @@ pub fn serve(image: &mut [u8], request: &Request, pairs: &[u8]) -> u64 {
             Request::Work { node, job, number, outcome, cut } => {
                 exported::makowist_work(bytes, length, node, job, number, outcome, cut)
             }
+            Request::Fold(number) => exported::makowist_fold(bytes, length, number),
         }
     }
 }

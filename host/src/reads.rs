@@ -1,8 +1,9 @@
 //! The C interface's reads over the independent controller: one number of the state at a time.
 
 use crate::controller::{Connection, Node, Number, Progress, Refusal, State, Transaction, PATHS};
-use crate::image::{configuration_code, entry, u16_at, ENTRY};
+use crate::image::{configuration_code, entry, entry_at, u16_at};
 use crate::random::Random;
+use crate::requests::{any_number, numbers};
 
 /// What is asked of an image.
 #[derive(Clone, Copy, PartialEq, Eq, Hash, Debug)]
@@ -14,9 +15,9 @@ pub enum Query {
 }
 
 /// How many tables there are, and fields of each record; each counted from 1.
-pub const TABLES: u16 = 3;
+pub const TABLES: u16 = 4;
 pub const TRANSACTION_FIELDS: u16 = 21;
-pub const RECORD_FIELDS: u16 = 17;
+pub const RECORD_FIELDS: u16 = 18;
 pub const CONNECTION_FIELDS: u16 = 2;
 
 /// The transaction's fields that hold its pairs: paths, values and r.values, four places each.
@@ -25,8 +26,8 @@ const VALUE_FIELD: u16 = 14;
 const R_VALUE_FIELD: u16 = 18;
 
 impl Query {
-    /// A query at random, now and then out of range or past a log of that length.
-    pub fn any(length: usize, random: &mut Random) -> Query {
+    /// A query at random, now and then out of range, folded or past the log's end.
+    pub fn any(state: &State, random: &mut Random) -> Query {
         let field = |fields: u16, random: &mut Random| match random.once_in(12) {
             true => random.one_of(&[0, fields + 1, 255, 256, 257, 65535]),
             false => random.between(1, fields.into()) as u16,
@@ -43,18 +44,18 @@ impl Query {
             }
             _ => {
                 let field = field(TRANSACTION_FIELDS, random);
-                Query::Transaction { number: random.below(length + 2) as u16, field }
+                Query::Transaction { number: any_number(state, random), field }
             }
         }
     }
 
-    /// Every query that is in range on a log of that length, and one past each range.
-    pub fn all(length: usize) -> Vec<Query> {
+    /// Every query that is in range on the state's log, a few on what is folded, and one past each range.
+    pub fn all(state: &State) -> Vec<Query> {
         let mut all = Vec::new();
         for table in 0..=TABLES + 1 {
             all.extend((0..=PATHS as u16).map(|path| Query::Value { table, path }));
         }
-        for number in 0..=length as u16 + 1 {
+        for number in numbers(state) {
             all.extend((0..=TRANSACTION_FIELDS + 1).map(|field| Query::Transaction { number, field }));
         }
         all.extend((0..=RECORD_FIELDS + 1).map(|field| Query::Record { field }));
@@ -73,14 +74,15 @@ impl Query {
                     1 => &state.committed.values,
                     2 => &state.applied.values,
                     3 => &state.target.values,
+                    4 => &state.base,
                     _ => return Err(Refusal::OutOfRange),
                 };
                 values.get(usize::from(path)).map(|value| u32::from(*value)).ok_or(Refusal::OutOfRange)
             }
             Query::Transaction { number, field } => {
                 ranged(field, TRANSACTION_FIELDS)?;
-                let transaction = state.transaction(Number(number)).ok_or(Refusal::NoSuchNumber)?;
-                Ok(of_transaction(transaction, &image[ENTRY * (usize::from(number) - 1)..][..ENTRY], field))
+                let transaction = &state.log[state.place(Number(number))?];
+                Ok(of_transaction(transaction, entry_at(image, Number(number)), field))
             }
             Query::Record { field } => {
                 ranged(field, RECORD_FIELDS)?;
@@ -142,7 +144,7 @@ fn of_progress(progress: &Progress, field: u16) -> u32 {
 fn of_record(state: &State, field: u16) -> u32 {
     let (committed, applied) = (&state.committed, &state.applied);
     match field {
-        1 => state.log.len() as u32,
+        1 => state.highest().0.into(),
         2 => committed.index.0.into(),
         3 => committed.change.0.into(),
         4 => committed.target.0.into(),
@@ -158,6 +160,7 @@ fn of_record(state: &State, field: u16) -> u32 {
         14 => state.mastership.term.0,
         15 => state.mastership.conn,
         16 => state.target.id,
-        _ => state.target.running.into(),
+        17 => state.target.running.into(),
+        _ => state.folded.0.into(),
     }
 }

@@ -27,6 +27,20 @@ fn value(random: &mut Random) -> u16 {
     }
 }
 
+/// Every number that a call from the state may name: 0, a few that are folded, those kept, and one past the end.
+pub fn numbers(state: &State) -> impl Iterator<Item = u16> {
+    let lowest = state.folded.0.saturating_sub(2).max(1);
+    std::iter::once(0).chain(lowest..=state.highest().0.saturating_add(1))
+}
+
+/// One of them, or any that is folded.
+pub fn any_number(state: &State, random: &mut Random) -> u16 {
+    match random.below(8) {
+        0 => random.below(usize::from(state.folded.0) + 1) as u16,
+        _ => state.folded.0.saturating_add(random.below(state.log.len() + 2) as u16),
+    }
+}
+
 /// A call that brings the work on: the line first, then the log, now and then something that disturbs.
 pub fn sensible(state: &State, log_limit: usize, random: &mut Random) -> Request {
     if random.once_in(60) {
@@ -37,10 +51,12 @@ pub fn sensible(state: &State, log_limit: usize, random: &mut Random) -> Request
             return request;
         }
     }
-    let all_committed = usize::from(state.committed.change.0) == state.log.len();
+    let all_committed = state.committed.change == state.highest();
     match random.below(10) {
         0 | 1 if state.log.len() < log_limit => Request::Append(change(random)),
         3..=5 if all_committed && state.log.len() < log_limit => Request::Append(change(random)),
+        0 => Request::Fold(to_fold(state, random)),
+        2 if random.once_in(4) => Request::Fold(to_fold(state, random)),
         2 => Request::Rollback(to_roll_back(state, random)),
         _ => job(state, random),
     }
@@ -85,8 +101,18 @@ fn disturbing(state: &State, random: &mut Random) -> Request {
 
 fn to_roll_back(state: &State, random: &mut Random) -> u16 {
     match random.below(3) {
-        0 => random.below(state.log.len() + 1) as u16,
+        0 => any_number(state, random),
         _ => state.committed.revision.0,
+    }
+}
+
+/// Mostly one of the finished front's, or the first that is not finished; whether the moment is a lucky one is not asked.
+fn to_fold(state: &State, random: &mut Random) -> u16 {
+    let finished = state.log.iter().take_while(|transaction| transaction.is_finished()).count();
+    match random.below(8) {
+        0 => any_number(state, random),
+        1..=3 => state.folded.0.saturating_add(finished as u16),
+        _ => state.folded.0.saturating_add(random.between(1, finished + 1) as u16),
     }
 }
 
@@ -95,7 +121,7 @@ fn job(state: &State, random: &mut Random) -> Request {
     let (job, number) = match random.below(8) {
         0..=2 => on_commit_side(state, random),
         3..=6 => on_apply_side(state, random),
-        _ => (random.between(1, 4) as u16, random.below(state.log.len() + 1) as u16),
+        _ => (random.between(1, 4) as u16, any_number(state, random)),
     };
     let outcome = random.once_in(7).into();
     let cut = random.once_in(3).into();
@@ -114,7 +140,7 @@ fn on_commit_side(state: &State, random: &mut Random) -> (u16, u16) {
     match random.below(4) {
         0 | 1 if finishes => (1, committed.change.0),
         1 | 2 if rolled_back => (3, committed.revision.0),
-        _ if usize::from(committed.change.0) == state.log.len() => on_apply_side(state, random),
+        _ if committed.change == state.highest() => on_apply_side(state, random),
         _ => (1, committed.change.0 + 1),
     }
 }
@@ -124,31 +150,32 @@ fn on_apply_side(state: &State, random: &mut Random) -> (u16, u16) {
     let present = state.applied.ordinal;
     let wanted = if random.once_in(4) { present } else { Ordinal(present.0 + 1) };
     let carried = |ordinal: Ordinal| ordinal == wanted && ordinal != Ordinal::NONE;
-    for (number, transaction) in (1..).zip(&state.log) {
+    for (number, transaction) in state.kept() {
         if carried(transaction.c.ordinal) {
-            return (2, number);
+            return (2, number.0);
         }
         if carried(transaction.r.ordinal) {
-            return (4, number);
+            return (4, number.0);
         }
     }
-    (random.one_of(&[2, 4]), random.below(state.log.len() + 1) as u16)
+    (random.one_of(&[2, 4]), any_number(state, random))
 }
 
 /// Any call at all, its operands mostly near the ends of their ranges.
-pub fn wild(state_length: usize, random: &mut Random) -> Request {
+pub fn wild(state: &State, random: &mut Random) -> Request {
     let node = |random: &mut Random| match random.below(6) {
         0 => random.one_of(&[0, 9, 255, 256, 257, 65535]),
         _ => random.between(1, 8) as u16,
     };
     let number = |random: &mut Random| match random.below(6) {
         0 => random.one_of(&[0, 127, 128, 129, 256, 257, 32768, 65535]),
-        _ => random.below(state_length + 2) as u16,
+        _ => any_number(state, random),
     };
     match random.below(16) {
         0 => Request::Append(any_pairs(random)),
         1 => Request::Append(change(random)),
-        2 | 3 => Request::Rollback(number(random)),
+        2 => Request::Rollback(number(random)),
+        3 => Request::Fold(number(random)),
         4 => Request::Start,
         5 => Request::Stop,
         6 => Request::Connect(node(random)),

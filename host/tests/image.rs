@@ -1,6 +1,6 @@
 //! The codec: a state's way through the image and back, and which bytes a call leaves alone.
 
-use makowist_host::controller::{State, LOG_LIMIT};
+use makowist_host::controller::{Number, State, LOG_LIMIT, PATHS};
 use makowist_host::image::{self, at, entry, ENTRY, LENGTH};
 use makowist_host::northbound::{self, bytes_of, Request};
 use makowist_host::random::Random;
@@ -45,8 +45,9 @@ fn some() -> Vec<u8> {
 
 #[test]
 fn the_layout_ends_where_it_says() {
-    assert_eq!(ENTRY * LOG_LIMIT, at::LOG_LENGTH);
-    assert_eq!(at::CONNECTIONS + 8 * at::CONNECTION, LENGTH);
+    assert_eq!(ENTRY * LOG_LIMIT, at::HIGHEST);
+    assert_eq!(at::CONNECTIONS + 8 * at::CONNECTION, at::FOLDED);
+    assert_eq!(at::BASE + 2 * PATHS, LENGTH);
 }
 
 #[test]
@@ -61,7 +62,7 @@ fn fresh_is_zero_but_for_the_pending_configuration() {
 fn what_is_decoded_is_encoded_to_the_same_bytes() {
     let mut bytes = some();
     let state = image::decode(&bytes).unwrap();
-    for byte in &mut bytes[2 * ENTRY..at::LOG_LENGTH] {
+    for byte in &mut bytes[2 * ENTRY..at::HIGHEST] {
         *byte = 0xee;
     }
     bytes[entry::PATHS + 2] = 77;
@@ -70,6 +71,67 @@ fn what_is_decoded_is_encoded_to_the_same_bytes() {
     assert_eq!(image::decode(&bytes), Some(state.clone()));
     image::encode(&state, &mut bytes);
     assert_eq!(bytes, before);
+}
+
+/// An image whose ring wraps: 101 to 160 are kept, in the slots from 100 to the last and from 0 to 31.
+fn wrapped() -> Vec<u8> {
+    let mut bytes = some();
+    for request in [work(1, 2), work(2, 1), work(2, 1), work(2, 2), work(2, 2)] {
+        assert_eq!(serve(&mut bytes, request) & 0xff, 0);
+    }
+    for number in 3..=160 {
+        let append = Request::Append(bytes_of(&[(number % 32, number)]));
+        for request in [append, work(1, number), work(1, number), work(2, number), work(2, number)] {
+            assert_eq!(serve(&mut bytes, request) & 0xff, 0);
+        }
+        if number % 50 == 0 && number <= 100 {
+            assert_eq!(serve(&mut bytes, Request::Fold(number)), 0);
+        }
+    }
+    bytes
+}
+
+#[test]
+fn a_ring_that_wraps_comes_back_as_it_was() {
+    let mut bytes = wrapped();
+    let unused = ENTRY * 32..ENTRY * 100;
+    bytes[unused.clone()].fill(0xee);
+    let state = image::decode(&bytes).unwrap();
+    assert_eq!((state.folded, state.highest()), (Number(100), Number(160)));
+    for (number, slot) in [(101, 100), (128, 127), (129, 0), (160, 31)] {
+        assert_eq!(image::slot(Number(number)), slot);
+        let value = state.transaction(Number(number)).unwrap().change.pairs()[0].value;
+        assert_eq!((value, image::u16_at(&bytes, ENTRY * slot + entry::VALUES)), (number, number));
+    }
+    let before = bytes.clone();
+    image::encode(&state, &mut bytes);
+    assert_eq!(bytes, before);
+    for query in Query::all(&state) {
+        assert_eq!(lean::read(&bytes, query), query.packed(Some(&state), &bytes), "{query:?}");
+    }
+    assert_eq!(serve(&mut bytes, Request::Fold(130)), 0);
+    assert_eq!(bytes[..at::HIGHEST], before[..at::HIGHEST]);
+    assert_eq!(bytes[at::HIGHEST..at::FOLDED], before[at::HIGHEST..at::FOLDED]);
+    assert_eq!(image::u16_at(&bytes, at::BASE + 2 * (130 % 32)), 130);
+}
+
+#[test]
+fn the_lean_calls_lead_to_the_same_bytes() {
+    let mut random = Random::new(7);
+    for begin in [fresh(), wrapped()] {
+        let (mut typed, mut lean) = (begin.clone(), begin);
+        let mut folded = Number::NONE;
+        for turn in 0..20_000 {
+            let state = image::decode(&typed).unwrap();
+            let request = if turn % 8 == 0 { wild(&state, &mut random) } else { sensible(&state, 128, &mut random) };
+            let pairs = if let Request::Append(pairs) = &request { pairs.as_slice() } else { &[] };
+            let expected = northbound::serve(&mut typed, &request).packed();
+            assert_eq!(lean::serve(&mut lean, &request, pairs), expected, "{request:?}");
+            assert!(typed == lean, "{request:?}");
+            folded = folded.max(state.folded);
+        }
+        assert!(folded > Number(128));
+    }
 }
 
 #[test]
@@ -117,9 +179,9 @@ fn a_begun_change_gets_all_its_r_values_anew() {
 fn a_byte_out_of_range_is_refused() {
     let cases = [
         (entry::C_COMMIT, 7), (entry::R_APPLY, 7), (entry::PHASE, 0), (entry::PHASE, 3), (entry::PAIRS, 0),
-        (entry::PAIRS, 5), (entry::R_INDEX, 1), (entry::C_ORDINAL + 1, 2), (entry::R_ORDINAL + 3, 1),
-        (entry::PATHS, 9), (entry::PATHS + 1, 32), (at::LOG_LENGTH, 0), (at::LOG_LENGTH, 129), (at::COMMITTED, 3),
-        (at::COMMITTED + 4, 2), (at::COMMITTED + 7, 2), (at::APPLIED + 2, 3), (at::CONFIGURATION, 0),
+        (entry::PAIRS, 5), (entry::R_INDEX, 1), (entry::C_ORDINAL + 2, 2), (entry::R_ORDINAL + 3, 1),
+        (entry::PATHS, 9), (entry::PATHS + 1, 32), (at::HIGHEST, 0), (at::HIGHEST, 129), (at::FOLDED, 3), (at::COMMITTED, 3),
+        (at::COMMITTED + 4, 2), (at::COMMITTED + 8, 2), (at::APPLIED + 2, 3), (at::CONFIGURATION, 0),
         (at::CONFIGURATION, 4), (at::MASTERSHIP, 9), (at::TARGET + 4, 2), (at::CONNECTIONS + 4, 2),
     ];
     for (place, byte) in cases {
@@ -160,7 +222,7 @@ fn a_read_where_it_lies_shows_what_the_state_has() {
     bytes[entry::VALUES + 6] = 78;
     bytes[entry::R_VALUES + 4] = 79;
     let state = image::decode(&bytes);
-    for query in Query::all(2) {
+    for query in Query::all(state.as_ref().unwrap()) {
         assert_eq!(lean::read(&bytes, query), query.packed(state.as_ref(), &bytes), "{query:?}");
     }
     assert_eq!(Query::Transaction { number: 1, field: 15 }.packed(state.as_ref(), &bytes), 8 << 32);
@@ -178,7 +240,7 @@ fn a_call_written_as_a_line_is_read_as_that_call() {
     let mut state = State::fresh();
     let mut written = 0;
     for turn in 0..3000 {
-        let request = if turn % 2 == 0 { wild(state.log.len(), &mut random) } else { sensible(&state, 128, &mut random) };
+        let request = if turn % 2 == 0 { wild(&state, &mut random) } else { sensible(&state, 128, &mut random) };
         if let Some(line) = lines::asking(&request) {
             assert_eq!(line.strip_suffix('\n').and_then(|line| lines::read(line.as_bytes())), Some(request.clone()));
             northbound::act(&mut state, &request);
@@ -191,6 +253,6 @@ fn a_call_written_as_a_line_is_read_as_that_call() {
 fn place_in_use(random: &mut Random) -> usize {
     match random.below(3) {
         0 => random.below(2 * ENTRY),
-        _ => random.between(at::LOG_LENGTH, LENGTH - 1),
+        _ => random.between(at::HIGHEST, LENGTH - 1),
     }
 }

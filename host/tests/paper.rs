@@ -1,52 +1,10 @@
 //! The paper's own sessions, P1 to P12 and the stepper's example, on the independent controller alone.
 
+mod common;
+
+use common::{commit, commit_rollback, told, transaction, with_open_line, work, ACCEPTED, REJECTED};
 use makowist_host::controller::{Mastership, Number, Ordinal, Refusal, State, Status, Term};
-use makowist_host::jobs::Worked;
 use makowist_host::lines::{read, stepped};
-
-const ACCEPTED: u16 = 0;
-const REJECTED: u16 = 1;
-
-/// A state with the line open for node 1.
-fn with_open_line() -> State {
-    let mut state = State::fresh();
-    state.start().unwrap();
-    state.connect(1).unwrap();
-    state.master(1).unwrap();
-    state.sync(1).unwrap();
-    state.sync(1).unwrap();
-    state
-}
-
-fn work(state: &mut State, job: u16, number: u16, outcome: u16) -> Worked {
-    state.work(1, job, number, outcome, 0)
-}
-
-/// The statuses that the job's events tell, step after step, until no rule holds or the push is refused.
-fn told(state: &mut State, job: u16, number: u16, outcome: u16) -> (Vec<Status>, Refusal) {
-    let mut statuses = Vec::new();
-    loop {
-        match work(state, job, number, outcome).reply {
-            Ok(event) => statuses.extend(event.map(|event| event.status)),
-            Err(refusal) => return (statuses, refusal),
-        }
-    }
-}
-
-fn commit(state: &mut State, number: u16) {
-    let all = (vec![Status::InProgress, Status::Complete], Refusal::NoRule);
-    assert_eq!(told(state, 1, number, ACCEPTED), all);
-}
-
-fn commit_rollback(state: &mut State, number: u16) {
-    state.rollback(number).unwrap();
-    let all = (vec![Status::InProgress, Status::Complete], Refusal::NoRule);
-    assert_eq!(told(state, 3, number, ACCEPTED), all);
-}
-
-fn transaction(state: &State, number: u16) -> makowist_host::controller::Transaction {
-    *state.transaction(Number(number)).unwrap()
-}
 
 #[test]
 fn p1_append_of_no_pairs() {
@@ -268,6 +226,7 @@ fn what_lines_are_readable() {
         "call=append pairs=03:007,1:65535,9:9,9:9,9:9,9:9",
         "call=connect node=0000000000000000000000000000000000000000000001",
         "call=rollback number=0",
+        "call=fold number=65535",
         "call=work node=65535 job=9 number=0 outcome=7 cut=2",
     ] {
         assert!(read(line.as_bytes()).is_some(), "{line}");
@@ -280,7 +239,8 @@ fn what_lines_are_readable() {
         "call=connect node=", "call=connect node=-1", "call=connect node=0x1", "call=connect  node=1",
         "call=connect node=65536", "call=connect node=99999999999999999999", "call=connect node=1 node=1",
         "call=connect\tnode=1", "call=work node=1 job=1 number=1 cut=0 outcome=0", "call=work node=1 job=1 number=1 outcome=0",
-        "call=work node=1 job=1 number=1 outcome=0 cut=0 cut=0", "call=live", "call=fresh", "call=connect node=\u{663}",
+        "call=work node=1 job=1 number=1 outcome=0 cut=0 cut=0", "call=live", "call=fresh",
+        "call=fold", "call=fold number=", "call=fold node=1", "call=fold number=1 number=1", "call=connect node=\u{663}",
     ] {
         assert!(read(line.as_bytes()).is_none(), "{line:?}");
     }

@@ -57,7 +57,7 @@ impl Scene {
         let mut scene = Scene { name, length, image, call, written: 0..0 };
         let mut after = scene.image.clone();
         scene.run(Side::Typed, &mut after, &mut [0; 128]);
-        let differs: Vec<usize> = (0..at::LOG_LENGTH).filter(|place| after[*place] != scene.image[*place]).collect();
+        let differs: Vec<usize> = (0..at::HIGHEST).filter(|place| after[*place] != scene.image[*place]).collect();
         if let (Some(first), Some(last)) = (differs.first(), differs.last()) {
             scene.written = first / ENTRY * ENTRY..(last / ENTRY + 1) * ENTRY;
         }
@@ -72,9 +72,9 @@ impl Scene {
         };
         match (side, &self.call) {
             (Side::Nothing, _) => 0,
-            (Side::Floor, _) => (sum(&image[..ENTRY * self.length]) + sum(&image[at::LOG_LENGTH..])).into(),
+            (Side::Floor, _) => (sum(&image[..ENTRY * self.length]) + sum(&image[at::HIGHEST..])).into(),
             (Side::Words, _) => sum_of_words(&image[..ENTRY * self.length])
-                .wrapping_add(sum_of_words(&image[at::LOG_LENGTH..])),
+                .wrapping_add(sum_of_words(&image[at::HIGHEST..])),
             (Side::Proved, Call::Request(request)) => peer::serve(image, request, pairs),
             (Side::Proved, Call::Read(query)) => peer::read(image, *query),
             (Side::Proved, Call::Live) => peer::live(image, room),
@@ -92,7 +92,7 @@ impl Scene {
 
     /// Puts back what the call may have changed.
     pub fn restore(&self, image: &mut [u8]) {
-        image[at::LOG_LENGTH..].copy_from_slice(&self.image[at::LOG_LENGTH..]);
+        image[at::HIGHEST..].copy_from_slice(&self.image[at::HIGHEST..]);
         image[self.written.clone()].copy_from_slice(&self.image[self.written.clone()]);
     }
 
@@ -140,60 +140,118 @@ fn led(mut state: State, requests: &[Request]) -> State {
     state
 }
 
-/// A log of that length, all of it committed and applied, with the line open for node 1.
-fn applied(length: usize) -> State {
+/// A log of that length, all of it committed and applied, after a fold of so many, with the line open for node 1.
+fn applied_after(folded: usize, length: usize) -> State {
     let line = [Request::Start, Request::Connect(1), Request::Master(1), Request::Sync(1), Request::Sync(1)];
     let mut state = led(State::fresh(), &line);
-    for number in 1..=length {
+    for number in 1..=folded + length {
         state = led(state, &[append(number), work(1, number), work(1, number), work(2, number), work(2, number)]);
+        if number == folded {
+            state = led(state, &[Request::Fold(number as u16)]);
+        }
     }
     state
+}
+
+fn applied(length: usize) -> State {
+    applied_after(0, length)
 }
 
 /// Every call on a log of that length. An append's log is at most 127 long; jobs on an empty log are refused.
 pub fn scenes(length: usize) -> Vec<Scene> {
     let base = applied(length);
-    let mut scenes = Vec::new();
-    let mut add = |name, state: &State, request| scenes.push(Scene::new(name, length, state, Call::Request(request)));
-
     let before_last = applied(length.saturating_sub(1));
-    add("fresh", &base, Request::Fresh);
-    add("append", if length == 128 { &before_last } else { &base }, append(length.min(127) + 1));
-    add("rollback", &base, Request::Rollback(length as u16));
-    add("stop", &base, Request::Stop);
-    add("start", &led(base.clone(), &[Request::Stop]), Request::Start);
-    add("connect", &base, Request::Connect(2));
-    add("disconnect", &base, Request::Disconnect(1));
-    let freed = led(base.clone(), &[Request::Disconnect(1), Request::Master(1), Request::Connect(2)]);
-    add("master", &freed, Request::Master(2));
-    let synchronising = led(freed, &[Request::Master(2), Request::Sync(2)]);
-    add("sync", &synchronising, Request::Sync(2));
+    let mut scenes = calls(length, &base, &before_last);
+    scenes.extend(jobs(length, &base, before_last));
+    scenes.extend(reads(length, &base));
+    scenes.extend(folds(length, base));
+    scenes.extend(rings(length));
+    scenes
+}
 
+fn requested(name: &'static str, length: usize, state: &State, request: Request) -> Scene {
+    Scene::new(name, length, state, Call::Request(request))
+}
+
+fn calls(length: usize, base: &State, before_last: &State) -> Vec<Scene> {
+    let freed = led(base.clone(), &[Request::Disconnect(1), Request::Master(1), Request::Connect(2)]);
+    let synchronising = led(freed.clone(), &[Request::Master(2), Request::Sync(2)]);
+    let stopped = led(base.clone(), &[Request::Stop]);
+    [
+        ("fresh", base, Request::Fresh),
+        ("append", if length == 128 { before_last } else { base }, append(length.min(127) + 1)),
+        ("rollback", base, Request::Rollback(length as u16)),
+        ("stop", base, Request::Stop),
+        ("start", &stopped, Request::Start),
+        ("connect", base, Request::Connect(2)),
+        ("disconnect", base, Request::Disconnect(1)),
+        ("master", &freed, Request::Master(2)),
+        ("sync", &synchronising, Request::Sync(2)),
+    ]
+    .map(|(name, state, request)| requested(name, length, state, request))
+    .into()
+}
+
+fn jobs(length: usize, base: &State, before_last: State) -> Vec<Scene> {
     if length == 0 {
-        for (name, job) in [("job 1 refused", 1), ("job 2 refused", 2), ("job 3 refused", 3), ("job 4 refused", 4)] {
-            add(name, &base, work(job, 1));
-        }
-    } else {
-        let mut state = led(before_last, &[append(length)]);
-        for (name, job) in [("job 1 open", 1), ("job 1 accept", 1), ("job 2 open", 2), ("job 2 push", 2)] {
-            add(name, &state, work(job, length));
-            state = led(state, &[work(job, length)]);
-        }
-        state = led(state, &[Request::Rollback(length as u16)]);
-        for (name, job) in [("job 3 open", 3), ("job 3 return", 3), ("job 4 open", 4), ("job 4 push", 4)] {
-            add(name, &state, work(job, length));
-            state = led(state, &[work(job, length)]);
-        }
+        let names = [("job 1 refused", 1), ("job 2 refused", 2), ("job 3 refused", 3), ("job 4 refused", 4)];
+        return names.map(|(name, job)| requested(name, length, base, work(job, 1))).into();
     }
-    for (name, query) in [
-        ("read a value", Query::Value { table: 2, path: 9 }),
-        ("read a transaction", Query::Transaction { number: length as u16, field: 4 }),
-        ("read a record", Query::Record { field: 9 }),
-        ("read a connection", Query::Connection { node: 8, field: 1 }),
+    let mut scenes = Vec::new();
+    let mut state = led(before_last, &[append(length)]);
+    for (name, job) in [("job 1 open", 1), ("job 1 accept", 1), ("job 2 open", 2), ("job 2 push", 2)] {
+        scenes.push(requested(name, length, &state, work(job, length)));
+        state = led(state, &[work(job, length)]);
+    }
+    state = led(state, &[Request::Rollback(length as u16)]);
+    for (name, job) in [("job 3 open", 3), ("job 3 return", 3), ("job 4 open", 4), ("job 4 push", 4)] {
+        scenes.push(requested(name, length, &state, work(job, length)));
+        state = led(state, &[work(job, length)]);
+    }
+    scenes
+}
+
+fn reads(length: usize, base: &State) -> Vec<Scene> {
+    [
+        ("read a value", Call::Read(Query::Value { table: 2, path: 9 })),
+        ("read a transaction", Call::Read(Query::Transaction { number: length as u16, field: 4 })),
+        ("read a record", Call::Read(Query::Record { field: 9 })),
+        ("read a connection", Call::Read(Query::Connection { node: 8, field: 1 })),
+        ("live list", Call::Live),
+        ("well-formed", Call::WellFormed),
+    ]
+    .map(|(name, call)| Scene::new(name, length, base, call))
+    .into()
+}
+
+/// Folds of so many where there are so many, and one refused: past the end of an empty log, else for its last entry.
+fn folds(length: usize, base: State) -> Vec<Scene> {
+    let dropped = [("fold of 1", 1), ("fold of 16", 16), ("fold of 127", 127)];
+    let mut scenes: Vec<Scene> = dropped
+        .into_iter()
+        .filter(|(_, dropped)| *dropped <= length)
+        .map(|(name, dropped)| requested(name, length, &base, Request::Fold(dropped as u16)))
+        .collect();
+    let asked = if length == 0 { base } else { led(base, &[Request::Rollback(length as u16)]) };
+    scenes.push(requested("fold refused", length, &asked, Request::Fold(length.max(1) as u16)));
+    scenes
+}
+
+/// What looks at every entry, where the log begins in the middle of the ring and at its last slot.
+fn rings(length: usize) -> Vec<Scene> {
+    let mut scenes = Vec::new();
+    for (names, slot) in [
+        (["well-formed from slot 64", "live list from slot 64", "job 2 open from slot 64"], 64),
+        (["well-formed from slot 127", "live list from slot 127", "job 2 open from slot 127"], 127),
     ] {
-        scenes.push(Scene::new(name, length, &base, Call::Read(query)));
+        let base = applied_after(slot, length);
+        scenes.push(Scene::new(names[0], length, &base, Call::WellFormed));
+        scenes.push(Scene::new(names[1], length, &base, Call::Live));
+        if length > 0 {
+            let last = slot + length;
+            let pending = led(applied_after(slot, length - 1), &[append(last), work(1, last), work(1, last)]);
+            scenes.push(requested(names[2], length, &pending, work(2, last)));
+        }
     }
-    scenes.push(Scene::new("live list", length, &base, Call::Live));
-    scenes.push(Scene::new("well-formed", length, &base, Call::WellFormed));
     scenes
 }

@@ -1,5 +1,6 @@
 //! What a comparison has seen: calls, replies, and rules taken, whole and cut. Something not seen is a failure.
 
+use crate::folds::Seen;
 use makowist_host::controller::Refusal;
 use makowist_host::jobs::Rule;
 use makowist_host::northbound::{Request, Served};
@@ -11,22 +12,29 @@ pub struct Counts {
     pub reads: u64,
     /// Those from which every call was compared.
     pub states: u64,
-    /// By answer: accepted, then each refusal.
-    answers: [u64; Refusal::COUNT + 1],
+    /// By answer: accepted is 0, a refusal its number.
+    answers: [u64; ANSWERS],
     /// By rule: whole, then cut.
     rules: [[u64; 2]; Rule::ALL.len()],
     /// Masters that had reconnected and were freed.
     pub freed: u64,
+    /// Logs led to the last number.
+    pub migrations: u64,
+    /// What order 10 brings.
+    pub folds: Seen,
     /// By what is read: how often each table or field was shown.
     shown: [[u64; TRANSACTION_FIELDS as usize]; KINDS.len()],
     /// By what is read: how often each refusal was answered.
-    refused: [[u64; Refusal::COUNT + 1]; KINDS.len()],
+    refused: [[u64; ANSWERS]; KINDS.len()],
 }
+
+/// One more than the greatest answer; not every number below it is one.
+const ANSWERS: usize = Refusal::Folded as usize + 1;
 
 /// What is read, how many tables or fields it has, and the refusals that it can answer.
 const KINDS: [(&str, u16, &[usize]); 4] = [
     ("value", TABLES, &[1, 2]),
-    ("transaction", TRANSACTION_FIELDS, &[1, 2, 5]),
+    ("transaction", TRANSACTION_FIELDS, &[1, 2, 5, 18]),
     ("record", RECORD_FIELDS, &[1, 2]),
     ("connection", CONNECTION_FIELDS, &[1, 2]),
 ];
@@ -80,20 +88,24 @@ impl Counts {
         println!("{:>12}  calls compared, reply and every byte", self.calls);
         println!("{:>12}  reads compared, answer and every byte of image and room", self.reads);
         println!("{:>12}  states visited by the exhaustive walk, every call from each", self.states);
-        for (answer, count) in self.answers.iter().enumerate() {
-            println!("{count:>12}  answer {answer}");
+        println!("{:>12}  answer 0", self.answers[0]);
+        for refusal in Refusal::ALL {
+            println!("{:>12}  answer {} {refusal:?}", self.answers[usize::from(refusal.number())], refusal.number());
         }
         println!("{:>12}  masters that had reconnected freed", self.freed);
+        println!("{:>12}  logs led to the last number", self.migrations);
+        let unseen_folds = self.folds.told();
         let unseen_reads = self.told_reads();
         println!("{:>12}  {:>12}  rule", "whole", "cut");
         for (rule, [whole, cut]) in Rule::ALL.iter().zip(&self.rules) {
             println!("{whole:>12}  {cut:>12}  {rule:?}");
         }
-        let unseen_answers = self.answers.iter().filter(|count| **count == 0).count();
+        let refusals = Refusal::ALL.iter().filter(|refusal| self.answers[usize::from(refusal.number())] > 0).count();
+        let unseen_answers = Refusal::ALL.len() - refusals + usize::from(self.answers[0] == 0);
         let unseen_rules = self.rules.iter().flatten().filter(|count| **count == 0).count();
         let rules = self.rules.iter().filter(|[whole, cut]| whole + cut > 0).count();
-        let refusals = self.answers[1..].iter().filter(|count| **count > 0).count();
-        println!("rules seen: {rules} of {}; refusals seen: {refusals} of {}", Rule::ALL.len(), Refusal::COUNT);
-        unseen_answers + unseen_rules + unseen_reads + usize::from(self.states == 0) + usize::from(self.freed == 0)
+        println!("rules seen: {rules} of {}; refusals seen: {refusals} of {}", Rule::ALL.len(), Refusal::ALL.len());
+        let unseen = [self.states, self.freed, self.migrations].iter().filter(|count| **count == 0).count();
+        unseen + unseen_answers + unseen_rules + unseen_reads + unseen_folds
     }
 }

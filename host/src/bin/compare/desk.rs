@@ -74,7 +74,7 @@ impl Desk {
     pub fn call(&mut self, state: &mut State, bytes: &mut [u8], request: &Request) -> Compared<Served> {
         let served = self.act(state, request);
         if served.reply.is_ok() {
-            northbound::store(state, request, bytes);
+            self.store(state, request, bytes);
         }
         self.hold(bytes, request, served)
     }
@@ -87,7 +87,7 @@ impl Desk {
             return self.hold(bytes, request, served).map(|_| None);
         }
         let mut after_bytes = bytes.to_vec();
-        northbound::store(&after, request, &mut after_bytes);
+        self.store(&after, request, &mut after_bytes);
         self.hold(&after_bytes, request, served)?;
         self.lend(bytes);
         Ok(Some((after, after_bytes)))
@@ -95,12 +95,21 @@ impl Desk {
 
     fn act(&mut self, state: &mut State, request: &Request) -> Served {
         let reconnected = request.is_of_reconnected(state);
+        let rested_at = state.committed.index;
         let served = match self.fault {
             None => northbound::act(state, request),
             Some(fault) => fault.act(state, request),
         };
         self.counts.freed += u64::from(reconnected && served.reply.is_ok());
+        self.counts.folds.called(rested_at, state, request, &served);
         served
+    }
+
+    fn store(&self, state: &State, request: &Request, bytes: &mut [u8]) {
+        match self.fault {
+            None => northbound::store(state, request, bytes),
+            Some(fault) => fault.store(state, request, bytes),
+        }
     }
 
     /// As `call_from`, from bytes that have been lent and may be no image; `state` is what they decode to.
@@ -146,7 +155,7 @@ impl Desk {
 
     /// Compares one read from bytes that have been lent.
     pub fn query(&mut self, state: Option<&State>, bytes: &[u8], query: Query) -> Compared<()> {
-        let expected = self.fault.map_or(query, |fault| fault.misread(query)).packed(state, bytes);
+        let expected = self.fault.map_or(query, |fault| fault.misread(state, query)).packed(state, bytes);
         let lent = self.lent.bytes(bytes.len(), self.edge);
         let reply = peer::read(lent, query);
         self.counts.queried(query, expected);
@@ -162,7 +171,10 @@ impl Desk {
     /// Compares whether lent bytes are well-formed, and their live list in that room.
     pub fn read(&mut self, state: Option<&State>, bytes: &[u8], room: usize) -> Compared<()> {
         let mut expected_room = [UNWRITTEN; MOST_ROOM];
-        let expected = northbound::live_of(state, &mut expected_room[..room]);
+        let expected = match self.fault {
+            None => northbound::live_of(state, &mut expected_room[..room]),
+            Some(fault) => fault.live_of(state, &mut expected_room[..room]),
+        };
         let lent_room = self.lent_room.numbers(room, self.edge);
         lent_room.fill(UNWRITTEN);
         let lent = self.lent.bytes(bytes.len(), self.edge);

@@ -1,11 +1,13 @@
-//! Every state that a fresh controller with a few transactions and the line open can reach, and every call from each.
+//! Every state that a controller with a few transactions and the line open can reach, and every call from each: from
+//! fresh, and from where so many are folded that the ring's end, or the last number, is near.
 
 use crate::desk::{Compared, Desk};
-use makowist_host::controller::State;
+use crate::sessions::opened;
+use makowist_host::controller::{Number, State};
 use makowist_host::guarded::Edge;
-use makowist_host::image::LENGTH;
 use makowist_host::northbound::{bytes_of, Request};
 use makowist_host::reads::Query;
+use makowist_host::requests::numbers;
 use std::collections::HashSet;
 
 /// The changes that are appended, one after another. They meet on two paths, and one deletes.
@@ -15,11 +17,26 @@ const CHANGES: [&[(u16, u16)]; 5] =
 /// Of how many states one is read whole.
 const READ_ONE_IN: usize = 15;
 
-/// Walks breadth first, comparing every call from every state, for at most half the time.
-/// Answers whether it came to every state.
+/// The last folds from which a second append goes round the ring's end, and past the last number.
+const BEFORE_THE_RINGS_END: Number = Number(127);
+const BEFORE_THE_LAST: Number = Number(65_534);
+
+/// Walks from fresh, and less far from near either end, for at most half the time. Answers whether it came to every state.
 pub fn run(desk: &mut Desk, transactions: usize) -> Compared<bool> {
+    let fewer = transactions.saturating_sub(1).max(2);
+    let walks = [(Number::NONE, transactions), (BEFORE_THE_RINGS_END, fewer), (BEFORE_THE_LAST, 2)];
+    for (folded, transactions) in walks {
+        if !walk(desk, folded, transactions)? {
+            return Ok(false);
+        }
+    }
+    Ok(true)
+}
+
+/// Walks breadth first, comparing every call from every state.
+fn walk(desk: &mut Desk, folded: Number, transactions: usize) -> Compared<bool> {
     let mut seen = HashSet::new();
-    let mut level = vec![opened(desk)?];
+    let mut level = vec![opened(desk, folded)?];
     seen.insert(level[0].0.clone());
     while !level.is_empty() {
         let mut next = Vec::new();
@@ -29,7 +46,7 @@ pub fn run(desk: &mut Desk, transactions: usize) -> Compared<bool> {
             }
             desk.edge = if place % 2 == 0 { Edge::End } else { Edge::Begin };
             desk.lend(bytes);
-            for (request, walks) in requests(state, transactions) {
+            for (request, walks) in requests(state, usize::from(state.highest().0 - folded.0), transactions) {
                 let reached = desk.call_from(state, bytes, &request)?;
                 next.extend(reached.filter(|(after, _)| walks && seen.insert(after.clone())));
             }
@@ -48,31 +65,12 @@ pub fn run(desk: &mut Desk, transactions: usize) -> Compared<bool> {
     Ok(true)
 }
 
-/// A fresh controller with the line open for node 1.
-fn opened(desk: &mut Desk) -> Compared<(State, Vec<u8>)> {
-    let mut state = State::fresh();
-    let mut bytes = vec![0xff; LENGTH];
-    desk.lend(&bytes);
-    for request in [
-        Request::Fresh,
-        Request::Start,
-        Request::Connect(1),
-        Request::Master(1),
-        Request::Sync(1),
-        Request::Sync(1),
-    ] {
-        desk.call(&mut state, &mut bytes, &request)?;
-    }
-    Ok((state, bytes))
-}
-
-/// Every call from a state, and whether the walk goes on from where it leads: those that leave the line as it is do.
-fn requests(state: &State, transactions: usize) -> Vec<(Request, bool)> {
-    let length = state.log.len();
-    let past = length as u16 + 1;
-    let append = Request::Append(bytes_of(CHANGES[length.min(CHANGES.len() - 1)]));
+/// Every call from a state that has taken so many appends, and whether the walk goes on from where it leads: those that
+/// leave the line as it is do.
+fn requests(state: &State, appended: usize, transactions: usize) -> Vec<(Request, bool)> {
+    let append = Request::Append(bytes_of(CHANGES[appended.min(CHANGES.len() - 1)]));
     let mut all = vec![
-        (append, length < transactions),
+        (append, appended < transactions),
         (Request::Append(Vec::new()), false),
         (Request::Append(bytes_of(&[(4, 1), (4, 2)])), false),
         (Request::Fresh, false),
@@ -83,8 +81,9 @@ fn requests(state: &State, transactions: usize) -> Vec<(Request, bool)> {
         let calls = [Request::Connect, Request::Disconnect, Request::Master, Request::Sync];
         all.extend(calls.map(|call| (call(node), false)));
     }
-    for number in 0..=past {
+    for number in numbers(state) {
         all.push((Request::Rollback(number), true));
+        all.push((Request::Fold(number), true));
         for job in 1..=4 {
             for (outcome, cut) in [(0, 0), (0, 1), (1, 0), (1, 1)] {
                 all.push((Request::Work { node: 1, job, number, outcome, cut }, true));
@@ -93,7 +92,7 @@ fn requests(state: &State, transactions: usize) -> Vec<(Request, bool)> {
         }
     }
     for [node, job, outcome, cut] in [[0, 1, 0, 0], [9, 1, 0, 0], [1, 0, 0, 0], [1, 5, 0, 0], [1, 1, 2, 0], [1, 1, 0, 2]] {
-        all.push((Request::Work { node, job, number: length as u16, outcome, cut }, false));
+        all.push((Request::Work { node, job, number: state.highest().0, outcome, cut }, false));
     }
     all
 }
@@ -101,7 +100,7 @@ fn requests(state: &State, transactions: usize) -> Vec<(Request, bool)> {
 /// Every read of what differs between these states: the log, the heads, and the values of the paths that are changed.
 fn queries(state: &State) -> impl Iterator<Item = Query> {
     let changed = |path: u16| CHANGES.iter().any(|change| change.iter().any(|(changed, _)| *changed == path));
-    Query::all(state.log.len()).into_iter().filter(move |query| match query {
+    Query::all(state).into_iter().filter(move |query| match query {
         Query::Value { path, .. } => changed(*path),
         Query::Connection { .. } => false,
         _ => true,

@@ -3,6 +3,7 @@
 //! Arguments, each `name=value`, in any order:
 //!
 //! - `sessions`, `unreached`, `damaged`: how many calls of each kind; `transactions`: how far the exhaustive walk goes
+//! - `migrations`: how many logs are led to the last number, to 2: in the second every change is rolled back
 //! - `seed`: another one makes another run
 //! - `minutes`: go on with new seeds, the walk once and for at most half of them, and stop when they have passed
 //! - `fault=NAME`: put that fault into the independent copy; a difference is then expected, and ends the run with 1
@@ -14,11 +15,14 @@
 mod counts;
 mod desk;
 mod every;
+mod folds;
+mod long;
 mod sessions;
 mod states;
 mod watch;
 
 use desk::{Compared, Desk};
+use makowist_host::controller::Number;
 use makowist_host::fault::Fault;
 use makowist_host::guarded::{Edge, Guarded};
 use makowist_host::random::Random;
@@ -31,7 +35,14 @@ struct Sizes {
     unreached: u64,
     damaged: u64,
     transactions: usize,
+    migrations: u64,
 }
+
+/// One change in so many is rolled back, migration by migration.
+const ROLLED_BACK_ONE_IN: [usize; 2] = [5, 1];
+
+/// The last folds that live lists of every length follow on: the second has its lists go round the ring's end.
+const FOLDED: [Number; 2] = [Number::NONE, Number(100)];
 
 struct Arguments {
     sizes: Sizes,
@@ -42,7 +53,7 @@ struct Arguments {
 }
 
 fn arguments() -> Result<Arguments, String> {
-    let sizes = Sizes { sessions: 1_000_000, unreached: 400_000, damaged: 150_000, transactions: 3 };
+    let sizes = Sizes { sessions: 1_000_000, unreached: 400_000, damaged: 150_000, transactions: 3, migrations: 2 };
     let mut arguments = Arguments { sizes, seed: 1, minutes: 0, fault: None, overrun: None };
     for argument in std::env::args().skip(1) {
         let (name, value) = argument.split_once('=').ok_or(format!("{argument}: expected name=value"))?;
@@ -52,6 +63,7 @@ fn arguments() -> Result<Arguments, String> {
             "unreached" => arguments.sizes.unreached = number()?,
             "damaged" => arguments.sizes.damaged = number()?,
             "transactions" => arguments.sizes.transactions = number()?.min(5) as usize,
+            "migrations" => arguments.sizes.migrations = number()?,
             "seed" => arguments.seed = number()?,
             "minutes" => arguments.minutes = number()?,
             "fault" => arguments.fault = Some(value.to_string()),
@@ -78,7 +90,7 @@ fn compare(desk: &mut Desk, sizes: &Sizes, seed: u64, tells: bool) -> Compared<(
     }
     for edge in [Edge::End, Edge::Begin] {
         desk.edge = edge;
-        sessions::rooms(desk)?;
+        FOLDED.into_iter().try_for_each(|folded| sessions::rooms(desk, folded))?;
         told("live lists of every length in rooms of every length", desk);
         sessions::run(desk, sizes.sessions / 2, &mut random)?;
         told("random sessions", desk);
@@ -87,6 +99,10 @@ fn compare(desk: &mut Desk, sizes: &Sizes, seed: u64, tells: bool) -> Compared<(
     told("states that no session reaches", desk);
     states::damaged(desk, sizes.damaged, &mut random)?;
     told("damaged images", desk);
+    for rolled_back_one_in in ROLLED_BACK_ONE_IN.into_iter().take(sizes.migrations as usize) {
+        let (number, ordinal) = long::run(desk, rolled_back_one_in, &mut random)?;
+        told(&format!("a log led to number {} and ordinal {}", number.0, ordinal.0), desk);
+    }
     Ok(())
 }
 

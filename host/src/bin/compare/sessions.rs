@@ -2,12 +2,52 @@
 //! from call to call, so that a fault of the codec cannot hide one of the rules.
 
 use crate::desk::{Compared, Desk, MOST_ROOM};
-use makowist_host::controller::State;
-use makowist_host::image::LENGTH;
+use makowist_host::controller::{Number, Ordinal, State, PATHS};
+use makowist_host::image::{self, LENGTH};
 use makowist_host::northbound::Request;
 use makowist_host::random::Random;
 use makowist_host::reads::Query;
 use makowist_host::requests::{change, sensible, wild};
+
+/// The calls of a long session, which takes the numbers round the ring more than once.
+const LONG: usize = 12_000;
+
+/// A controller with the line open for node 1. Where a last fold is named, all up to it was set, applied and folded.
+pub fn opened(desk: &mut Desk, folded: Number) -> Compared<(State, Vec<u8>)> {
+    let mut state = State::fresh();
+    let mut bytes = vec![0xff; LENGTH];
+    desk.lend(&bytes);
+    for request in [
+        Request::Fresh,
+        Request::Start,
+        Request::Connect(1),
+        Request::Master(1),
+        Request::Sync(1),
+        Request::Sync(1),
+    ] {
+        desk.call(&mut state, &mut bytes, &request)?;
+    }
+    if folded != Number::NONE {
+        fold_all(&mut state, folded);
+        image::encode(&state, &mut bytes);
+        desk.lend(&bytes);
+    }
+    Ok((state, bytes))
+}
+
+/// The state as if so many changes had been committed, applied and folded.
+fn fold_all(state: &mut State, folded: Number) {
+    let values = std::array::from_fn::<u16, PATHS, _>(|path| 100 + path as u16);
+    let ordinal = Ordinal(folded.0.into());
+    state.folded = folded;
+    state.base = values;
+    state.target.values = values;
+    let (committed, applied) = (&mut state.committed, &mut state.applied);
+    (committed.values, applied.values) = (values, values);
+    (committed.index, committed.change, committed.target, committed.revision) = (folded, folded, folded, folded);
+    (applied.index, applied.target, applied.revision) = (folded, folded, folded);
+    (committed.ordinal, applied.ordinal) = (ordinal, ordinal);
+}
 
 /// Runs sessions until so many calls have been compared, or the time is up.
 pub fn run(desk: &mut Desk, calls: u64, random: &mut Random) -> Compared<()> {
@@ -24,7 +64,7 @@ fn session(desk: &mut Desk, random: &mut Random) -> Compared<()> {
     let mut state = State::fresh();
     desk.call(&mut state, &mut bytes, &Request::Fresh)?;
     let log_limit = random.one_of(&[1, 2, 3, 4, 6, 16, 40, 128, 130]);
-    let length = 20 + random.below(25 * log_limit);
+    let length = if random.once_in(30) { LONG } else { 20 + random.below(25 * log_limit) };
     let wildness = random.one_of(&[3, 10, 40]);
     if log_limit >= 128 && random.once_in(2) {
         for _ in 0..129 {
@@ -34,7 +74,7 @@ fn session(desk: &mut Desk, random: &mut Random) -> Compared<()> {
     }
     for _ in 0..length {
         let request = match random.once_in(wildness) {
-            true => wild(state.log.len(), random),
+            true => wild(&state, random),
             false => sensible(&state, log_limit, random),
         };
         desk.call(&mut state, &mut bytes, &request)?;
@@ -42,28 +82,22 @@ fn session(desk: &mut Desk, random: &mut Random) -> Compared<()> {
             desk.read(Some(&state), &bytes, random.below(MOST_ROOM + 1))?;
         }
         if random.once_in(8) {
-            desk.query(Some(&state), &bytes, Query::any(state.log.len(), random))?;
+            desk.query(Some(&state), &bytes, Query::any(&state, random))?;
         }
     }
     Ok(())
 }
 
-/// Compares the live list in rooms of every length, for lists of every length.
-pub fn rooms(desk: &mut Desk) -> Compared<()> {
-    let mut state = State::fresh();
-    let mut bytes = vec![0; LENGTH];
-    desk.lend(&bytes);
-    desk.call(&mut state, &mut bytes, &Request::Fresh)?;
-    for request in [Request::Start, Request::Connect(3), Request::Master(3)] {
-        desk.call(&mut state, &mut bytes, &request)?;
-    }
-    for number in 0..=128 {
+/// Compares the live list in rooms of every length, for lists of every length that follow on a last fold.
+pub fn rooms(desk: &mut Desk, folded: Number) -> Compared<()> {
+    let (mut state, mut bytes) = opened(desk, folded)?;
+    for number in folded.0 + 1..=folded.0 + 129 {
         for room in 0..=MOST_ROOM {
             desk.read(Some(&state), &bytes, room)?;
         }
         desk.call(&mut state, &mut bytes, &Request::Append(vec![5, 0, number as u8, 1]))?;
         for _ in 0..2 {
-            let request = Request::Work { node: 3, job: 1, number: number + 1, outcome: 0, cut: 0 };
+            let request = Request::Work { node: 1, job: 1, number, outcome: 0, cut: 0 };
             desk.call(&mut state, &mut bytes, &request)?;
         }
     }

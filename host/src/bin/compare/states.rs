@@ -6,11 +6,11 @@ use makowist_host::controller::{
     Progress, State, Status, Target, Term, Transaction, Values,
 };
 use makowist_host::guarded::Edge;
-use makowist_host::image::{self, at, entry, put_u16, put_u32, ENTRY, LENGTH};
+use makowist_host::image::{self, at, entry, put_u16, put_u32, slot, u16_at, ENTRY, LENGTH};
 use makowist_host::northbound::{pairs_of, Request};
 use makowist_host::random::Random;
 use makowist_host::reads::Query;
-use makowist_host::requests::{change, wild};
+use makowist_host::requests::{any_number, change, wild};
 
 /// Compares so many calls from states that are well-formed and otherwise arbitrary.
 pub fn unreached(desk: &mut Desk, calls: u64, random: &mut Random) -> Compared<()> {
@@ -24,14 +24,14 @@ pub fn unreached(desk: &mut Desk, calls: u64, random: &mut Random) -> Compared<(
         desk.lend(&bytes);
         for _ in 0..20 {
             let request = match random.once_in(4) {
-                true => wild(state.log.len(), random),
+                true => wild(&state, random),
                 false => focus.request(&state, random),
             };
             desk.call_from_bytes(Some(&state), &bytes, &request)?;
         }
         desk.read(Some(&state), &bytes, random.below(MOST_ROOM + 1))?;
         for _ in 0..8 {
-            desk.query(Some(&state), &bytes, Query::any(state.log.len(), random))?;
+            desk.query(Some(&state), &bytes, Query::any(&state, random))?;
         }
     }
     Ok(())
@@ -44,13 +44,14 @@ pub fn damaged(desk: &mut Desk, calls: u64, random: &mut Random) -> Compared<()>
         let focus = Focus::new(random);
         let state = focus.state(random);
         let mut bytes = focus.image(&state, random);
-        damage(&mut bytes, state.log.len(), random);
+        damage(&mut bytes, &state, random);
+        desk.counts.folds.damaged(&bytes);
         let decoded = image::decode(&bytes);
         turn(desk);
         desk.lend(&bytes);
         for _ in 0..6 {
             let request = match random.once_in(2) {
-                true => wild(state.log.len(), random),
+                true => wild(&state, random),
                 false => focus.request(&state, random),
             };
             desk.call_from_bytes(decoded.as_ref(), &bytes, &request)?;
@@ -60,7 +61,7 @@ pub fn damaged(desk: &mut Desk, calls: u64, random: &mut Random) -> Compared<()>
         }
         desk.read(decoded.as_ref(), &bytes, random.below(MOST_ROOM + 1))?;
         for _ in 0..4 {
-            desk.query(decoded.as_ref(), &bytes, Query::any(state.log.len(), random))?;
+            desk.query(decoded.as_ref(), &bytes, Query::any(&state, random))?;
         }
     }
     Ok(())
@@ -74,34 +75,43 @@ fn turn(desk: &mut Desk) {
     };
 }
 
-fn damage(bytes: &mut Vec<u8>, length: usize, random: &mut Random) {
+fn damage(bytes: &mut Vec<u8>, state: &State, random: &mut Random) {
     match random.below(20) {
         0 => bytes.iter_mut().for_each(|byte| *byte = random.bits() as u8),
         1 => {
-            let length = random.one_of(&[0, 1, 36, 4608, 4610, LENGTH - 1, LENGTH + 1, LENGTH + 36, 9766, 65536]);
+            let length = random.one_of(&[0, 1, 36, 4608, 4883, LENGTH - 1, LENGTH + 1, LENGTH + 36, 9898, 65536]);
             bytes.resize(length, random.bits() as u8);
         }
         2..=7 => {
-            let place = place_in_use(length, random);
+            let place = place_in_use(state, random);
             bytes[place] = random.bits() as u8;
         }
         8 | 9 => {
-            let place = place_in_use(length, random);
+            let place = place_in_use(state, random);
             bytes[place] ^= 1 << random.below(8);
         }
-        10..=14 if length > 0 => damage_entry(&mut bytes[ENTRY * random.below(length)..][..ENTRY], random),
+        10..=14 if !state.log.is_empty() => damage_entry(&mut bytes[kept_entry(state, random)..][..ENTRY], random),
         _ => damage_record(bytes, random),
     }
 }
 
+/// Where one of the kept entries, of which there is one, begins.
+fn kept_entry(state: &State, random: &mut Random) -> usize {
+    let number = state.folded.0 + 1 + random.below(state.log.len()) as u16;
+    ENTRY * slot(Number(number))
+}
+
 /// A place that some field uses, or any.
-fn place_in_use(length: usize, random: &mut Random) -> usize {
+fn place_in_use(state: &State, random: &mut Random) -> usize {
     match random.below(4) {
-        0 | 1 if length > 0 => random.below(ENTRY * length),
+        0 | 1 if !state.log.is_empty() => kept_entry(state, random) + random.below(ENTRY),
         0 => random.below(LENGTH),
-        _ => random.between(at::LOG_LENGTH, LENGTH - 1),
+        _ => random.between(at::HIGHEST, LENGTH - 1),
     }
 }
+
+/// Ordinals at their limit and past it.
+const ORDINALS: [u32; 7] = [0, 255, 131_069, 131_070, 131_071, 1 << 24, u32::MAX];
 
 /// Puts a number just outside its range, or far, into a field of an entry.
 fn damage_entry(bytes: &mut [u8], random: &mut Random) {
@@ -111,62 +121,84 @@ fn damage_entry(bytes: &mut [u8], random: &mut Random) {
         1 => bytes[entry::PHASE] = random.one_of(&[0, 1, 2, 3, 255]),
         2 => bytes[entry::PAIRS] = random.one_of(&[0, 1, 4, 5, 255]),
         3 => put_u16(bytes, entry::R_INDEX, random.one_of(&[0, 1, 2, 127, 128, 255, 256, 65535])),
-        4 => put_u32(bytes, entry::C_ORDINAL, random.one_of(&[255, 256, 257, 65536, 1 << 24, u32::MAX])),
-        5 => put_u32(bytes, entry::R_ORDINAL, random.one_of(&[255, 256, 257, 65536, 1 << 24, u32::MAX])),
+        4 => put_u32(bytes, entry::C_ORDINAL, random.one_of(&ORDINALS)),
+        5 => put_u32(bytes, entry::R_ORDINAL, random.one_of(&ORDINALS)),
         _ => bytes[entry::PATHS + random.below(4)] = random.one_of(&[0, 1, 30, 31, 32, 33, 255]),
     }
 }
 
 /// As `damage_entry`, in a record after the log.
 fn damage_record(bytes: &mut [u8], random: &mut Random) {
-    let numbers = [0, 2, 4, 6, 8, 14, 16, 18].map(|field| at::LOG_LENGTH + field);
+    let heads = [at::COMMITTED, at::APPLIED].into_iter().flat_map(|head| [head, head + 2, head + 4]);
+    let numbers: Vec<usize> = heads.chain([at::COMMITTED_CHANGE, at::HIGHEST, at::FOLDED, at::FOLDED]).collect();
     let flags = [at::TARGET + 4, at::CONNECTIONS + 4, at::CONNECTIONS + 39];
     match random.below(6) {
-        0 | 1 => put_u16(bytes, random.one_of(&numbers), random.one_of(&[0, 1, 2, 127, 128, 129, 256, 65535])),
-        2 => {
-            let place = random.one_of(&[at::COMMITTED + 6, at::APPLIED + 6]);
-            put_u32(bytes, place, random.one_of(&[0, 255, 256, 257, 65536, u32::MAX]));
-        }
+        0 | 1 => damage_number(bytes, random.one_of(&numbers), random),
+        2 => put_u32(bytes, random.one_of(&[at::COMMITTED + 6, at::APPLIED + 6]), random.one_of(&ORDINALS)),
         3 => bytes[at::CONFIGURATION] = random.one_of(&[0, 1, 3, 4, 255]),
         4 => bytes[at::MASTERSHIP] = random.one_of(&[0, 8, 9, 255]),
         _ => bytes[random.one_of(&flags)] = random.one_of(&[0, 1, 2, 255]),
     }
 }
 
+/// Puts a number near one of the log's ends, the kept ones' limit away from one, or far.
+fn damage_number(bytes: &mut [u8], place: usize, random: &mut Random) {
+    let end = u16_at(bytes, random.one_of(&[at::FOLDED, at::HIGHEST]));
+    let near = random.one_of(&[0, 1, 127, 128, 129]);
+    let far = random.one_of(&[0, 1, 2, 127, 128, 129, 256, 65535]);
+    let number = random.one_of(&[end.saturating_sub(near), end.saturating_add(near), far]);
+    put_u16(bytes, place, number);
+}
+
 /// What a made-up state is made around: a transaction, its r.index and ordinals, so that rules have a chance to hold.
 struct Focus {
-    length: u16,
+    folded: u16,
+    highest: u16,
     number: u16,
     r_index: u16,
     applied_ordinal: u32,
     master: u16,
+    /// Whether all up to the transaction is finished and little is under way, so that a fold has a chance to be allowed.
+    folds: bool,
 }
 
 impl Focus {
     fn new(random: &mut Random) -> Focus {
-        let length = random.one_of(&[0, 1, 2, 2, 3, 3, 4, 5, 9, 30, 127, 128]);
-        let number = random.below(length.into()) as u16 + 1;
+        let kept = random.one_of(&[0, 1, 2, 2, 3, 3, 4, 5, 9, 30, 127, 128]);
+        let folded = random.one_of(&[0, 0, 0, 1, 2, 60, 126, 127, 128, 129, 40_000, 65_535 - kept, 65_534 - kept]);
+        let number = if kept == 0 { folded.max(1) } else { folded + 1 + random.below(kept.into()) as u16 };
+        let r_index = match random.below(3) {
+            0 => random.below(number.into()) as u16,
+            _ => random.between(folded.min(number - 1).into(), (number - 1).into()) as u16,
+        };
         Focus {
-            length,
+            folded,
+            highest: folded + kept,
             number,
-            r_index: random.below(number.into()) as u16,
-            applied_ordinal: random.one_of(&[0, 0, 1, 2, 3, 100, 254, 255, 256]),
+            r_index,
+            applied_ordinal: random.one_of(&[0, 0, 1, 2, 3, 100, 131_068, 131_069, 131_070]),
             master: random.between(1, 8) as u16,
+            folds: random.once_in(4),
         }
     }
 
     fn request(&self, state: &State, random: &mut Random) -> Request {
         let near = |random: &mut Random| match random.below(8) {
-            0 => random.below(usize::from(self.length) + 2) as u16,
+            0 => any_number(state, random),
             _ => self.number,
         };
-        match random.below(12) {
+        if self.folds && random.once_in(2) {
+            let below = if random.once_in(2) { 0 } else { random.below(state.log.len() + 1) as u16 };
+            return Request::Fold(near(random).saturating_sub(below));
+        }
+        match random.below(14) {
             0 => Request::Rollback(near(random)),
             1 => Request::Append(change(random)),
             2 => random.one_of(&[Request::Start, Request::Stop].each_ref()).clone(),
             3 => Request::Master(self.master),
             4 => Request::Sync(self.master),
             5 => Request::Connect(self.master),
+            6 | 7 => Request::Fold(near(random)),
             _ => {
                 let job = match random.below(3) {
                     0 => random.between(1, 4) as u16,
@@ -194,13 +226,13 @@ impl Focus {
             let bits = random.bits().to_le_bytes();
             eight.copy_from_slice(&bits[..eight.len()]);
         }
-        put_u16(&mut bytes, at::LOG_LENGTH, self.length);
+        put_u16(&mut bytes, at::HIGHEST, self.highest);
         image::encode(state, &mut bytes);
         bytes
     }
 
     fn state(&self, random: &mut Random) -> State {
-        let log = (1..=self.length).map(|number| self.transaction(number, random)).collect();
+        let log = (self.folded..self.highest).map(|before| self.transaction(before + 1, random)).collect();
         let term = random.one_of(&[0, 1, 7, u32::MAX - 1, u32::MAX]);
         let conn = random.one_of(&[0, 1, 5, u32::MAX]);
         let mut connections = [Connection::default(); 8];
@@ -210,6 +242,8 @@ impl Focus {
         }
         let state = [ConfigurationState::Pending, ConfigurationState::InProgress, ConfigurationState::Complete];
         State {
+            folded: Number(self.folded),
+            base: values(random),
             log,
             committed: self.committed(random),
             applied: self.applied(random),
@@ -243,38 +277,50 @@ impl Focus {
             1 => random.one_of(&[Status::Pending, Status::InProgress, Status::Failed]),
             _ => Status::Complete,
         };
-        Transaction {
+        let mut transaction = Transaction {
             phase: random.one_of(&[Phase::Change, Phase::Rollback]),
             change,
             c: Progress { commit: commit(random), apply: status(random), ordinal: self.ordinal(random) },
             r: Progress { commit: commit(random), apply: status(random), ordinal: self.ordinal(random) },
-            r_index: Number(if focused { self.r_index } else { random.below(number.into()) as u16 }),
+            r_index: Number(if focused { self.r_index } else { self.below(number, random) }),
             r_values,
+        };
+        if self.folds && number <= self.number {
+            finish(&mut transaction, random);
         }
+        transaction
+    }
+
+    /// A number below that one; the one before it where a fold is to find a long live list.
+    fn below(&self, number: u16, random: &mut Random) -> u16 {
+        if self.folds && !random.once_in(8) { number - 1 } else { random.below(number.into()) as u16 }
     }
 
     fn ordinal(&self, random: &mut Random) -> Ordinal {
         let present = self.applied_ordinal;
         let near = random.one_of(&[present, present + 1, present + 1, present + 1, present + 2, 0]);
-        Ordinal(if random.once_in(5) { random.below(257) as u32 } else { near.min(256) })
+        let limit = Ordinal::LIMIT.0;
+        let far = if self.folds { !random.once_in(40) } else { random.once_in(5) };
+        Ordinal(if far { random.below(limit as usize + 1) as u32 } else { near.min(limit) })
     }
 
-    fn any_number(&self, random: &mut Random) -> u16 {
-        random.below(usize::from(self.length) + 1) as u16
-    }
-
-    /// A number that a head's field may hold: one of those that rules compare with, or any of the log's.
+    /// A number that a head's field may hold: one of those that rules compare with, or any that was given.
     fn head(&self, wanted: &[u16], random: &mut Random) -> Number {
-        let number = if random.once_in(5) { self.any_number(random) } else { random.one_of(wanted) };
-        Number(number.min(self.length))
+        let number = match random.below(10) {
+            0 => random.below(usize::from(self.highest) + 1) as u16,
+            1 => random.between(self.folded.into(), self.highest.into()) as u16,
+            _ => random.one_of(wanted),
+        };
+        Number(number.min(self.highest))
     }
 
     fn committed(&self, random: &mut Random) -> Committed {
-        let change = self.head(&[self.number - 1, self.number - 1, self.number, self.length], random);
+        let change = self.head(&[self.number - 1, self.number - 1, self.number, self.highest], random);
         let revision = self.head(&[self.number, self.r_index, change.0], random).min(change);
-        let index = self.head(&[change.0, self.number, revision.0, 0], random);
-        let target = self.head(&[self.number, self.r_index, index.0, index.0, revision.0, 0], random);
-        let ordinal = Ordinal(random.one_of(&[0, 1, 2, 255, 256]));
+        let index = self.head(&[change.0, self.number, revision.0, self.folded, 0], random);
+        let elsewhere = if self.folds { index.0 } else { self.number };
+        let target = self.head(&[elsewhere, self.r_index, index.0, index.0, revision.0, 0], random);
+        let ordinal = Ordinal(random.one_of(&[0, 1, 2, 131_069, 131_070]));
         Committed { index, change, target, revision, ordinal, values: values(random) }
     }
 
@@ -286,6 +332,20 @@ impl Focus {
             ordinal: Ordinal(self.applied_ordinal),
             values: values(random),
         }
+    }
+}
+
+/// Brings a transaction to one of its ends, or nearly.
+fn finish(transaction: &mut Transaction, random: &mut Random) {
+    let done = random.one_of(&Status::ALL[3..]);
+    match random.below(200) {
+        0 => {}
+        1..=60 => transaction.c.commit = Status::Failed,
+        61..=130 => {
+            transaction.phase = Phase::Change;
+            transaction.c.apply = Status::Complete;
+        }
+        _ => transaction.r.apply = done,
     }
 }
 
