@@ -8,7 +8,8 @@
  * was made wholly or not at all.
  *
  * Where IMAGE does not exist it is made fresh. A file that is no well-formed image is refused and left as it is.
- * Two files lie beside it: IMAGE.new, written before it takes IMAGE's name, and IMAGE.lock, held while a server runs. */
+ * Three files lie beside it: IMAGE.new, written before it takes IMAGE's name; IMAGE.lock, held while a server runs; and
+ * IMAGE.archive, a line for each entry that was folded (archive.h), without which a folded image is refused. */
 #define _DEFAULT_SOURCE
 #include <errno.h>
 #include <fcntl.h>
@@ -19,20 +20,18 @@
 #include <sys/file.h>
 #include <unistd.h>
 
+#include "archive.h"
+#include "fail.h"
 #include "makowist.h"
 
 static uint8_t image[MAKOWIST_IMAGE_LENGTH];
-
-static void fail(const char *what, const char *why) {
-    fprintf(stderr, "server: %s: %s\n", what, why);
-    exit(1);
-}
 
 /* ---- The file. */
 
 struct place {
     const char *name;
     char *aside;
+    char *archive;
     int folder;
 };
 
@@ -47,7 +46,7 @@ static char *joined(const char *name, const char *ending) {
 
 /* Opens what keeping needs and makes sure that no other server keeps this image. */
 static struct place place_of(const char *name) {
-    struct place place = {name, joined(name, ".new"), -1};
+    struct place place = {name, joined(name, ".new"), joined(name, ".archive"), -1};
     char *copy = joined(name, ""), *lock = joined(name, ".lock");
     int held = open(lock, O_RDWR | O_CREAT | O_CLOEXEC, 0644);
     if (held < 0)
@@ -60,6 +59,11 @@ static struct place place_of(const char *name) {
     free(copy);
     free(lock);
     return place;
+}
+
+static void sync_folder(const struct place *place) {
+    if (fsync(place->folder) != 0)
+        fail(place->name, strerror(errno));
 }
 
 /* Writes the image aside, then gives it the name: whoever reads the name finds the old image or the new one, whole. */
@@ -78,20 +82,18 @@ static void keep(const struct place *place) {
         fail(place->aside, strerror(errno));
     if (rename(place->aside, place->name) != 0)
         fail(place->name, strerror(errno));
-    if (fsync(place->folder) != 0)
-        fail(place->name, strerror(errno));
+    sync_folder(place);
 }
 
-/* Loads the kept image; keeps a fresh one where there is none. */
-static void load(const struct place *place) {
+/* Loads the kept image and answers 1, or makes a fresh one and answers 0 where none is kept. */
+static int load(const struct place *place) {
     uint8_t found[MAKOWIST_IMAGE_LENGTH + 1]; /* a byte more, so that a longer file is seen to be one */
     FILE *file = fopen(place->name, "rb");
     if (!file && errno != ENOENT)
         fail(place->name, strerror(errno));
     if (!file) {
         makowist_fresh(image, sizeof image);
-        keep(place);
-        return;
+        return 0;
     }
     size_t length = fread(found, 1, sizeof found, file);
     if (ferror(file))
@@ -100,6 +102,19 @@ static void load(const struct place *place) {
     if (makowist_well_formed(found, length) != MAKOWIST_ACCEPTED)
         fail(place->name, "not a well-formed image");
     memcpy(image, found, sizeof image);
+    return 1;
+}
+
+/* Loads the image and opens its archive. A fresh image is kept only then: beside an archive it would be refused. */
+static struct archive opened(const struct place *place) {
+    struct archive archive;
+    int kept = load(place);
+    archive_open(&archive, place->archive, image);
+    /* the archive may be new: its name is on the disk before anything is in it */
+    sync_folder(place);
+    if (!kept)
+        keep(place);
+    return archive;
 }
 
 /* ---- The lines. */
@@ -154,8 +169,20 @@ static uint64_t append(const char *at, const char *end) {
     return makowist_append(image, sizeof image, pairs, length);
 }
 
+/* A fold. What it drops is archived before the image without it is kept; a copy shows whether it is accepted. */
+static uint64_t fold(struct archive *archive, uint16_t number) {
+    uint8_t folded[MAKOWIST_IMAGE_LENGTH];
+    memcpy(folded, image, sizeof folded);
+    uint64_t reply = makowist_fold(folded, sizeof folded, number);
+    if (makowist_reply_answer(reply) == MAKOWIST_ACCEPTED) {
+        archive_add(archive, image, number);
+        memcpy(image, folded, sizeof folded);
+    }
+    return reply;
+}
+
 /* The reply to a line. One that is no call is refused as out of range. */
-static uint64_t reply_to(const char *line, const char *end) {
+static uint64_t reply_to(struct archive *archive, const char *line, const char *end) {
     const char *after = line;
     uint16_t n[5];
     if (takes(&after, end, "call=append pairs=", n))
@@ -176,6 +203,8 @@ static uint64_t reply_to(const char *line, const char *end) {
         return makowist_sync(image, sizeof image, n[0]);
     if (is(line, end, "call=work node=# job=# number=# outcome=# cut=#", n))
         return makowist_work(image, sizeof image, n[0], n[1], n[2], n[3], n[4]);
+    if (is(line, end, "call=fold number=#", n))
+        return fold(archive, n[0]);
     return MAKOWIST_OUT_OF_RANGE;
 }
 
@@ -194,14 +223,14 @@ int main(int count, char **words) {
         return 2;
     }
     struct place place = place_of(words[1]);
-    load(&place);
+    struct archive archive = opened(&place);
 
     char *line = NULL;
     size_t room = 0;
     ssize_t length;
     while ((length = getline(&line, &room, stdin)) > 0) {
         const char *end = line + length - (line[length - 1] == '\n');
-        uint64_t reply = reply_to(line, end);
+        uint64_t reply = reply_to(&archive, line, end);
         /* a refused call has changed nothing */
         if (makowist_reply_answer(reply) == MAKOWIST_ACCEPTED)
             keep(&place);
@@ -213,5 +242,7 @@ int main(int count, char **words) {
            shown(MAKOWIST_COMMITTED_ORDINAL), shown(MAKOWIST_APPLIED_REVISION), shown(MAKOWIST_APPLIED_ORDINAL));
     free(line);
     free(place.aside);
+    free(place.archive);
+    fclose(archive.file);
     return fflush(stdout) == 0 ? 0 : 1;
 }

@@ -2,17 +2,18 @@
 //!
 //! `kill KILLS SEED FOLDER COMMAND...`: COMMAND, with the image's file as its last word, is started again and again on the
 //! same file in FOLDER, which must be empty; every few kills the file is a new one, missing at first or with a used image.
-//! The calls that were answered, and at most the one that was being made, must be what the file shows, byte by byte. Ends
-//! with 1 where they are not.
+//! The calls that were answered, and at most the one that was being made, must be what the file shows, byte by byte. The
+//! archive beside it must hold each folded transaction once, as it stood when it was folded, and behind them at most a part
+//! of what the fold that was being made would archive, which the next start must cut off. Ends with 1 where this is not so.
 
-use makowist_host::controller::State;
+use makowist_host::controller::{Number, State, Status, Transaction, LOG_LIMIT};
 use makowist_host::image::{self, LENGTH};
 use makowist_host::lines;
 use makowist_host::northbound::{self, act, Request};
 use makowist_host::random::Random;
 use makowist_host::requests::{sensible, wild};
 use std::fs;
-use std::io::{BufRead, BufReader, ErrorKind, Write};
+use std::io::{BufRead, BufReader, ErrorKind, Read, Write};
 use std::path::{Path, PathBuf};
 use std::process::{Child, Command, ExitCode, Stdio};
 use std::thread;
@@ -26,6 +27,12 @@ const CALLS: usize = 1000;
 const LONGEST: Duration = Duration::from_millis(25);
 /// The same from the start, for the kills that fall into it.
 const LONGEST_START: Duration = Duration::from_millis(40);
+/// The longest wait for the archive to grow, for the kills that wait for it, and by how many bytes it grows at most: some
+/// lines, so that folds are kept before the one that is cut short.
+const LONGEST_FOLD: Duration = Duration::from_millis(500);
+const LONGEST_GROWTH: usize = 1000;
+/// What the server says where it cuts lines of a fold that was not kept off the archive.
+const MENDED: &str = "cut off";
 
 type Checked<T> = Result<T, String>;
 
@@ -36,38 +43,121 @@ struct Seen {
     before_any_answer: usize,
     in_flight_kept: usize,
     left_aside: usize,
+    folds: usize,
+    dropped: usize,
+    left_ahead: usize,
+    mended: usize,
     idle: u64,
 }
 
-/// A server's image as it must be on the disk.
+impl Seen {
+    /// Makes a call that the server has made.
+    fn made(&mut self, call: &Call, kept: &mut Kept) -> bool {
+        let folded = kept.state.folded.0;
+        let accepted = kept.make(&call.request);
+        self.folds += usize::from(kept.state.folded.0 > folded);
+        self.dropped += usize::from(kept.state.folded.0 - folded);
+        accepted
+    }
+}
+
+/// What folds have dropped, as it must be written down.
+#[derive(Clone)]
+struct Archive {
+    text: String,
+    sum: u64,
+}
+
+impl Archive {
+    fn empty() -> Archive {
+        Archive { text: String::new(), sum: 0xcbf2_9ce4_8422_2325 }
+    }
+
+    fn add(&mut self, number: Number, transaction: &Transaction) {
+        self.put(&archived(number, transaction));
+        self.put(&format!(" sum={:016x}\n", self.sum));
+    }
+
+    /// FNV-1a.
+    fn put(&mut self, text: &str) {
+        self.text.push_str(text);
+        self.sum = text.bytes().fold(self.sum, |sum, byte| (sum ^ u64::from(byte)).wrapping_mul(0x100_0000_01b3));
+    }
+}
+
+/// A transaction's line in the archive, as far as the sum.
+fn archived(number: Number, transaction: &Transaction) -> String {
+    let Transaction { phase, change, c, r, r_index, r_values } = transaction;
+    let pairs: Vec<String> = change.pairs().iter().map(|pair| format!("{}:{}", pair.path, pair.value)).collect();
+    let r_values: Vec<String> = r_values.iter().take(pairs.len()).map(u16::to_string).collect();
+    let valid = u8::from(c.commit == Status::Complete);
+    let taken = u8::from(c.apply == Status::Complete);
+    let undone = u8::from(matches!(r.apply, Status::Complete | Status::Canceled));
+    format!(
+        "number={} pairs={} valid={valid} taken={taken} undone={undone} phase={phase:?} \
+         c_commit={:?} c_apply={:?} c_ordinal={} r_commit={:?} r_apply={:?} r_ordinal={} r_index={} r_values={}",
+        number.0,
+        pairs.join(","),
+        c.commit,
+        c.apply,
+        c.ordinal.0,
+        r.commit,
+        r.apply,
+        r.ordinal.0,
+        r_index.0,
+        r_values.join(",")
+    )
+}
+
+/// A server's image and archive as they must be on the disk.
 struct Kept {
     state: State,
     bytes: Vec<u8>,
+    archive: Archive,
+    /// What a fold that was not kept may have left behind the archive, until the next start.
+    ahead: String,
+    /// How many transactions the calls let it keep: where they are few, more of them get finished and folded.
+    limit: usize,
 }
 
 impl Kept {
-    fn fresh() -> Kept {
+    fn fresh(limit: usize) -> Kept {
         let mut bytes = vec![0; LENGTH];
         northbound::serve(&mut bytes, &Request::Fresh);
-        Kept { state: State::fresh(), bytes }
+        Kept { state: State::fresh(), bytes, archive: Archive::empty(), ahead: String::new(), limit }
     }
 
-    /// An image that sensible calls have led to, its log as long as it may be.
-    fn used(random: &mut Random) -> Kept {
-        let mut kept = Kept::fresh();
+    /// An image that sensible calls have led to.
+    fn used(limit: usize, random: &mut Random) -> Kept {
+        let mut kept = Kept::fresh(limit);
         for _ in 0..random.below(2000) {
-            let request = sensible(&kept.state, 128, random);
+            let request = onward(&kept.state, limit, random);
             kept.make(&request);
         }
         kept
     }
 
     fn make(&mut self, request: &Request) -> bool {
+        let archive = self.archive_after(request);
         let accepted = act(&mut self.state, request).reply.is_ok();
         if accepted {
             northbound::store(&self.state, request, &mut self.bytes);
+            if let Some(archive) = archive {
+                self.archive = archive;
+            }
         }
         accepted
+    }
+
+    /// The archive that an accepted fold leads to.
+    fn archive_after(&self, request: &Request) -> Option<Archive> {
+        let Request::Fold(last) = *request else {
+            return None;
+        };
+        let mut archive = self.archive.clone();
+        let dropped = self.state.kept().take_while(|(number, _)| number.0 <= last);
+        dropped.for_each(|(number, transaction)| archive.add(number, transaction));
+        Some(archive)
     }
 }
 
@@ -84,15 +174,55 @@ fn calls(kept: &Kept, random: &mut Random) -> Vec<Call> {
     let mut calls = Vec::new();
     while calls.len() < CALLS {
         let request = match random.once_in(12) {
-            true => wild(state.log.len(), random),
-            false => sensible(&state, 128, random),
+            true => wild(&state, random),
+            false => onward(&state, kept.limit, random),
         };
         if let Some(asked) = lines::asking(&request) {
-            let answer = lines::written(&act(&mut state, &request));
-            calls.push(Call { request, asked, answer });
+            let served = act(&mut state, &request);
+            if served.reply.is_ok() || random.once_in(4) {
+                calls.push(Call { request, asked, answer: lines::written(&served) });
+            }
         }
     }
     calls
+}
+
+/// A sensible call, and where a fold is accepted, more often that.
+fn onward(state: &State, limit: usize, random: &mut Random) -> Request {
+    let finished = state.log.iter().take_while(|transaction| transaction.is_finished()).count();
+    let fold = Request::Fold(state.folded.0 + random.between(1, finished.max(1)) as u16);
+    match random.once_in(8) && act(&mut state.clone(), &fold).reply.is_ok() {
+        true => fold,
+        false => sensible(state, limit, random),
+    }
+}
+
+/// When a server is killed.
+enum Moment {
+    /// So long after it was started.
+    FromStart(Duration),
+    /// So long after its first answer.
+    FromAnswer(Duration),
+    /// As soon as the archive is longer than this, after its first answer.
+    AtArchive(usize),
+}
+
+impl Moment {
+    fn any(kept: &Kept, random: &mut Random) -> Moment {
+        let mut within = |longest: Duration| Duration::from_micros(random.below(longest.as_micros() as usize) as u64);
+        let (from_start, from_answer) = (within(LONGEST_START), within(LONGEST));
+        match random.below(8) {
+            0 => Moment::FromStart(from_start),
+            1 | 2 => Moment::AtArchive(kept.archive.text.len() + random.below(LONGEST_GROWTH)),
+            _ => Moment::FromAnswer(from_answer),
+        }
+    }
+}
+
+/// What a server said: the whole lines that it answered, and on standard error.
+struct Said {
+    answers: Vec<String>,
+    aside: String,
 }
 
 struct Server<'a> {
@@ -103,8 +233,16 @@ struct Server<'a> {
 impl Server<'_> {
     fn start(&self) -> Checked<Child> {
         let mut command = Command::new(&self.command[0]);
-        command.args(&self.command[1..]).arg(&self.file).stdin(Stdio::piped()).stdout(Stdio::piped());
+        command.args(&self.command[1..]).arg(&self.file);
+        command.stdin(Stdio::piped()).stdout(Stdio::piped()).stderr(Stdio::piped());
         command.spawn().map_err(|error| format!("{}: {error}", self.command[0]))
+    }
+
+    /// The file beside the image with that ending.
+    fn beside(&self, ending: &str) -> PathBuf {
+        let mut name = self.file.as_os_str().to_owned();
+        name.push(ending);
+        name.into()
     }
 
     /// What the file holds, where there is one.
@@ -116,13 +254,38 @@ impl Server<'_> {
         }
     }
 
-    /// Starts it, feeds it the calls, kills it, and answers the whole lines that it wrote.
-    fn killed(&self, calls: &[Call], random: &mut Random) -> Checked<Vec<String>> {
-        let from_start = random.once_in(8);
-        let longest = if from_start { LONGEST_START } else { LONGEST };
-        let wait = Duration::from_micros(random.below(longest.as_micros() as usize) as u64);
+    /// What the archive holds; nothing where there is none.
+    fn archive(&self) -> Checked<String> {
+        match fs::read_to_string(self.beside(".archive")) {
+            Ok(text) => Ok(text),
+            Err(error) if error.kind() == ErrorKind::NotFound => Ok(String::new()),
+            Err(error) => Err(error.to_string()),
+        }
+    }
+
+    /// Waits for the moment, and hands on the first answer where it had to be awaited.
+    fn wait_for(&self, moment: Moment, output: &mut impl BufRead) -> Checked<Option<String>> {
+        let answer = match moment {
+            Moment::FromStart(_) => None,
+            Moment::FromAnswer(_) | Moment::AtArchive(_) => whole_line(output)?,
+        };
+        match moment {
+            Moment::FromStart(wait) | Moment::FromAnswer(wait) => thread::sleep(wait),
+            Moment::AtArchive(length) => {
+                // Without a pause: the lines of a fold soon have their image.
+                let (archive, began) = (self.beside(".archive"), Instant::now());
+                let grown = || fs::metadata(&archive).is_ok_and(|found| found.len() > length as u64);
+                while !grown() && began.elapsed() < LONGEST_FOLD {}
+            }
+        }
+        Ok(answer)
+    }
+
+    /// Starts it, feeds it the calls, and kills it.
+    fn killed(&self, calls: &[Call], moment: Moment) -> Checked<Said> {
         let mut child = self.start()?;
-        let (Some(mut input), Some(output)) = (child.stdin.take(), child.stdout.take()) else {
+        let (Some(mut input), Some(output), Some(mut error)) = (child.stdin.take(), child.stdout.take(), child.stderr.take())
+        else {
             return Err("no pipes".to_string());
         };
         let asked: String = calls.iter().map(|call| call.asked.as_str()).collect();
@@ -132,30 +295,34 @@ impl Server<'_> {
             input
         });
         let mut output = BufReader::new(output);
-        let mut answers = Vec::new();
-        if !from_start {
-            answers.extend(whole_line(&mut output)?);
-        }
-        thread::sleep(wait);
+        let mut said = Said { answers: Vec::new(), aside: String::new() };
+        said.answers.extend(self.wait_for(moment, &mut output)?);
         child.kill().map_err(|error| error.to_string())?;
         while let Some(answer) = whole_line(&mut output)? {
-            answers.push(answer);
+            said.answers.push(answer);
         }
+        error.read_to_string(&mut said.aside).map_err(|error| error.to_string())?;
         let status = child.wait().map_err(|error| error.to_string())?;
         drop(feeder.join());
         match status.code() {
-            None => Ok(answers),
-            Some(code) => Err(format!("the server ended by itself with {code} before it was killed")),
+            None => Ok(said),
+            Some(code) => Err(format!("the server ended by itself with {code} before it was killed: {}", said.aside)),
         }
     }
 
-    /// Starts it without a call: it must show the heads, leave by itself and change nothing.
-    fn closes_with(&self, kept: &Kept) -> Checked<()> {
+    /// Starts it without a call: it must mend the archive, show the heads, leave by itself and change nothing else.
+    fn closes_with(&self, kept: &mut Kept, seen: &mut Seen) -> Checked<()> {
         let output = self.start()?.wait_with_output().map_err(|error| error.to_string())?;
         let shown = String::from_utf8_lossy(&output.stdout);
+        let aside = String::from_utf8_lossy(&output.stderr);
         if !output.status.success() || shown != lines::closing(&kept.state) || self.kept()? != Some(kept.bytes.clone()) {
-            return Err(format!("started without a call it ended with {} and showed {shown:?}", output.status));
+            return Err(format!("started without a call it ended with {} and showed {shown:?}, {aside:?}", output.status));
         }
+        if self.archive()? != kept.archive.text || aside.contains(MENDED) == kept.ahead.is_empty() {
+            return Err(format!("started without a call it left another archive, or said otherwise: {aside:?}"));
+        }
+        seen.mended += usize::from(aside.contains(MENDED));
+        kept.ahead.clear();
         Ok(())
     }
 }
@@ -171,65 +338,97 @@ fn whole_line(output: &mut impl BufRead) -> Checked<Option<String>> {
 fn kill_once(server: &Server, kept: &mut Kept, seen: &mut Seen, random: &mut Random) -> Checked<()> {
     let existed = server.kept()?.is_some();
     let calls = calls(kept, random);
-    let answers = server.killed(&calls, random)?;
+    let Said { answers, aside } = server.killed(&calls, Moment::any(kept, random))?;
+    let mended = aside.contains(MENDED);
+    if !answers.is_empty() && mended == kept.ahead.is_empty() {
+        return Err(format!("{:?} lay behind the archive, and the server said {aside:?}", kept.ahead));
+    }
     for (call, answer) in calls.iter().zip(&answers) {
         if *answer != call.answer {
             return Err(format!("{:?} was answered {answer:?}, not {:?}", call.asked, call.answer));
         }
-        seen.accepted += usize::from(kept.make(&call.request));
+        seen.accepted += usize::from(seen.made(call, kept));
     }
     seen.answered += answers.len();
     seen.before_any_answer += usize::from(answers.is_empty());
-    seen.left_aside += usize::from(aside(&server.file).exists());
+    seen.left_aside += usize::from(server.beside(".new").exists());
     seen.idle += u64::from(answers.len() == calls.len());
-    let found = match server.kept()? {
-        Some(found) => found,
-        None if !existed && answers.is_empty() => return Ok(()),
+    seen.mended += usize::from(mended);
+    let next = calls.get(answers.len());
+    let not_kept = match server.kept()? {
+        Some(found) => holds_image(&found, next, kept, seen).map_err(|why| format!("after {} answers {why}", answers.len()))?,
+        None if !existed && answers.is_empty() => next,
         None => return Err("the file is gone".to_string()),
     };
+    if !answers.is_empty() || not_kept.is_none() {
+        kept.ahead.clear();
+    }
+    holds_archive(&server.archive()?, not_kept, kept, seen)
+}
+
+/// The image must be what the answered calls lead to, or those and the next, which is answered where it was not kept.
+fn holds_image<'a>(found: &[u8], next: Option<&'a Call>, kept: &mut Kept, seen: &mut Seen) -> Checked<Option<&'a Call>> {
     if found == kept.bytes {
-        return Ok(());
+        return Ok(next);
     }
     let answered = format!("{:?}", kept.state);
-    let next = calls.get(answers.len());
-    if next.is_some_and(|next| kept.make(&next.request)) && found == kept.bytes {
+    if next.is_some_and(|next| seen.made(next, kept)) && found == kept.bytes {
         seen.in_flight_kept += 1;
-        return Ok(());
+        return Ok(None);
     }
     Err(format!(
-        "after {} answers the file shows neither the answered calls nor one more ({:?})\n  answered: {answered}\n  kept: {}",
-        answers.len(),
+        "the file shows neither the answered calls nor one more ({:?})\n  answered: {answered}\n  kept: {}",
         next.map(|next| &next.asked),
-        image::decode(&found).map_or(format!("{} bytes that are no image", found.len()), |state| format!("{state:?}"))
+        image::decode(found).map_or(format!("{} bytes that are no image", found.len()), |state| format!("{state:?}"))
     ))
 }
 
-fn aside(file: &Path) -> PathBuf {
-    let mut name = file.as_os_str().to_owned();
-    name.push(".new");
-    name.into()
+/// The archive must hold what the kept image has folded. Behind that may lie what was there before the server was started,
+/// or the beginning of what the call that was not kept, if it is a fold, has to archive.
+fn holds_archive(found: &str, not_kept: Option<&Call>, kept: &mut Kept, seen: &mut Seen) -> Checked<()> {
+    let Some(ahead) = found.strip_prefix(&kept.archive.text) else {
+        let same = found.lines().zip(kept.archive.text.lines()).take_while(|(found, kept)| found == kept).count();
+        let line = |text: &str| text.lines().nth(same).map(str::to_string);
+        return Err(format!("line {} of the archive is {:?}\n  and not {:?}", same + 1, line(found), line(&kept.archive.text)));
+    };
+    let fold = not_kept.filter(|call| act(&mut kept.state.clone(), &call.request).reply.is_ok());
+    let begun = fold.and_then(|fold| kept.archive_after(&fold.request));
+    if ahead != kept.ahead && !ahead.is_empty() {
+        if !begun.is_some_and(|begun| begun.text.starts_with(found)) {
+            let asked = not_kept.map(|call| &call.asked);
+            return Err(format!("the archive goes on with {ahead:?}, and the call that was not kept is {asked:?}"));
+        }
+        seen.left_ahead += 1;
+    }
+    kept.ahead = ahead.to_string();
+    Ok(())
 }
 
 fn run(kills: u64, seed: u64, folder: &Path, command: &[String]) -> Checked<Seen> {
     let mut random = Random::new(seed);
     let mut seen = Seen::default();
-    let mut kept = Kept::fresh();
+    let mut kept = Kept::fresh(LOG_LIMIT);
     let mut server = Server { command, file: PathBuf::new() };
     for kill in 0..kills {
         if kill % KILLS_TO_A_FILE == 0 {
             server.file = folder.join(format!("image{}", kill / KILLS_TO_A_FILE));
-            kept = if random.once_in(2) { Kept::fresh() } else { Kept::used(&mut random) };
+            let limit = random.one_of(&[3, 8, LOG_LIMIT]);
+            kept = if random.once_in(2) { Kept::fresh(limit) } else { Kept::used(limit, &mut random) };
             if kept.state != State::fresh() {
                 fs::write(&server.file, &kept.bytes).map_err(|error| error.to_string())?;
+                fs::write(server.beside(".archive"), &kept.archive.text).map_err(|error| error.to_string())?;
             }
         }
         kill_once(&server, &mut kept, &mut seen, &mut random).map_err(|error| format!("kill {}: {error}", kill + 1))?;
-        if kill % KILLS_TO_A_FILE == KILLS_TO_A_FILE - 1 {
-            server.closes_with(&kept).map_err(|error| format!("after kill {}: {error}", kill + 1))?;
+        if kill % KILLS_TO_A_FILE == KILLS_TO_A_FILE - 1 || random.once_in(3) {
+            server.closes_with(&mut kept, &mut seen).map_err(|error| format!("after kill {}: {error}", kill + 1))?;
         }
     }
     if 2 * seen.idle > kills {
         return Err(format!("{} of {kills} kills fell when every call had been answered: feed more", seen.idle));
+    }
+    if seen.folds == 0 || seen.mended == 0 {
+        return Err(format!("{} folds, {} archives mended: too few kills to see what they must", seen.folds, seen.mended));
     }
     Ok(seen)
 }
@@ -251,13 +450,19 @@ fn main() -> ExitCode {
         Ok(seen) => {
             println!(
                 "kill: {kills} kills in {:.1} s, nothing lost, nothing half-written; {} calls answered, {} of them accepted; \
-                 killed before any answer {}, with a call kept that was not answered {}, with a file left aside {}",
+                 killed before any answer {}, with a call kept that was not answered {}, with a file left aside {}\n\
+                 kill: {} folds kept, each of the {} transactions that they dropped archived once; killed with lines archived \
+                 whose fold was not kept {}, archives mended at a start {}",
                 began.elapsed().as_secs_f64(),
                 seen.answered,
                 seen.accepted,
                 seen.before_any_answer,
                 seen.in_flight_kept,
-                seen.left_aside
+                seen.left_aside,
+                seen.folds,
+                seen.dropped,
+                seen.left_ahead,
+                seen.mended
             );
             ExitCode::SUCCESS
         }
