@@ -1,3 +1,4 @@
 pub mod Packing
+pub mod Wide
 pub mod Exports
 pub mod Promises

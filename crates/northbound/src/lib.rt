@@ -5,6 +5,7 @@ ghost use Rattle.machine.specs.Calls.{rollback, start, stop, connect, disconnec
 ghost use Rattle.machine.specs.Reads.{ofTable, ofEntry, ofState, ofNode};
 ghost use Rattle.controller.specs.Bytes.{appendOf};
 ghost use Rattle.northbound.specs.Packing.{Packs, PacksRead, PacksListed};
+ghost use Rattle.northbound.specs.Wide.{narrowed, outside, none};
 ghost use Rattle.northbound.specs.Exports.{Claims, Freshens, Lists, Shows, Tells};
 use controller::Listed;
 use controller::Read;
@@ -40,6 +41,28 @@ fn pack_listed(r: Listed) -> u64
     (r.answer as u64) + 4294967296 * (r.length as u64)
 }
 
+// ---- a number of C's, of 64 bits: one that is no 16-bit number is handed on as another that is refused as it is
+
+// Out of every range: what is no node, job, outcome, cut, table, path or field.
+fn narrow(x: u64) -> u16
+    ensures { λ r. ⌜ r ≡ narrowed outside x ⌝ }
+{
+    if x <= 65535 {
+        return x as u16;
+    }
+    65535
+}
+
+// The number 0, which no log has, as none has one past 65,535.
+fn log_number(x: u64) -> u16
+    ensures { λ r. ⌜ r ≡ narrowed none x ⌝ }
+{
+    if x <= 65535 {
+        return x as u16;
+    }
+    0
+}
+
 // ---- the calls
 
 // Makes a fresh image; 1 where the length is not 4,949.
@@ -60,10 +83,11 @@ pub extern "C" fn makowist_append(image: &mut [u8], pairs: &[u8]) -> u64
 
 // Asks for the rollback of a change.
 #[no_mangle]
-pub extern "C" fn makowist_rollback(image: &mut [u8], number: u16) -> u64
+pub extern "C" fn makowist_rollback(image: &mut [u8], number: u64) -> u64
     ensures { λ r. ⌜ Claims (now (image .entry)) (rollback number) r (now (image .exit)) ⌝ }
 {
-    pack(controller::rollback(image, number))
+    let i = log_number(number);
+    pack(controller::rollback(image, i))
 }
 
 #[no_mangle]
@@ -81,56 +105,66 @@ pub extern "C" fn makowist_stop(image: &mut [u8]) -> u64
 }
 
 #[no_mangle]
-pub extern "C" fn makowist_connect(image: &mut [u8], node: u16) -> u64
+pub extern "C" fn makowist_connect(image: &mut [u8], node: u64) -> u64
     ensures { λ r. ⌜ Claims (now (image .entry)) (connect node) r (now (image .exit)) ⌝ }
 {
-    pack(controller::connect(image, node))
+    let n = narrow(node);
+    pack(controller::connect(image, n))
 }
 
 #[no_mangle]
-pub extern "C" fn makowist_disconnect(image: &mut [u8], node: u16) -> u64
+pub extern "C" fn makowist_disconnect(image: &mut [u8], node: u64) -> u64
     ensures { λ r. ⌜ Claims (now (image .entry)) (disconnect node) r (now (image .exit)) ⌝ }
 {
-    pack(controller::disconnect(image, node))
+    let n = narrow(node);
+    pack(controller::disconnect(image, n))
 }
 
 // Gives mastership to a node that asks, or frees it of a master that is lost or has reconnected.
 #[no_mangle]
-pub extern "C" fn makowist_master(image: &mut [u8], node: u16) -> u64
+pub extern "C" fn makowist_master(image: &mut [u8], node: u64) -> u64
     ensures { λ r. ⌜ Claims (now (image .entry)) (master node) r (now (image .exit)) ⌝ }
 {
-    pack(controller::master(image, node))
+    let n = narrow(node);
+    pack(controller::master(image, n))
 }
 
 // Brings the applied values to the target, in two calls.
 #[no_mangle]
-pub extern "C" fn makowist_sync(image: &mut [u8], node: u16) -> u64
+pub extern "C" fn makowist_sync(image: &mut [u8], node: u64) -> u64
     ensures { λ r. ⌜ Claims (now (image .entry)) (sync node) r (now (image .exit)) ⌝ }
 {
-    pack(controller::sync(image, node))
+    let n = narrow(node);
+    pack(controller::sync(image, n))
 }
 
 // One step of a job: 1 commit change, 2 apply change, 3 commit rollback, 4 apply rollback.
 #[no_mangle]
 pub extern "C" fn makowist_work(
     image: &mut [u8],
-    node: u16,
-    job: u16,
-    number: u16,
-    outcome: u16,
-    cut: u16,
+    node: u64,
+    job: u64,
+    number: u64,
+    outcome: u64,
+    cut: u64,
 ) -> u64
     ensures { λ r. ⌜ Claims (now (image .entry)) (work node job number outcome cut) r (now (image .exit)) ⌝ }
 {
-    pack(controller::work(image, node, job, number, outcome, cut))
+    let n = narrow(node);
+    let j = narrow(job);
+    let i = log_number(number);
+    let o = narrow(outcome);
+    let c = narrow(cut);
+    pack(controller::work(image, n, j, i, o, c))
 }
 
 // Folds all up to a number away, where nothing is left to do of them: 17 where it may not be.
 #[no_mangle]
-pub extern "C" fn makowist_fold(image: &mut [u8], number: u16) -> u64
+pub extern "C" fn makowist_fold(image: &mut [u8], number: u64) -> u64
     ensures { λ r. ⌜ Claims (now (image .entry)) (foldTo number) r (now (image .exit)) ⌝ }
 {
-    pack(controller::fold(image, number))
+    let i = log_number(number);
+    pack(controller::fold(image, i))
 }
 
 // ---- the reads
@@ -156,32 +190,39 @@ pub extern "C" fn makowist_live(image: &[u8], room: &mut [u16]) -> u64
 
 // The value of a path: table 1 Committed, 2 Applied, 3 the target, 4 the base.
 #[no_mangle]
-pub extern "C" fn makowist_value(image: &[u8], table: u16, path: u16) -> u64
+pub extern "C" fn makowist_value(image: &[u8], table: u64, path: u64) -> u64
     ensures { λ r. ⌜ Shows (now (image .entry)) (ofTable table path) r ⌝ }
 {
-    pack_read(controller::value(image, table, path))
+    let b = narrow(table);
+    let p = narrow(path);
+    pack_read(controller::value(image, b, p))
 }
 
 // A field of a transaction.
 #[no_mangle]
-pub extern "C" fn makowist_transaction(image: &[u8], number: u16, field: u16) -> u64
+pub extern "C" fn makowist_transaction(image: &[u8], number: u64, field: u64) -> u64
     ensures { λ r. ⌜ Shows (now (image .entry)) (ofEntry number field) r ⌝ }
 {
-    pack_read(controller::transaction(image, number, field))
+    let i = log_number(number);
+    let f = narrow(field);
+    pack_read(controller::transaction(image, i, f))
 }
 
 // A field of what the state has once.
 #[no_mangle]
-pub extern "C" fn makowist_record(image: &[u8], field: u16) -> u64
+pub extern "C" fn makowist_record(image: &[u8], field: u64) -> u64
     ensures { λ r. ⌜ Shows (now (image .entry)) (ofState field) r ⌝ }
 {
-    pack_read(controller::record(image, field))
+    let f = narrow(field);
+    pack_read(controller::record(image, f))
 }
 
 // A field of a node's connection.
 #[no_mangle]
-pub extern "C" fn makowist_connection(image: &[u8], node: u16, field: u16) -> u64
+pub extern "C" fn makowist_connection(image: &[u8], node: u64, field: u64) -> u64
     ensures { λ r. ⌜ Shows (now (image .entry)) (ofNode node field) r ⌝ }
 {
-    pack_read(controller::connection(image, node, field))
+    let n = narrow(node);
+    let f = narrow(field);
+    pack_read(controller::connection(image, n, f))
 }

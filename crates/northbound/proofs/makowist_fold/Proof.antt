@@ -1,8 +1,13 @@
 -- `makowist_fold` meets its contract. Assumes nothing.
+use Rattle.machine.specs.Calls.{foldTo}
 use Rattle.northbound.proofs.Packed.{claims}
+use Rattle.northbound.proofs.Wider.{claims-wide, wide-fold}
 use borrow.Author.Needs.{needs}
 use Rattle.northbound.proofs.makowist_fold.Statement.{statement}
 use Rattle.northbound.proofs.makowist_fold.Tie as tie
+
+log-number-requires : tie.Need-log-number-requires
+log-number-requires c κs = search needs
 
 fold-requires : tie.Need-fold-requires
 fold-requires c κs = search needs
@@ -14,7 +19,9 @@ same-length : tie.Need-same-length
 same-length c = search needs
 
 returns : tie.Need-returns
-returns c = claims _ _ _ _ _ (c .before .before .before .fold .ensures) (c .pack .ensures)
+returns c =
+    claims _ _ _ _ _ (claims-wide _ foldTo _ _ _ _ _ (c .before .before .before .before .before .log-number .ensures) (wide-fold _ _) (c .before .before .before .fold .ensures)) (c .pack .ensures)
 
 pub makowist-fold-spec : {M : Type 1} → statement M
-makowist-fold-spec = tie.close (tie.spec fold-requires pack-requires same-length returns)
+makowist-fold-spec =
+    tie.close (tie.spec log-number-requires fold-requires pack-requires same-length returns)
