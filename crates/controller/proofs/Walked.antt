@@ -1,6 +1,6 @@
 -- The live list as the code walks it: a hop goes to a lower number, so the list from v is v and the list from where its
 -- hop goes; and what a store and the rest of the walk write. Assumes nothing.
-use Prim.Native.Nat.{ℕ, zero, suc, _+_, _-_, _≤_, _<_}
+use Prim.Native.Nat.{ℕ, zero, suc, _+_, _-_, _*_, _/_, _%_, _≤_, _<_}
 use mathlib.Core.Path.{_≡_, refl, ap, ap₂, sym, _∙_}
 use mathlib.Core.Bool.{Bool, true, false, cond}
 use mathlib.Core.List.{List, [], _∷_, _++_, append-assoc, append-nil}
@@ -22,7 +22,7 @@ use Rattle.image.specs.Formed.{formed}
 use Rattle.image.proofs.Scanned.{view-folded}
 use Rattle.controller.specs.declared.walking.Listed.{Listed}
 use Rattle.controller.specs.Claims.{Entry}
-use Rattle.controller.specs.Live.{unless, listing, listingOf, Lists, ListsLive, liveFrom, Chained, Placed, Put, Fitting, Leading, ListedIn}
+use Rattle.controller.specs.Live.{inBytes, unless, listing, listingOf, Lists, ListsLive, liveFrom, Chained, Placed, Put, Fitting, Leading, ListedIn}
 use Rattle.controller.proofs.Decided.{entry-of, formed-view, last-is, room}
 
 -- ---- hops, in a well-formed state
@@ -185,11 +185,11 @@ module _ (l : List ℕ) (b v : ℕ) (c : Chained l b v) where
       pub counted : (k : ℕ) → k ≡ length (liveFrom (view l) i) → k + 1 ≡ length (liveFrom (view l) v)
       counted k p = ap (λ (x : ℕ). x + 1) p ∙ add-one _ ∙ sym (ap length live-more)
 
-      pub room-here : (at m : ℕ) → at + length (liveFrom (view l) v) ≤ m → at < m
+      pub room-here : (at m : ℕ) → at + 2 * length (liveFrom (view l) v) ≤ m → at + 2 ≤ m
       room-here at m r = omega (arith, ap length live-more)
 
-      pub placed : (at : ℕ) (m : List ℕ) → at + length (liveFrom (view l) v) ≤ length m → Placed l b i (at + 1) (length (set m at v))
-      placed at m r = record { chained = lower; room = omega (arith, ap length live-more, length-set m at v) }
+      pub placed : (at m m′ : ℕ) → at + 2 * length (liveFrom (view l) v) ≤ m → m′ ≡ m → Placed l b i (at + 2) m′
+      placed at m m′ r e = record { chained = lower; room = omega (arith, ap length live-more) }
 
 -- ---- what is written
 -- a store at f, then l from f + 1 on, is v ∷ l from f on; past it the room is as it was
@@ -214,15 +214,43 @@ put-more xs f v l h =
     from-suc : (a b : ℕ) → suc (a + b) ≡ a + suc b
     from-suc a b = omega arith
 
+-- two stores, the low byte and the high one
+bytes-long : (l : List ℕ) → length (inBytes l) ≡ 2 * length l
+unfolding inBytes
+bytes-long [] = refl
+bytes-long (v ∷ l) = let h = bytes-long l in omega arith
+
+put-number : (m : List ℕ) (at v : ℕ) (l : List ℕ) → at + 2 ≤ length m → Put (set (set m at (v % 256)) (at + 1) (v / 256)) (at + 2) l ≡ Put m at (v ∷ l)
+unfolding inBytes
+put-number m at v l h =
+    let n = bytes-long l in
+    let m1 = set m at (v % 256) in
+    let m2 = set m1 (at + 1) (v / 256) in
+    ap₂ (λ (j k : ℕ). take j m2 ++ (inBytes l ++ drop k m2)) (two at) (three at (length l) (length (inBytes l)) n)
+    ∙ put-more m1 (at + 1) (v / 256) (inBytes l) (omega (arith, length-set m at (v % 256)))
+    ∙ put-more m at (v % 256) (v / 256 ∷ inBytes l) (omega arith)
+    ∙ ap (λ (k : ℕ). take at m ++ ((v % 256 ∷ v / 256 ∷ inBytes l) ++ drop k m)) (four at (length l) (length (inBytes l)) n)
+  where
+    two : (a : ℕ) → a + 2 ≡ a + 1 + 1
+    two a = omega arith
+
+    three : (a k j : ℕ) → j ≡ 2 * k → a + 2 + 2 * k ≡ a + 1 + 1 + j
+    three a k j e = omega arith
+
+    four : (a k j : ℕ) → j ≡ 2 * k → a + suc (suc j) ≡ a + 2 * suc k
+    four a k j e = omega arith
+
 pub walked-none : (l : List ℕ) (b v : ℕ) → Chained l b v → (m : List ℕ) (at : ℕ) → v ≤ b → m ≡ Put m at (liveFrom (view l) v)
+unfolding inBytes
 walked-none l b v c m at e =
     sym (ap (Put m at) (none-from l b v c e) ∙ ap (λ (k : ℕ). take at m ++ drop k m) (add-zero at) ∙ take-append-drop at m)
 
 pub walked-more : (l : List ℕ) (b v : ℕ) (c : Chained l b v) (n : b < v) (i : ℕ) (h : (i ≡ entryOf (view l .log) v .index .0) × (i < v))
-    (m m′ : List ℕ) (at : ℕ) → at + length (liveFrom (view l) v) ≤ length m
-    → m′ ≡ Put (set m at v) (at + 1) (liveFrom (view l) i) → m′ ≡ Put m at (liveFrom (view l) v)
-walked-more l b v c n i h m m′ at r q =
-    q ∙ put-more m at v (liveFrom (view l) i) (room-here l b v c n i h at (length m) r) ∙ ap (Put m at) (sym (live-more l b v c n i h))
+    (m m′ m″ : List ℕ) (at : ℕ) → at + 2 * length (liveFrom (view l) v) ≤ length m → m′ ≡ set (set m at (v % 256)) (at + 1) (v / 256)
+    → m″ ≡ Put m′ (at + 2) (liveFrom (view l) i) → m″ ≡ Put m at (liveFrom (view l) v)
+walked-more l b v c n i h m m′ m″ at r p q =
+    q ∙ ap (λ x. Put x (at + 2) (liveFrom (view l) i)) p ∙ put-number m at v (liveFrom (view l) i) (room-here l b v c n i h at (length m) r)
+    ∙ ap (Put m at) (sym (live-more l b v c n i h))
 
 -- ---- fold's list: the first n of the room r are written, m is the room as it was, and the list from i is still to come
 pub record Going (l : List ℕ) (b v : ℕ) (m r : List ℕ) (i n : ℕ) : Type 0 where
@@ -271,6 +299,14 @@ module _ (l : List ℕ) (b v : ℕ) (m r : List ℕ) (i n : ℕ) (g : Going l b 
       (k, sym (take-append-drop n r) ∙ ap₂ _++_ (sym e) (g .rest ∙ ap (λ (x : ℕ). drop x m) k))
 
 -- ---- the list in the room
+-- n numbers have room in m bytes where they are at most half of m
+halves : (n m : ℕ) → leb (2 * n) m ≡ leb n (m / 2)
+halves n m = go (leb n (m / 2)) refl
+  where
+    go : (b : Bool) → leb n (m / 2) ≡ b → leb (2 * n) m ≡ b
+    go true e = let h = leb-true n (m / 2) e in le-leb (2 * n) m (omega arith)
+    go false e = let h = leb-false n (m / 2) e in lt-leb (2 * n) m (omega arith)
+
 module _ (l : List ℕ) (w : formed l ≡ true) (d : Head) (v b : ℕ) (ed : d ≡ headAt l 4612) (ev : v ≡ d .revision .0) (ef : b ≡ foldedOf l) where
   from-revision : v ≡ view l .committed .head .revision .0
   unfolding view
@@ -285,19 +321,19 @@ module _ (l : List ℕ) (w : formed l ≡ true) (d : Head) (v b : ℕ) (ed : d �
   unfolding liveFrom
   live-is = ap (λ (x : ℕ). hops x (view l .log) x) from-revision
 
-  module _ (m : List ℕ) (y : Bool) (ey : y ≡ leb (length (liveFrom (view l) v)) (length m)) where
+  module _ (m : List ℕ) (y : Bool) (ey : y ≡ leb (length (liveFrom (view l) v)) (length m / 2)) where
     pub starts : y ≡ true → Placed l b v 0 (length m)
-    starts h = let k = leb-true (length (liveFrom (view l) v)) (length m) (sym ey ∙ h) in record { chained = revision-chained; room = omega arith }
+    starts h = let k = leb-true (length (liveFrom (view l) v)) (length m / 2) (sym ey ∙ h) in record { chained = revision-chained; room = omega arith }
 
-    room-is : leb (length (live (view l))) (length m) ≡ y
-    room-is = ap (λ (x : List ℕ). leb (length x) (length m)) (sym live-is) ∙ sym ey
+    room-is : leb (2 * length (live (view l))) (length m) ≡ y
+    room-is = ap (λ (x : List ℕ). leb (2 * length x) (length m)) (sym live-is) ∙ halves (length (liveFrom (view l) v)) (length m) ∙ sym ey
 
     pub listed : (n : ℕ) (r : Listed) (m′ : List ℕ) → y ≡ true → (n ≡ length (liveFrom (view l) v)) × (m′ ≡ Put m 0 (liveFrom (view l) v))
         → r ≡ record { answer = 0; length = n } → ListsLive l m r m′
     listed n r m′ h q p = (
       p ∙ ap (λ (x : ℕ). record { answer = 0; length = x }) (q .0 ∙ ap length live-is)
           ∙ ap (λ (x : Bool). unless 14 m x (listing (live (view l)) m) .listed) (sym (room-is ∙ h)),
-      q .1 ∙ ap (Put m 0) live-is ∙ ap (λ (x : ℕ). live (view l) ++ drop x m) (zero-add (length (live (view l))))
+      q .1 ∙ ap (Put m 0) live-is ∙ ap (λ (x : ℕ). inBytes (live (view l)) ++ drop x m) (zero-add (2 * length (live (view l))))
           ∙ ap (λ (x : Bool). unless 14 m x (listing (live (view l)) m) .room) (sym (room-is ∙ h)),
     )
 

@@ -1,8 +1,8 @@
 -- What `live` claims of its answer and of the room that it is lent (paper: The live list). Assumes nothing.
-use Prim.Native.Nat.{ℕ, _+_, _≤_, _<_}
+use Prim.Native.Nat.{ℕ, _+_, _*_, _/_, _%_, _≤_, _<_}
 use mathlib.Core.Path.{_≡_}
 use mathlib.Core.Bool.{Bool, true, false}
-use mathlib.Core.List.{List, _++_}
+use mathlib.Core.List.{List, [], _∷_, _++_}
 use lib.Dec.{leb}
 use lib.ListN.{length, getD, take, drop}
 use Rattle.machine.specs.State.{State}
@@ -26,13 +26,18 @@ abbrev pub unless : ℕ → List ℕ → Bool → Listing → Listing
 unless a m true x = x
 unless a m false x = unlisted a m
 
+-- numbers as the room has them: two bytes each, the low one first
+unfoldable pub inBytes : List ℕ → List ℕ
+inBytes [] = []
+inBytes (v ∷ vs) = v % 256 ∷ v / 256 ∷ inBytes vs
+
 -- the list, then the room past it as it was
 abbrev pub listing : List ℕ → List ℕ → Listing
-listing v m = record { listed = record { answer = 0; length = length v }; room = v ++ drop (length v) m }
+listing v m = record { listed = record { answer = 0; length = length v }; room = inBytes v ++ drop (2 * length v) m }
 
 -- 14 where the list is longer than the room
 abbrev pub listingIn : List ℕ → List ℕ → Listing
-listingIn v m = unless 14 m (leb (length v) (length m)) (listing v m)
+listingIn v m = unless 14 m (leb (2 * length v) (length m)) (listing v m)
 
 unfoldable pub listingOf : List ℕ → List ℕ → Listing
 listingOf l m = unless 1 m (formed l) (listingIn (live (view l)) m)
@@ -64,11 +69,11 @@ pub record Reaches (l : List ℕ) (b to v r : ℕ) : Type 0 where
 -- a place in the room from which the list has room
 pub record Placed (l : List ℕ) (b v at n : ℕ) : Type 0 where
   pub chained : Chained l b v
-  pub room : at + length (liveFrom (view l) v) ≤ n
+  pub room : at + 2 * length (liveFrom (view l) v) ≤ n
 
 -- the room with a list at a place
 abbrev pub Put : List ℕ → ℕ → List ℕ → List ℕ
-Put m at v = take at m ++ (v ++ drop (at + length v) m)
+Put m at v = take at m ++ (inBytes v ++ drop (at + 2 * length v) m)
 
 -- ---- the list as fold makes it for itself (order 10)
 -- a number from which the list has room

@@ -1,9 +1,9 @@
 // The live list: a recursive walk from the committed revision; each hop goes to r.index until 0 or a folded number.
 ghost use mathlib.Core.Path.{_≡_};
 ghost use mathlib.Core.Bool.{true};
-ghost use Prim.Native.Nat.{_<_};
+ghost use Prim.Native.Nat.{_+_, _/_, _%_, _≤_, _<_};
 ghost use lib.Dec.{leb};
-ghost use lib.ListN.{length};
+ghost use lib.ListN.{length, set};
 ghost use Rattle.machine.specs.State.{entryOf};
 ghost use Rattle.image.specs.View.{view};
 ghost use Rattle.image.specs.Formed.{formed};
@@ -57,8 +57,17 @@ fn has_room(s: &[u8], b: u16, v: u16, space: usize) -> bool
     n as usize <= space
 }
 
+// A number at a place of the room: two bytes, the low one first.
+fn put_number(room: &mut [u8], at: usize, v: u16)
+    requires { ⌜ at + 2 ≤ length (now room) ⌝ }
+    ensures { λ _. ⌜ now (room .exit) ≡ set (set (now (room .entry)) at (v % 256)) (at + 1) (v / 256) ⌝ }
+{
+    room[at] = (v % 256) as u8;
+    room[at + 1] = (v / 256) as u8;
+}
+
 // Writes the list from v on, at a place and after it, and answers its length.
-fn walk(s: &[u8], b: u16, v: u16, room: &mut [u16], at: usize) -> u16
+fn walk(s: &[u8], b: u16, v: u16, room: &mut [u8], at: usize) -> u16
     requires { ⌜ Placed (now s) b v at (length (now room)) ⌝ }
     ensures { λ r. ⌜ (r ≡ length (liveFrom (view (now (s .entry))) v)) × (now (room .exit) ≡ Put (now (room .entry)) at (liveFrom (view (now (s .entry))) v)) ⌝ }
 {
@@ -66,18 +75,18 @@ fn walk(s: &[u8], b: u16, v: u16, room: &mut [u16], at: usize) -> u16
         return 0;
     }
     let next = hop(s, v);
-    room[at] = v;
-    walk(s, b, next, room, at + 1) + 1
+    put_number(room, at, v);
+    walk(s, b, next, room, at + 2) + 1
 }
 
-fn list(s: &[u8], room: &mut [u16]) -> Listed
+fn list(s: &[u8], room: &mut [u8]) -> Listed
     requires { ⌜ formed (now s) ≡ true ⌝ }
     ensures { λ r. ⌜ ListsLive (now (s .entry)) (now (room .entry)) r (now (room .exit)) ⌝ }
 {
     let h = load_head(s, 4612);
     let v = h.revision.get();
     let b = last_fold(s);
-    if has_room(s, b, v, room.len()) {
+    if has_room(s, b, v, room.len() / 2) {
         let n = walk(s, b, v, room, 0);
         return Listed {
             answer: 0,
@@ -90,8 +99,8 @@ fn list(s: &[u8], room: &mut [u16]) -> Listed
     }
 }
 
-// The live list, newest first, in the room lent, and its length; room past it stays. Refuses 1, 14.
-pub fn live(s: &[u8], room: &mut [u16]) -> Listed
+// The live list, newest first, in the room lent, two bytes a number, and its length; room past it stays. Refuses 1, 14.
+pub fn live(s: &[u8], room: &mut [u8]) -> Listed
     ensures { λ r. ⌜ Lists (now (s .entry)) (now (room .entry)) r (now (room .exit)) ⌝ }
 {
     if well_formed(s) {

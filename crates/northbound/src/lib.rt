@@ -180,9 +180,9 @@ pub extern "C" fn makowist_well_formed(image: &[u8]) -> u64
     1
 }
 
-// The live list, newest first, in the room lent, and its length.
+// The live list, newest first, in the room lent, two bytes a number, the low one first; and its length.
 #[no_mangle]
-pub extern "C" fn makowist_live(image: &[u8], room: &mut [u16]) -> u64
+pub extern "C" fn makowist_live(image: &[u8], room: &mut [u8]) -> u64
     ensures { λ r. ⌜ Lists (now (image .entry)) (now (room .entry)) r (now (room .exit)) ⌝ }
 {
     pack_listed(controller::live(image, room))
