@@ -18,6 +18,51 @@
  * Refusals. No call has a precondition beyond the lent memory: whatever the numbers and the bytes, it is accepted or
  * refused. A refused call answers the number of the refusal, gives no event, and leaves every byte as it was. Where
  * several refusals hold, the answer is the first in the order named at the function. */
+
+/* Driving it. (The rules are in docs/RULES.md, what to do about an answer in docs/DESK.md.)
+ *
+ * The host keeps the image, and speaks with the switch and with whoever validates changes; the controller speaks with
+ * nobody. start, stop, connect and disconnect report what has happened. work and sync report what the switch has taken,
+ * so what they report comes first and the call after it.
+ *
+ * What a step would do. There is no state but the image, so a copy of it answers as the image would: memcpy it, and make
+ * the call on the copy, with MAKOWIST_OUTCOME_ACCEPTED and cut 0. The copy's reply says what the step is:
+ *
+ *     refused                               do nothing and ask nobody; the answer says why
+ *     phase Change, stage Commit, Complete  job 1 commits: have the pairs validated; the verdict is the outcome
+ *     stage Apply, Complete                 jobs 2 and 4 push: have the switch take the values; its answer is the outcome
+ *     anything else                         the outcome is not looked at; ask nobody
+ *
+ * Then make the call on the image with the outcome, and with nothing else called on it in between. Job 3 never looks at
+ * the outcome. cut is 0, unless the host plays a node that is lost between its two stores.
+ *
+ * Which call is a push, and with which values. Job 2, where c.commit is Complete, c.apply InProgress, r.commit not
+ * Complete, c.ordinal one above MAKOWIST_APPLIED_ORDINAL, and the line open for the node: the change's pairs, path
+ * MAKOWIST_TRANSACTION_PATH + k and value MAKOWIST_TRANSACTION_VALUE + k, for k below MAKOWIST_TRANSACTION_PAIRS. Job 4,
+ * where r.commit is Complete, r.apply InProgress, r.ordinal one above MAKOWIST_APPLIED_ORDINAL, and the line open: the
+ * same paths with MAKOWIST_TRANSACTION_R_VALUE + k. Value 0 deletes the path. No other work call is one.
+ *
+ * What the outcome means. Job 1: 0 valid, 1 invalid, and the change ends Failed and is never applied. Job 2: 0 the switch
+ * has taken the pairs, 1 it has not, and the change ends Failed; changes committed on top of it are Aborted in their turn,
+ * and what comes after these is applied once they and it are rolled back. Job 4: 0 the switch has taken the values, 1 it
+ * has not, which is refused (MAKOWIST_PUSH_REJECTED): the rollback stays InProgress, to be tried again. Where the switch
+ * has not answered there is no outcome and no call: ask it again. To take the same values twice is to take them once.
+ *
+ * sync. Try it on a copy too. Accepted where MAKOWIST_CONFIGURATION_STATE is not InProgress, it begins, and asks nothing of
+ * the switch. Accepted where it is, have the switch first take all MAKOWIST_PATHS applied values (MAKOWIST_TABLE_APPLIED; 0
+ * is absent), then call. It has no outcome: where the switch does not take them, do not call.
+ *
+ * After a crash. Keep an image whole before its answer is used: a call writes into the lent bytes where they lie, so keep
+ * the old ones until the new ones are safe (examples/server.c). Lend the last image kept and go on as above: the try on a
+ * copy shows what is left of a step that was cut, and a push that the image does not show is a push again. What was lost
+ * is reported, disconnect or stop; then start, connect, master (twice where the master has a new connection), sync.
+ *
+ * To build and link, on x86-64 (elsewhere with a cross compiler, x86_64-linux-gnu-gcc):
+ *
+ *     rt staticlib northbound
+ *     cc -std=c99 -Iinclude -c host.c
+ *     cc -static -o host host.o target/staticlib/libnorthbound.a
+ */
 #ifndef MAKOWIST_H
 #define MAKOWIST_H
 
