@@ -349,11 +349,16 @@ impl Transaction {
     }
 }
 
-// Committed and Applied have one each. Committed's `change` stands beside its head, since Applied has none.
+// Committed and Applied have one each. Committed's `change` stands beside its head, since Applied has none. What is said at
+// the fields is true in every reached state: crates/history/specs/Invariant.antt.
 pub struct Head {
+    // Committed's: revision ≤ index ≤ change ≤ the highest number given. No rule reads Applied's.
     pub index: Number,
+    // Committed's: at rest revision ≤ target ≤ index, else where the commit under way leads. Applied's: at most change.
     pub target: Number,
+    // The newest change that is live: committed, or taken by the switch, and not rolled back there; 0 if none.
     pub revision: Number,
+    // Applied's ≤ Committed's = how many commits there were, those of rollbacks too ≤ twice the highest number given.
     pub ordinal: Ordinal,
 }
 

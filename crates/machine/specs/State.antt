@@ -35,12 +35,17 @@ pub record Log : Type 0 where
   pub base : List ℕ
   pub entries : List Transaction
 
--- `change` is Committed's
+-- `change` is Committed's. What is said at the fields is true in every reached state: crates/history/specs/Invariant.antt
 pub record State : Type 0 where
+  -- the last fold ≤ change; an ordinal is the place of its commit, and no two carry one
   pub log : Log
+  -- revision ≤ index ≤ change ≤ the highest number given
   pub change : Number
+  -- its values are those of the live changes, which the revision leads to
   pub committed : Part
+  -- its ordinal ≤ Committed's; its values are those of the changes taken by the switch and not undone
   pub applied : Part
+  -- line open: the target's values are the applied values; nobody is connected to a stopped target
   pub net : Net
 
 -- ---- fresh
