@@ -9,14 +9,16 @@
  *     if (makowist_reply_answer(reply) != MAKOWIST_ACCEPTED) ...
  *
  * Memory. All of it is the caller's and is lent for the length of a call: nothing is allocated, no pointer is kept, and
- * there is no state but the image. Every pointer goes with its length, points to so many elements, and is not NULL even
- * where the length is 0. The slices lent to one call do not overlap. The image and the pairs need no alignment.
+ * there is no state but the image. Every pointer goes with its length in bytes and points to so many; where that is 0 it may
+ * be NULL. The slices lent to one call do not overlap, and none needs an alignment.
  *
  * Calls at the same time. Calls on one image are not to run at the same time: who lends it to a call that changes it
  * lends it to nobody else meanwhile. Reads (const images) may run beside reads. Calls on different images are free.
  *
  * Refusals. No call has a precondition beyond the lent memory: whatever the numbers and the bytes, it is accepted or
- * refused. A refused call answers the number of the refusal, gives no event, and leaves every byte as it was. Where
+ * refused. A number is taken in all its 64 bits: one that is too great is refused, and never cut to a smaller one (node, job,
+ * outcome, cut, table, path and field as MAKOWIST_OUT_OF_RANGE, a transaction's number as MAKOWIST_NO_SUCH_NUMBER). A refused
+ * call answers the number of the refusal, gives no event, and leaves every byte as it was. Where
  * several refusals hold, the answer is the first in the order named at the function. */
 
 /* Driving it. (The rules are in docs/RULES.md, what to do about an answer in docs/DESK.md.)
@@ -132,6 +134,22 @@ enum {
 };
 enum { MAKOWIST_OUTCOME_ACCEPTED = 0, MAKOWIST_OUTCOME_REJECTED = 1 };
 
+/* ---- Names, for printing; "?" for a number that is none. */
+
+static inline const char *makowist_answer_name(uint64_t answer) {
+    static const char *const names[] = {
+        "accepted",          "not well-formed", "out of range",     "not a change",       "log full",
+        "no such number",    "no rollback",     "already so",       "target stopped",     "counter at limit",
+        "not master",        "no rule",         "line not open",    "push rejected",      "no room",
+        "?",                 "?",               "not finished",     "folded"};
+    return answer < sizeof names / sizeof *names ? names[answer] : "?";
+}
+
+static inline const char *makowist_status_name(uint64_t status) {
+    static const char *const names[] = {"None", "Pending", "InProgress", "Complete", "Aborted", "Canceled", "Failed"};
+    return status < sizeof names / sizeof *names ? names[status] : "?";
+}
+
 /* ---- The reply of a call: answer + 2^8 phase + 2^16 stage + 2^24 status + 2^32 number.
  *
  * Phase, stage, status and number are those of the call's event, and 0 where it gives none; only an accepted job gives
@@ -158,16 +176,18 @@ uint64_t makowist_fresh(uint8_t *image, size_t length);
  * MAKOWIST_COUNTER_AT_LIMIT. */
 uint64_t makowist_append(uint8_t *image, size_t length, const uint8_t *pairs, size_t pairs_length);
 
-/* Writes one pair, MAKOWIST_PAIR_LENGTH bytes, as makowist_append takes it. */
-static inline void makowist_put_pair(uint8_t *pair, uint16_t path, uint16_t value) {
-    pair[0] = (uint8_t)(path & 0xff);
-    pair[1] = (uint8_t)(path >> 8);
+/* Writes one pair, MAKOWIST_PAIR_LENGTH bytes, as makowist_append takes it. A path or a value that has no 16 bits makes it a
+ * pair of path 65,535, which no change has. */
+static inline void makowist_put_pair(uint8_t *pair, uint64_t path, uint64_t value) {
+    uint64_t kept = path > 65535 || value > 65535 ? 65535 : path;
+    pair[0] = (uint8_t)(kept & 0xff);
+    pair[1] = (uint8_t)(kept >> 8 & 0xff);
     pair[2] = (uint8_t)(value & 0xff);
-    pair[3] = (uint8_t)(value >> 8);
+    pair[3] = (uint8_t)(value >> 8 & 0xff);
 }
 
 /* Asks for the rollback of a committed change. Refuses MAKOWIST_NO_SUCH_NUMBER, MAKOWIST_FOLDED, MAKOWIST_NO_ROLLBACK. */
-uint64_t makowist_rollback(uint8_t *image, size_t length, uint16_t number);
+uint64_t makowist_rollback(uint8_t *image, size_t length, uint64_t number);
 
 /* The target runs from now on, under its next id. Refuses MAKOWIST_ALREADY_SO, MAKOWIST_COUNTER_AT_LIMIT. */
 uint64_t makowist_start(uint8_t *image, size_t length);
@@ -177,44 +197,50 @@ uint64_t makowist_stop(uint8_t *image, size_t length);
 
 /* The node is connected, under its next id. Refuses MAKOWIST_OUT_OF_RANGE, MAKOWIST_ALREADY_SO, MAKOWIST_TARGET_STOPPED,
  * MAKOWIST_COUNTER_AT_LIMIT. */
-uint64_t makowist_connect(uint8_t *image, size_t length, uint16_t node);
+uint64_t makowist_connect(uint8_t *image, size_t length, uint64_t node);
 
 /* The node is not connected any more. Refuses MAKOWIST_OUT_OF_RANGE, MAKOWIST_ALREADY_SO. */
-uint64_t makowist_disconnect(uint8_t *image, size_t length, uint16_t node);
+uint64_t makowist_disconnect(uint8_t *image, size_t length, uint64_t node);
 
 /* Where there is no master and the node is connected, it becomes master in the next term; where it is master and not
  * connected, or connected again under another id than conn, there is no master any more, and a second call makes it master
  * anew. Refuses MAKOWIST_OUT_OF_RANGE, MAKOWIST_NO_RULE, MAKOWIST_COUNTER_AT_LIMIT; a master that is connected under the id
  * that conn has is MAKOWIST_NO_RULE. */
-uint64_t makowist_master(uint8_t *image, size_t length, uint16_t node);
+uint64_t makowist_master(uint8_t *image, size_t length, uint64_t node);
 
 /* Brings the applied values to the target in a new term, in two calls: the first begins, the second is answered after
  * the target has taken them. Refuses MAKOWIST_OUT_OF_RANGE, MAKOWIST_NOT_MASTER, MAKOWIST_NO_RULE, MAKOWIST_LINE_NOT_OPEN. */
-uint64_t makowist_sync(uint8_t *image, size_t length, uint16_t node);
+uint64_t makowist_sync(uint8_t *image, size_t length, uint64_t node);
 
 /* One step of a job on a transaction, by a node; its event is in the reply where the step gives one. A cut of 1 leaves
  * out the second store of a step that has two, as when the node is lost between them; the next step makes it good.
  * Refuses MAKOWIST_OUT_OF_RANGE, MAKOWIST_NO_SUCH_NUMBER, MAKOWIST_FOLDED, MAKOWIST_NOT_MASTER, MAKOWIST_NO_RULE,
  * MAKOWIST_COUNTER_AT_LIMIT, MAKOWIST_LINE_NOT_OPEN, MAKOWIST_PUSH_REJECTED. */
-uint64_t makowist_work(uint8_t *image, size_t length, uint16_t node, uint16_t job, uint16_t number, uint16_t outcome,
-                       uint16_t cut);
+uint64_t makowist_work(uint8_t *image, size_t length, uint64_t node, uint64_t job, uint64_t number, uint64_t outcome,
+                       uint64_t cut);
 
 /* Folds all up to the number away: they are kept no more, and what those of them that are live set stays as the base. Gives
  * no event. Refuses MAKOWIST_NO_SUCH_NUMBER, MAKOWIST_NOT_FINISHED. */
-uint64_t makowist_fold(uint8_t *image, size_t length, uint16_t number);
+uint64_t makowist_fold(uint8_t *image, size_t length, uint64_t number);
 
 /* ---- Reads. They change no byte of the image. All refuse MAKOWIST_NOT_WELL_FORMED first. */
 
 /* MAKOWIST_ACCEPTED where the bytes are a well-formed image, else MAKOWIST_NOT_WELL_FORMED. */
 uint64_t makowist_well_formed(const uint8_t *image, size_t length);
 
-/* Writes the numbers of the changes that make up the committed revision, newest first, and answers how many as value;
- * room past them stays. room_length is in elements; MAKOWIST_LOG_LIMIT is always enough. Refuses MAKOWIST_NO_ROOM. */
-uint64_t makowist_live(const uint8_t *image, size_t length, uint16_t *room, size_t room_length);
+/* Writes the numbers of the changes that make up the committed revision, newest first, two bytes each, little-endian
+ * (makowist_listed reads one), and answers how many as value; room past them stays. room_length is in bytes;
+ * 2 * MAKOWIST_LOG_LIMIT is always enough. Refuses MAKOWIST_NO_ROOM. */
+uint64_t makowist_live(const uint8_t *image, size_t length, uint8_t *room, size_t room_length);
+
+/* The k-th number, from 0, of a list that makowist_live wrote. */
+static inline uint16_t makowist_listed(const uint8_t *room, size_t k) {
+    return (uint16_t)(room[2 * k] | room[2 * k + 1] << 8);
+}
 
 /* A path's value in one of the four tables. Refuses MAKOWIST_OUT_OF_RANGE. */
 enum { MAKOWIST_TABLE_COMMITTED = 1, MAKOWIST_TABLE_APPLIED = 2, MAKOWIST_TABLE_TARGET = 3, MAKOWIST_TABLE_BASE = 4 };
-uint64_t makowist_value(const uint8_t *image, size_t length, uint16_t table, uint16_t path);
+uint64_t makowist_value(const uint8_t *image, size_t length, uint64_t table, uint64_t path);
 
 /* A field of a transaction. Pair k, from 0, has path, value and r.value at the field named with + k; places past the
  * transaction's pairs carry nothing. Refuses MAKOWIST_OUT_OF_RANGE (the field), MAKOWIST_NO_SUCH_NUMBER,
@@ -233,7 +259,7 @@ enum {
     MAKOWIST_TRANSACTION_VALUE = 14,    /* to 17 */
     MAKOWIST_TRANSACTION_R_VALUE = 18   /* to 21 */
 };
-uint64_t makowist_transaction(const uint8_t *image, size_t length, uint16_t number, uint16_t field);
+uint64_t makowist_transaction(const uint8_t *image, size_t length, uint64_t number, uint64_t field);
 
 /* A field of what the state has once. Refuses MAKOWIST_OUT_OF_RANGE. */
 enum {
@@ -256,11 +282,11 @@ enum {
     MAKOWIST_TARGET_RUNNING = 17,
     MAKOWIST_LAST_FOLD = 18
 };
-uint64_t makowist_record(const uint8_t *image, size_t length, uint16_t field);
+uint64_t makowist_record(const uint8_t *image, size_t length, uint64_t field);
 
 /* A field of a node's connection. Refuses MAKOWIST_OUT_OF_RANGE. */
 enum { MAKOWIST_CONNECTION_ID = 1, MAKOWIST_CONNECTION_CONNECTED = 2 };
-uint64_t makowist_connection(const uint8_t *image, size_t length, uint16_t node, uint16_t field);
+uint64_t makowist_connection(const uint8_t *image, size_t length, uint64_t node, uint64_t field);
 
 #ifdef __cplusplus
 }
