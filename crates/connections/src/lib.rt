@@ -108,6 +108,7 @@ pub fn connect_of(conns: [Connection; 8], n: u16, running: bool) -> Tabled
     }
 }
 
+// The same of a table by value: the answer, and the table after it.
 pub fn disconnect_of(conns: [Connection; 8], n: u16) -> Tabled
     ensures { λ r. ⌜ DisconnectsOf conns n r ⌝ }
 {
@@ -119,6 +120,7 @@ pub fn disconnect_of(conns: [Connection; 8], n: u16) -> Tabled
     }
 }
 
+// The same of a table by value: no node is connected any more.
 pub fn stop_of(conns: [Connection; 8]) -> [Connection; 8]
     ensures { λ r. ⌜ StopsOf conns r ⌝ }
 {

@@ -18,7 +18,6 @@ use Rattle.kinds.specs.declared.Configuration.{Configuration}
 use Rattle.kinds.specs.declared.Status.the-variants.{None}
 use Rattle.kinds.specs.Numbers.{num}
 use Rattle.kinds.specs.Events.{numbered, refusal}
-use Rattle.fields.proofs.Laws.{Bytes, Outside}
 use Rattle.rules.specs.declared.Plan.{Plan}
 use Rattle.rules.specs.declared.Targeted.{Targeted}
 use Rattle.rules.specs.declared.Mastered.{Mastered}
@@ -33,7 +32,7 @@ use Rattle.connections.specs.Table as table
 use Rattle.connections.specs.Decides as decides
 use Rattle.mastership.specs.Lent.{masterOf}
 use Rattle.image.specs.Records.{entryAt, putEntryAt, lastOf, foldedOf, configurationOf, putConfiguration, mastershipOf, putMastership, targetOf, putTarget, connectionsOf, putConnections}
-use Rattle.image.specs.Layout.{configurationAt}
+use Rattle.image.specs.Layout.{slots, highest}
 use Rattle.image.specs.View.{tableOf, view, write, written}
 use Rattle.image.specs.Formed.{formed}
 use Rattle.image.proofs.UpTo.{and-left, and-right}
@@ -41,7 +40,7 @@ use Rattle.image.proofs.Kept.{table-kept}
 use Rattle.image.proofs.Shown.{configuration-outside}
 use Rattle.image.proofs.Scanned.{view-kept, formed-length}
 use Rattle.controller.specs.Claims.{outcomeOf, Claims, Does, Entry}
-use Rattle.controller.specs.Bytes.{pairsOf, pairsIf, appendOf, validBytes}
+use Rattle.controller.specs.Bytes.{AllBytes, pairsOf, pairsIf, appendOf, validBytes}
 use Rattle.controller.proofs.LentPairs.{valid-change, whole-pairs}
 use Rattle.controller.proofs.Decided.{entry-of, room, last-is}
 
@@ -184,7 +183,7 @@ module _ (l : List ℕ) (n : ℕ) (b : Bool) (r : Reply) (eb : b ≡ isNode n) w
           → l2 ≡ write l1 (targetValues (tableOf l1 ofApplied)) → Does l (sync n) r l2
       unfolding written write
       synced l1 l2 w e f p q s =
-          let o : Outside l (putConfiguration l (x .configuration)) configurationAt (configurationAt + 5) = configuration-outside l (formed-length l w) (room l w) (x .configuration) in
+          let o = configuration-outside l (formed-length l w) (room l w) (x .configuration) in
           let k : tableOf (putConfiguration l (x .configuration)) ofApplied ≡ tableOf l ofApplied = table-kept l (putConfiguration l (x .configuration)) _ _ o ofApplied (inl (omega arith)) in
           accepted-by l (sync n) (x .answer) _ sync-by r l2 e p (s ∙ rw (q, k, f))
 
@@ -276,7 +275,7 @@ pub node-is : (n : ℕ) (b : Bool) → b ≡ isNode n → b ≡ true → (1 ≤ 
 node-is n b e t = let z : isNode n ≡ true = sym e ∙ t in (leb-true _ _ (and-left _ _ z), leb-true _ _ (and-right (leb 1 n) _ z))
 
 -- ---- append
-module _ (l b : List ℕ) (y : Bytes b) (v : Bool) (r : Reply) (ev : v ≡ validBytes b) where
+module _ (l b : List ℕ) (y : AllBytes b) (v : Bool) (r : Reply) (ev : v ≡ validBytes b) where
   valid-is : (x : Bool) → v ≡ x → validChange (pairsIf (eqb (length b % 4) 0) (pairsOf b)) ≡ x
   valid-is x e = valid-change b y ∙ sym ev ∙ e
 
@@ -288,27 +287,27 @@ module _ (l b : List ℕ) (y : Bytes b) (v : Bool) (r : Reply) (ev : v ≡ valid
     long : length (view l .log .entries) ≡ n - d
     long = view-kept l ∙ ap₂ (λ (x y : ℕ). x - y) (sym en) (sym ed)
 
-    highest : last (view l .log) ≡ n
-    highest = last-is l w ∙ sym en
+    last-shown : last (view l .log) ≡ n
+    last-shown = last-is l w ∙ sym en
 
-    pub append-4 : 128 ≤ n - d → r ≡ refusal 4 → Does l (appendOf b) r l
+    pub append-4 : slots ≤ n - d → r ≡ refusal 4 → Does l (appendOf b) r l
     unfolding decide
-    append-4 h p = refuses l (appendOf b) 4 r (rw (valid-is true t, long, le-ltb (n - d) 128 h)) p
+    append-4 h p = refuses l (appendOf b) 4 r (rw (valid-is true t, long, le-ltb (n - d) slots h)) p
 
-    module _ (h : n - d < 128) where
-      fits : ltb (length (view l .log .entries)) 128 ≡ true
-      fits = ap (λ (x : ℕ). ltb x 128) long ∙ lt-ltb (n - d) 128 h
+    module _ (h : n - d < slots) where
+      fits : ltb (length (view l .log .entries)) slots ≡ true
+      fits = ap (λ (x : ℕ). ltb x slots) long ∙ lt-ltb (n - d) slots h
 
-      pub append-9 : 65535 ≤ n → r ≡ refusal 9 → Does l (appendOf b) r l
+      pub append-9 : highest ≤ n → r ≡ refusal 9 → Does l (appendOf b) r l
       unfolding decide
-      append-9 g p = refuses l (appendOf b) 9 r (rw (valid-is true t, fits, highest, le-ltb n 65535 g)) p
+      append-9 g p = refuses l (appendOf b) 9 r (rw (valid-is true t, fits, last-shown, le-ltb n highest g)) p
 
-      pub appended-to : (x : Transaction) (k : Number) (m : List ℕ) → n < 65535 → x ≡ appended (pairsOf b) → m ≡ write l (grow x) → k ≡ num (n + 1)
+      pub appended-to : (x : Transaction) (k : Number) (m : List ℕ) → n < highest → x ≡ appended (pairsOf b) → m ≡ write l (grow x) → k ≡ num (n + 1)
           → r ≡ record { answer = 0; event = record { phase = 0; stage = 0; number = k; status = None } } → Does l (appendOf b) r m
       unfolding decide written
       appended-to x k m g ex q ek p =
           let z : pairsIf (eqb (length b % 4) 0) (pairsOf b) ≡ pairsOf b = whole-pairs b (sym ev ∙ t) in
           does l (appendOf b) (record { reply = record { answer = 0; event = numbered (n + 1) }; stores = grow (appended (pairsIf (eqb (length b % 4) 0) (pairsOf b))) ∷ [] }) r m
-          (rw (valid-is true t, fits, highest, lt-ltb n 65535 g))
+          (rw (valid-is true t, fits, last-shown, lt-ltb n highest g))
           (p ∙ rw ek)
           (q ∙ ap (λ (u : Transaction). write l (grow u)) (ex ∙ ap appended (sym z)))

@@ -1,12 +1,11 @@
 -- What the code loads is what the view shows, so what its rules decide is what the machine decides. Assumes nothing.
-use Prim.Native.Nat.{ℕ, _+_, _-_, _≤_, _<_}
+use Prim.Native.Nat.{ℕ, _≤_, _<_}
 use mathlib.Core.Path.{_≡_, refl, ap, ap₂, sym, _∙_}
-use mathlib.Core.Bool.{Bool, true, false, _||_, cond}
+use mathlib.Core.Bool.{Bool, true, false, cond}
 use mathlib.Core.List.{List, [], _∷_}
-use native.Mathlib.Nat.{add-assoc}
 use native.Mathlib.Omega.{arith}
-use borrow.Author.Tests.{eq-eqb, ne-eqb, eqb-true, eqb-false, le-leb, lt-leb}
-use lib.Dec.{eqb, leb, ltb}
+use borrow.Author.Tests.{eq-eqb, ne-eqb, le-leb, lt-leb}
+use lib.Dec.{leb, ltb}
 use lib.ListN.{length, getD}
 use Rattle.kinds.specs.declared.Transaction.{Transaction}
 use Rattle.kinds.specs.declared.Head.{Head}
@@ -18,8 +17,6 @@ use Rattle.kinds.specs.declared.Configuration.{Configuration}
 use Rattle.kinds.specs.declared.Status.{Status}
 use Rattle.kinds.specs.declared.Status.the-variants.{None, Pending, InProgress, Complete, Aborted, Canceled, Failed}
 use Rattle.kinds.specs.Numbers.{num}
-use Rattle.kinds.specs.Statuses.{done, statusOf}
-use Rattle.fields.specs.Field.{field, fieldsAt}
 use Rattle.rules.specs.declared.Plan.{Plan}
 use Rattle.rules.specs.AtRest.{atRest}
 use Rattle.rules.specs.CommitChange.{commitChange}
@@ -30,21 +27,22 @@ use Rattle.rules.specs.ApplyRollback.{applyRollback}
 use Rattle.rules.specs.ApplyRollback as rollback
 use Rattle.rules.specs.Outside.{lineOpen}
 use Rattle.machine.specs.State.{State, entryOf, last, nodeOf, lineOpenFor}
+use Rattle.machine.specs.Stores.{ofCommitted}
+use Rattle.machine.specs.WellFormed.{allEntries}
 use Rattle.machine.specs.Settled.{entrySettled, settled}
 use Rattle.machine.specs.Rest.{restOf}
 use Rattle.machine.specs.Calls.{presentOne, present, job1, job2, job3, job4, planOf}
 use Rattle.machine.proofs.Kept as kept
-use Rattle.image.specs.Layout.{tableWidths, imageLength}
+use Rattle.image.specs.Layout.{committedAt, appliedAt, imageLength}
 use Rattle.image.specs.Records.{entryAt, lastOf, foldedOf, changeOf, headAt, configurationOf, mastershipOf, targetOf, connectionsOf}
 use Rattle.image.specs.View.{tableOf, view}
-use Rattle.image.specs.Formed.{allKept, formed}
-use Rattle.image.proofs.UpTo.{kept-same}
-use Rattle.image.proofs.Scanned.{Room, view-last, view-entry, view-all, formed-length, formed-room, formed-state}
-use Rattle.controller.specs.Claims.{Entry, entrySettledAt, settledFor}
+use Rattle.image.specs.Formed.{formed}
+use Rattle.image.proofs.Scanned.{Room, view-last, view-entry, formed-length, formed-room, formed-state}
+use Rattle.controller.specs.Claims.{Entry, settledFor}
 
 -- ---- a well-formed image
 module _ (l : List ℕ) (w : formed l ≡ true) where
-  pub size : 4949 ≤ length l
+  pub size : imageLength ≤ length l
   size = let e : length l ≡ imageLength = formed-length l w in omega arith
 
   pub formed-view : kept.Formed (view l)
@@ -57,7 +55,7 @@ module _ (l : List ℕ) (w : formed l ≡ true) where
   last-is = view-last l (room .0)
 
   -- Committed's index is at most the highest number
-  pub index-in : headAt l 4612 .index .0 ≤ lastOf l
+  pub index-in : headAt l committedAt .index .0 ≤ lastOf l
   unfolding view
   index-in = let h : view l .committed .head .index .0 ≤ last (view l .log) = formed-view .committed .index in omega (arith, last-is)
 
@@ -67,76 +65,50 @@ entry-of l i a b = view-entry l i a b
 
 module _ (l : List ℕ) (i : ℕ) (e : Entry l i) where
   -- what loading and storing it ask
-  pub entry-here : (1 ≤ i) × (4949 ≤ length l)
+  pub entry-here : (1 ≤ i) × (imageLength ≤ length l)
   entry-here = (let h = e .kept in omega arith, size l (e .formed))
 
-  pub entry-size : 4949 ≤ length l
+  pub entry-size : imageLength ≤ length l
   entry-size = size l (e .formed)
 
   pub this-entry : (t : Transaction) → t ≡ entryAt l i → t ≡ entryOf (view l .log) i
   this-entry t q = q ∙ sym (entry-of l i (e .kept) (e .last))
 
 -- ---- at rest
-module _ (l : List ℕ) (h : Head) (i b : ℕ) (e : h ≡ headAt l 4612) (p : i ≡ h .index .0) (f : b ≡ foldedOf l) (r : Bool) where
-  at-index : i ≡ headAt l 4612 .index .0
+module _ (l : List ℕ) (h : Head) (i b : ℕ) (e : h ≡ headAt l committedAt) (p : i ≡ h .index .0) (f : b ≡ foldedOf l) (r : Bool) where
+  at-index : i ≡ headAt l committedAt .index .0
   at-index = p ∙ ap (λ (x : Head). x .index .0) e
 
   -- the mark at Committed's index, folded or not
-  by-mark : (x : Bool) → leb (headAt l 4612 .index .0) (foldedOf l) ≡ x
+  by-mark : (x : Bool) → leb (headAt l committedAt .index .0) (foldedOf l) ≡ x
       → restOf (view l)
-      ≡ atRest (headAt l 4612) (cond x Complete (entryOf (view l .log) (headAt l 4612 .index .0) .change .commit))
-      (cond x Complete (entryOf (view l .log) (headAt l 4612 .index .0) .rollback .commit))
+      ≡ atRest (headAt l committedAt) (cond x Complete (entryOf (view l .log) (headAt l committedAt .index .0) .change .commit))
+      (cond x Complete (entryOf (view l .log) (headAt l committedAt .index .0) .rollback .commit))
   unfolding view
   by-mark x q =
-      ap (λ (y : Bool). atRest (headAt l 4612) (cond y Complete (entryOf (view l .log) (headAt l 4612 .index .0) .change .commit))
-      (cond y Complete (entryOf (view l .log) (headAt l 4612 .index .0) .rollback .commit))) q
+      ap (λ (y : Bool). atRest (headAt l committedAt) (cond y Complete (entryOf (view l .log) (headAt l committedAt .index .0) .change .commit))
+      (cond y Complete (entryOf (view l .log) (headAt l committedAt .index .0) .rollback .commit))) q
 
   pub rest-folded : i ≤ b → r ≡ atRest h Complete Complete → r ≡ restOf (view l)
   rest-folded k s =
-      let low : headAt l 4612 .index .0 ≤ foldedOf l = omega (arith, at-index) in
+      let low : headAt l committedAt .index .0 ≤ foldedOf l = omega (arith, at-index) in
       s ∙ ap (λ (x : Head). atRest x Complete Complete) e ∙ sym (by-mark true (le-leb _ _ low))
 
   pub rest-some : (t : Transaction) → formed l ≡ true → b < i → t ≡ entryAt l i → r ≡ atRest h (t .change .commit) (t .rollback .commit) → r ≡ restOf (view l)
   rest-some t w k q s =
-      let m : foldedOf l < headAt l 4612 .index .0 = omega (arith, at-index) in
-      let z : entryOf (view l .log) (headAt l 4612 .index .0) ≡ t = entry-of l (headAt l 4612 .index .0) m (index-in l w) ∙ ap (entryAt l) (sym at-index) ∙ sym q in
+      let m : foldedOf l < headAt l committedAt .index .0 = omega (arith, at-index) in
+      let z : entryOf (view l .log) (headAt l committedAt .index .0) ≡ t = entry-of l (headAt l committedAt .index .0) m (index-in l w) ∙ ap (entryAt l) (sym at-index) ∙ sym q in
       s ∙ ap₂ (λ (x : Head) (u : Transaction). atRest x (u .change .commit) (u .rollback .commit)) e (sym z) ∙ sym (by-mark false (lt-leb _ _ m))
 
 -- ---- settled
-late : (a b d : Bool) → done (cond a Complete (cond b Aborted (cond d Canceled Failed))) ≡ true
-late true b d = refl
-late false true d = refl
-late false false true = refl
-late false false false = refl
+pub settled-none : (l : List ℕ) (h : Head) (n : ℕ) → h ≡ headAt l appliedAt → n ≡ h .ordinal .0 → n ≡ 0 → true ≡ settled (view l)
+unfolding view
+settled-none l h n e p z = rw (← e, ← p, z)
 
--- Done means 3 to 6, and what is no code is read as 6
-done-code : (n : ℕ) → done (statusOf n) ≡ leb 3 n
-unfolding statusOf
-done-code n = go (eqb n 0) refl (eqb n 1) refl (eqb n 2) refl
-  where
-    go : (a : Bool) → eqb n 0 ≡ a → (b : Bool) → eqb n 1 ≡ b → (d : Bool) → eqb n 2 ≡ d
-        → done (cond a None (cond b Pending (cond d InProgress (cond (eqb n 3) Complete (cond (eqb n 4) Aborted (cond (eqb n 5) Canceled Failed)))))) ≡ leb 3 n
-    go true p b q d r = let e : n < 3 = omega (arith, eqb-true n 0 p) in sym (lt-leb _ _ e)
-    go false p true q d r = let e : n < 3 = omega (arith, eqb-true n 1 q) in sym (lt-leb _ _ e)
-    go false p false q true r = let e : n < 3 = omega (arith, eqb-true n 2 r) in sym (lt-leb _ _ e)
-    go false p false q false r =
-        let e : 3 ≤ n = omega (arith, eqb-false n 0 p, eqb-false n 1 q, eqb-false n 2 r) in late (eqb n 3) (eqb n 4) (eqb n 5) ∙ sym (le-leb 3 n e)
-
-settled-at : (l : List ℕ) (o k : ℕ) → entrySettledAt l o k ≡ entrySettled o k (entryAt l k)
-unfolding entrySettledAt entryAt fieldsAt
-settled-at l o k = simp (done-code, add-assoc)
-
-pub settled-none : (l : List ℕ) (o : ℕ) → o ≡ field l 4692 4 → o ≡ 0 → true ≡ settled (view l)
-unfolding view headAt fieldsAt
-settled-none l o e z = rw (← e, z)
-
-pub settled-all : (l : List ℕ) (o b n : ℕ) (r : Bool) → o ≡ field l 4692 4 → (o ≡ 0 → ⊥) → b ≡ foldedOf l → n ≡ lastOf l → r ≡ allKept (entrySettledAt l o) b n
-    → r ≡ settled (view l)
-unfolding view headAt fieldsAt
-settled-all l o b n r e z f m q =
-    q ∙ ap₂ (allKept (entrySettledAt l o)) f m
-    ∙ kept-same (entrySettledAt l o) (λ k. entrySettled o k (entryAt l k)) (foldedOf l) (lastOf l) (λ k x y. settled-at l o k)
-    ∙ sym (view-all (entrySettled o) l) ∙ rw (← e, ne-eqb o 0 z)
+pub settled-all : (l : List ℕ) (h : Head) (n : ℕ) (r : Bool) → h ≡ headAt l appliedAt → n ≡ h .ordinal .0 → (n ≡ 0 → ⊥)
+    → r ≡ allEntries (entrySettled (h .ordinal .0)) (view l .log) → r ≡ settled (view l)
+unfolding view
+settled-all l h n r e p z q = q ∙ rw (← e, ← p, ne-eqb n 0 z)
 
 -- the last fold is at most the highest number
 pub fold-low : (l : List ℕ) (b n : ℕ) → formed l ≡ true → b ≡ foldedOf l → n ≡ lastOf l → b ≤ n
@@ -187,35 +159,35 @@ module _ (l : List ℕ) (i : ℕ) (w : Entry l i) (t : Transaction) (e : t ≡ e
   z : t ≡ entryOf (view l .log) i
   z = this-entry l i w t e
 
-  pub job1-shown : (c : Number) (q ok : Bool) (vs : List ℕ) → h ≡ headAt l 4612 → c ≡ num (changeOf l) → q ≡ restOf (view l)
-      → vs ≡ present (fieldsAt l 4622 tableWidths) t → p ≡ commitChange t h c q k ok vs → p ≡ job1 (view l) i ok
+  pub job1-shown : (c : Number) (q ok : Bool) (vs : List ℕ) → h ≡ headAt l committedAt → c ≡ num (changeOf l) → q ≡ restOf (view l)
+      → vs ≡ present (tableOf l ofCommitted) t → p ≡ commitChange t h c q k ok vs → p ≡ job1 (view l) i ok
   unfolding view tableOf
   job1-shown c q ok vs eh ec eq ev ep =
       ep ∙ ap₂ (λ (x : Head) (y : Number). commitChange t x y q k ok vs) eh ec
-      ∙ ap₂ (λ (x : Number) (y : Bool). commitChange t (headAt l 4612) (num (changeOf l)) y x ok vs) f eq
-      ∙ ap₂ (λ (x : Transaction) (y : List ℕ). commitChange x (headAt l 4612) (num (changeOf l)) (restOf (view l)) (num i) ok y) z
-      (ev ∙ ap (present (fieldsAt l 4622 tableWidths)) z)
+      ∙ ap₂ (λ (x : Number) (y : Bool). commitChange t (headAt l committedAt) (num (changeOf l)) y x ok vs) f eq
+      ∙ ap₂ (λ (x : Transaction) (y : List ℕ). commitChange x (headAt l committedAt) (num (changeOf l)) (restOf (view l)) (num i) ok y) z
+      (ev ∙ ap (present (tableOf l ofCommitted)) z)
 
-  pub job3-shown : (q : Bool) → h ≡ headAt l 4612 → q ≡ restOf (view l) → p ≡ commitRollback t h q k → p ≡ job3 (view l) i
+  pub job3-shown : (q : Bool) → h ≡ headAt l committedAt → q ≡ restOf (view l) → p ≡ commitRollback t h q k → p ≡ job3 (view l) i
   unfolding view
   job3-shown q eh eq ep =
       ep ∙ ap₂ (λ (x : Transaction) (y : Head). commitRollback x y q k) z eh
-      ∙ ap₂ (λ (x : Bool) (y : Number). commitRollback (entryOf (view l .log) i) (headAt l 4612) x y) eq f
+      ∙ ap₂ (λ (x : Bool) (y : Number). commitRollback (entryOf (view l .log) i) (headAt l committedAt) x y) eq f
 
-  module _ (n : ℕ) (q o ok : Bool) (eh : h ≡ headAt l 4686) (eo : o ≡ lineOpenFor (view l .net) n) where
+  module _ (n : ℕ) (q o ok : Bool) (eh : h ≡ headAt l appliedAt) (eo : o ≡ lineOpenFor (view l .net) n) where
     pub job2-shown : q ≡ settledFor (t .change .apply) (view l) → p ≡ applyChange t h q k o ok → p ≡ job2 (view l) n i ok
     unfolding view
     job2-shown eq ep =
         ep ∙ ap (λ (x : Bool). applyChange t h x k o ok) eq ∙ change-asks t h (view l) k o ok
         ∙ ap₂ (λ (x : Transaction) (y : Head). applyChange x y (settled (view l)) k o ok) z eh
-        ∙ ap₂ (λ (x : Number) (y : Bool). applyChange (entryOf (view l .log) i) (headAt l 4686) (settled (view l)) x y ok) f eo
+        ∙ ap₂ (λ (x : Number) (y : Bool). applyChange (entryOf (view l .log) i) (headAt l appliedAt) (settled (view l)) x y ok) f eo
 
     pub job4-shown : q ≡ settledFor (t .rollback .apply) (view l) → p ≡ applyRollback t h q k o ok → p ≡ job4 (view l) n i ok
     unfolding view
     job4-shown eq ep =
         ep ∙ ap (λ (x : Bool). applyRollback t h x k o ok) eq ∙ rollback-asks t h (view l) k o ok
         ∙ ap₂ (λ (x : Transaction) (y : Head). applyRollback x y (settled (view l)) k o ok) z eh
-        ∙ ap₂ (λ (x : Number) (y : Bool). applyRollback (entryOf (view l .log) i) (headAt l 4686) (settled (view l)) x y ok) f eo
+        ∙ ap₂ (λ (x : Number) (y : Bool). applyRollback (entryOf (view l .log) i) (headAt l appliedAt) (settled (view l)) x y ok) f eo
 
 module _ (s : State) (n j i : ℕ) (ok : Bool) (p : Plan) where
   pub plan-1 : j ≡ 1 → p ≡ job1 s i ok → p ≡ planOf s n j i ok

@@ -16,8 +16,6 @@ use Rattle.kinds.specs.declared.Reply.{Reply}
 use Rattle.kinds.specs.Numbers.{num, follows}
 use Rattle.kinds.specs.Events.{refusal}
 use Rattle.kinds.specs.Statuses.{done, isComplete, isFailed}
-use Rattle.fields.specs.Field.{putField}
-use Rattle.fields.proofs.Laws.{put-outside, length-put}
 use Rattle.rules.specs.declared.Lay.the-variants.{Values}
 use Rattle.machine.specs.State.{Log, entryOf, last, isKept}
 use Rattle.machine.specs.Stores.{Table, ofBase, Store, fold}
@@ -28,11 +26,11 @@ use Rattle.machine.specs.Settled.{settled}
 use Rattle.machine.specs.LiveList.{live}
 use Rattle.machine.specs.Folding.{stays, finished, finishedTo, entryWaits, mayFold, baseIf, baseRow}
 use Rattle.machine.specs.Calls.{Call, Outcome, foldTo, refused, accepted, unless, decide}
-use Rattle.image.specs.Layout.{valuesAt}
+use Rattle.image.specs.Layout.{slots, imageLength, valuesAt, committedAt, appliedAt}
 use Rattle.image.specs.Records.{entryAt, lastOf, foldedOf, headAt}
 use Rattle.image.specs.View.{view, write, written}
 use Rattle.image.specs.Formed.{formed, allKept}
-use Rattle.image.proofs.Kept.{entry-kept}
+use Rattle.image.proofs.Kept.{value-leaves}
 use Rattle.image.proofs.UpTo.{and-left, and-right, kept-at, kept-from}
 use Rattle.image.proofs.Scanned.{view-all, view-folded}
 use Rattle.controller.specs.Claims.{Does, Entry, Ring, waitsAt, finishedAt}
@@ -117,14 +115,14 @@ module _ (l : List ℕ) (b n to : ℕ) (c : Ring l b n × ((b ≤ to) × (to ≤
     pub not-settled : y ≡ false → false ≡ mayFold (view l) to
     not-settled t = let z : settled (view l) ≡ false = sym ey ∙ t in rw (zx, z)
 
-    module _ (ty : y ≡ true) (h : Head) (eh : h ≡ headAt l 4686) (g : ℕ) (eg : g ≡ h .target .0) (u : Bool) (eu : u ≡ allKept (waitsAt l (h .ordinal .0) g) b n) where
+    module _ (ty : y ≡ true) (h : Head) (eh : h ≡ headAt l appliedAt) (g : ℕ) (eg : g ≡ h .target .0) (u : Bool) (eu : u ≡ allKept (waitsAt l (h .ordinal .0) g) b n) where
       zy : settled (view l) ≡ true
       zy = sym ey ∙ ty
 
       waits : allEntries (entryWaits (view l .applied .head .ordinal .0) (view l .applied .head .target .0)) (view l .log) ≡ u
       unfolding view
       waits =
-          waits-all l (headAt l 4686 .ordinal .0) (headAt l 4686 .target .0)
+          waits-all l (headAt l appliedAt .ordinal .0) (headAt l appliedAt .target .0)
           ∙ sym
           (eu ∙ ap₂ (allKept (waitsAt l (h .ordinal .0) g)) (c .0 .folded) (c .0 .last)
           ∙ ap (λ (k : ℕ). allKept (waitsAt l (h .ordinal .0) k) (foldedOf l) (lastOf l)) eg
@@ -176,16 +174,9 @@ leaves-then k es fs p q l = (
 
 -- the base lies past the entries
 lay-leaves : (k : ℕ) (u : Bool) (p v : ℕ) → Leaves k (layOne u ofBase p v)
-unfolding written write
+unfolding written
 lay-leaves k false p v l = (refl, refl)
-lay-leaves k true p v l = go (ltb p 32)
-  where
-    go : (x : Bool) → (entryAt (cond x (putField l (4885 + 2 * p) 2 v) l) k ≡ entryAt l k) × (length (cond x (putField l (4885 + 2 * p) 2 v) l) ≡ length l)
-    go false = (refl, refl)
-    go true = (
-      entry-kept l (putField l (4885 + 2 * p) 2 v) (4885 + 2 * p) (4885 + 2 * p + 2) (put-outside 2 l (4885 + 2 * p) v) k (inl (omega arith)),
-      length-put 2 l (4885 + 2 * p) v,
-    )
+lay-leaves k true p v l = value-leaves l p v k
 
 overlay-leaves : (k : ℕ) (ps vs : List ℕ) (n : ℕ) → Leaves k (overlay ofBase ps vs n)
 unfolding overlay
@@ -207,7 +198,7 @@ base-leaves k g to (i ∷ ks) = leaves-then k (baseRow g to ks) (baseIf (leb i t
 abbrev pub Laying : List ℕ → ℕ → ℕ → ℕ → List ℕ → ℕ → Type 0
 Laying l to v n s k = (k ≤ n) × ((s ≡ written l (baseRow (view l .log) to (drop k (liveFrom (view l) v)))) × (length s ≡ length l))
 
-module _ (l : List ℕ) (b to v : ℕ) (m : List ℕ) (n : ℕ) (c : ListedIn l b v m n × ((v ≤ to) × (n ≤ 128))) where
+module _ (l : List ℕ) (b to v : ℕ) (m : List ℕ) (n : ℕ) (c : ListedIn l b v m n × ((v ≤ to) × (n ≤ slots))) where
   pub laying-none : Laying l to v n l n
   unfolding written baseRow
   laying-none = (
@@ -240,11 +231,11 @@ module _ (l : List ℕ) (b to v : ℕ) (m : List ℕ) (n : ℕ) (c : ListedIn l 
         let z = c .0 .chained .last in
         record { formed = c .0 .chained .formed; kept = omega arith; last = omega arith }
 
-    pub laying-here : (1 ≤ getD m (k - 1) 0) × (4949 ≤ length s)
+    pub laying-here : (1 ≤ getD m (k - 1) 0) × (imageLength ≤ length s)
     laying-here = let q = entry-here l _ laying-entry in let z = g .1 .1 in let y = q .1 in (q .0, omega arith)
 
     pub laying-more : (t : Transaction) (r : List ℕ) → t ≡ entryAt s (getD m (k - 1) 0)
-        → ((x : Table) → valuesAt x ≡ 4885 → r ≡ written s (overlay x (t .paths) (t .values) (t .count))) → Laying l to v n r (k - 1)
+        → ((x : Table) → valuesAt x ≡ valuesAt ofBase → r ≡ written s (overlay x (t .paths) (t .values) (t .count))) → Laying l to v n r (k - 1)
     unfolding baseRow
     laying-more t r et er =
         let log = view l .log in
@@ -286,7 +277,7 @@ module _ (l : List ℕ) (w : formed l ≡ true) (i n b : ℕ) (en : n ≡ lastOf
       unfolding decide
       fold-17 e p = let z : mayFold (view l) i ≡ false = sym ey ∙ e in refuses l (foldTo i) 17 r (rw (kept-range true t, z)) p
 
-      pub folded : y ≡ true → (h : Head) (v : ℕ) → h ≡ headAt l 4612 → v ≡ h .revision .0 → (f : ℕ) → Reaches l b i v f → (l1 l2 : List ℕ) (m : Number)
+      pub folded : y ≡ true → (h : Head) (v : ℕ) → h ≡ headAt l committedAt → v ≡ h .revision .0 → (f : ℕ) → Reaches l b i v f → (l1 l2 : List ℕ) (m : Number)
           → l1 ≡ written l (baseRow (view l .log) i (liveFrom (view l) f)) → m ≡ num i → l2 ≡ write l1 (fold m) → r ≡ refusal 0 → Does l (foldTo i) r l2
       unfolding decide written
       folded e h v eh ev f g l1 l2 m q em s p =

@@ -12,11 +12,10 @@ use Rattle.kinds.specs.declared.Number.{Number}
 use Rattle.kinds.specs.declared.Ordinal.{Ordinal}
 use Rattle.kinds.specs.declared.Status.the-variants.{None, Pending}
 use Rattle.kinds.specs.Numbers.{num, ord}
-use Rattle.fields.proofs.Laws.{Bytes}
 use Rattle.machine.specs.WellFormed.{pairsOk}
 use Rattle.machine.specs.Calls.{pathOf, valueOf, valuesOk, validChange, appended}
 use Rattle.image.proofs.UpTo.{and-left, and-right}
-use Rattle.controller.specs.Bytes.{two, pairsOf, pairsIf, pathsIn, validBytes}
+use Rattle.controller.specs.Bytes.{AllBytes, two, pairsOf, pairsIf, pathsIn, validBytes}
 
 -- ---- m pairs in 4 m bytes
 skip : (a x y z : ℕ) (l : List ℕ) (i j : ℕ) → i ≡ suc (suc (suc (suc j))) → two (a ∷ x ∷ y ∷ z ∷ l) i ≡ two l j
@@ -56,7 +55,7 @@ pair-values (suc m) (a ∷ []) h k = absurd (omega arith)
 pair-values (suc m) (a ∷ x ∷ []) h k = absurd (omega arith)
 pair-values (suc m) (a ∷ x ∷ y ∷ []) h k = absurd (omega arith)
 
-pub values-small : (b : List ℕ) → Bytes b → valuesOk (pairsOf b) ≡ true
+pub values-small : (b : List ℕ) → AllBytes b → valuesOk (pairsOf b) ≡ true
 unfolding pairsOf valuesOk
 values-small [] h = refl
 values-small (a ∷ []) h = refl
@@ -84,7 +83,7 @@ module _ (b : List ℕ) (m : ℕ) (h : length b ≡ 4 * m) where
       let p = pair-paths m b h in
       ap₂ pairsOk (pair-count m b h ∙ sym quarter) refl ∙ same-paths (length b / 4) (map pathOf (pairsOf b)) (pathsIn b) (p 0) (p 1) (p 2) (p 3)
 
-  pub valid-pairs : Bytes b → validChange (pairsOf b) ≡ validBytes b
+  pub valid-pairs : AllBytes b → validChange (pairsOf b) ≡ validBytes b
   unfolding validBytes
   valid-pairs y =
       ap₂ (λ (u v : Bool). u && v) paths-same (values-small b y) ∙ and-true _ ∙ sym (ap (λ (u : Bool). u && pairsOk (length b / 4) (pathsIn b)) (eq-eqb _ _ whole))
@@ -94,7 +93,7 @@ unfolding pairsOk
 no-pairs = refl
 
 -- the change that the bytes stand for is valid where the code says so
-pub valid-change : (b : List ℕ) → Bytes b → validChange (pairsIf (eqb (length b % 4) 0) (pairsOf b)) ≡ validBytes b
+pub valid-change : (b : List ℕ) → AllBytes b → validChange (pairsIf (eqb (length b % 4) 0) (pairsOf b)) ≡ validBytes b
 unfolding validBytes
 valid-change b y = go (eqb (length b % 4) 0) refl
   where

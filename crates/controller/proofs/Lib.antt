@@ -1,3 +1,4 @@
+-- The laws of the controller: why its contracts and theorems hold. Assumes nothing.
 pub mod Performed
 pub mod LentPairs
 pub mod Decided

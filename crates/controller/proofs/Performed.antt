@@ -10,7 +10,6 @@ use lib.ListN.{getD}
 use Rattle.kinds.specs.declared.Transaction.{Transaction}
 use Rattle.kinds.specs.declared.Number.{Number}
 use Rattle.kinds.specs.Numbers.{num}
-use Rattle.fields.specs.Field.{putField}
 use Rattle.rules.specs.declared.Plan.{Plan}
 use Rattle.rules.specs.declared.Lay.{Lay}
 use Rattle.rules.specs.declared.Lay.the-variants.{Nothing}
@@ -18,7 +17,8 @@ use Rattle.rules.specs.declared.Order.{Order}
 use Rattle.rules.specs.declared.Order.the-variants.{Neither}
 use Rattle.machine.specs.Stores.{Table, ofCommitted, ofApplied, ofTarget, Store, change, committedHead, appliedHead}
 use Rattle.machine.specs.Rows.{overlay, laid, changeRow, headRow, thenRow, rowsBy, rowsOf}
-use Rattle.image.specs.Layout.{valuesAt}
+use Rattle.image.specs.Layout.{valuesAt, committedAt, appliedAt}
+use Rattle.image.specs.Promises.{valuePut}
 use Rattle.image.specs.Records.{putHeadAt}
 use Rattle.image.specs.View.{write, written}
 
@@ -34,7 +34,7 @@ rows-on l m n es fs p q = q ∙ ap (λ (x : List ℕ). written x fs) p ∙ sym (
 -- ---- overlay
 -- one pair over the table at a place
 abbrev pub Over : ℕ → ℕ → ℕ → List ℕ → List ℕ
-Over at p v l = cond (ltb p 32) (putField l (at + 2 * p) 2 v) l
+Over at p v l = valuePut l at p v
 
 -- as many pairs as are used
 module _ (ps vs : List ℕ) (n at : ℕ) (l : List ℕ) where
@@ -87,15 +87,15 @@ unfolding written
 change-still l i b t = rw t
 
 -- ---- the head's store
-pub commit-row : (l l1 l2 l3 : List ℕ) (i : ℕ) (p : Plan) → l1 ≡ putHeadAt l 4612 (p .head) → l2 ≡ written l1 (changeRow (p .change) i)
-    → ((b : Table) → valuesAt b ≡ 4622 → l3 ≡ written l2 (laid b (p .lay) (p .entry))) → l3 ≡ written l (headRow true p i)
+pub commit-row : (l l1 l2 l3 : List ℕ) (i : ℕ) (p : Plan) → l1 ≡ putHeadAt l committedAt (p .head) → l2 ≡ written l1 (changeRow (p .change) i)
+    → ((b : Table) → valuesAt b ≡ valuesAt ofCommitted → l3 ≡ written l2 (laid b (p .lay) (p .entry))) → l3 ≡ written l (headRow true p i)
 unfolding written write
 commit-row l l1 l2 l3 i p q1 q2 q3 =
     rows-on l l1 l3 (committedHead (p .head) ∷ []) (changeRow (p .change) i ++ laid ofCommitted (p .lay) (p .entry)) q1
     (rows-on l1 l2 l3 (changeRow (p .change) i) (laid ofCommitted (p .lay) (p .entry)) q2 (q3 ofCommitted refl))
 
-pub apply-row : (l l1 l2 l3 : List ℕ) (i : ℕ) (p : Plan) → ((b : Table) → valuesAt b ≡ 4760 → l1 ≡ written l (laid b (p .lay) (p .entry)))
-    → l2 ≡ putHeadAt l1 4686 (p .head) → ((b : Table) → valuesAt b ≡ 4696 → l3 ≡ written l2 (laid b (p .lay) (p .entry)))
+pub apply-row : (l l1 l2 l3 : List ℕ) (i : ℕ) (p : Plan) → ((b : Table) → valuesAt b ≡ valuesAt ofTarget → l1 ≡ written l (laid b (p .lay) (p .entry)))
+    → l2 ≡ putHeadAt l1 appliedAt (p .head) → ((b : Table) → valuesAt b ≡ valuesAt ofApplied → l3 ≡ written l2 (laid b (p .lay) (p .entry)))
     → l3 ≡ written l (headRow false p i)
 unfolding written write
 apply-row l l1 l2 l3 i p q1 q2 q3 =

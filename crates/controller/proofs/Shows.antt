@@ -1,12 +1,11 @@
 -- What the code reads is what the machine reads from what the image shows. Assumes nothing.
-use Prim.Native.Nat.{ℕ, _+_, _-_, _≤_, _<_}
+use Prim.Native.Nat.{ℕ, _-_, _≤_, _<_}
 use mathlib.Core.Path.{_≡_, refl, ap, ap₂, sym, _∙_}
-use mathlib.Core.Bool.{Bool, true, false, _&&_, cond}
+use mathlib.Core.Bool.{Bool, true, false, _&&_}
 use mathlib.Core.List.{List, [], _∷_}
-use native.Mathlib.Omega.{arith}
 use borrow.Author.Tests.{leb-true, ltb-true, lt-ltb, le-ltb}
-use lib.Dec.{eqb, leb, ltb}
-use lib.ListN.{length, getD}
+use lib.Dec.{leb, ltb}
+use lib.ListN.{getD}
 use Rattle.kinds.specs.declared.Transaction.{Transaction}
 use Rattle.kinds.specs.declared.Head.{Head}
 use Rattle.kinds.specs.declared.Number.{Number}
@@ -16,18 +15,19 @@ use Rattle.kinds.specs.declared.Mastership.{Mastership}
 use Rattle.kinds.specs.declared.Target.{Target}
 use Rattle.kinds.specs.Numbers.{num}
 use Rattle.kinds.specs.Statuses.{progressCode}
-use Rattle.fields.specs.Field.{fieldsAt, quad}
 use Rattle.machine.specs.State.{State, entryOf, last, inLog, isKept, isNode, nodeOf}
 use Rattle.machine.specs.Reads as reads
 use Rattle.machine.specs.Reads.{Query, ofTable, ofEntry, ofState, ofNode, Answer, shows, refuses, isField, fieldOf, flag, entryNumbers, stateNumbers, nodeNumbers, tableNumbers, read}
-use Rattle.image.specs.Layout.{tableWidths}
+use Rattle.image.specs.Layout.{committedAt, appliedAt}
 use Rattle.image.specs.Records.{entryAt, lastOf, foldedOf, changeOf, headNumbers, headAt, configurationOf, mastershipOf, targetOf, connectionsOf}
-use Rattle.image.specs.View.{tableOf, netOf, view}
+use Rattle.image.specs.View.{netOf, view}
 use Rattle.image.specs.Formed.{formed}
+use Rattle.image.specs.Promises.{PlacesTable, LoadsValue}
 use Rattle.image.proofs.UpTo.{and-left, and-right}
+use Rattle.image.proofs.Tables.{table-shows}
 use Rattle.controller.specs.declared.reads.Read.{Read}
 use Rattle.controller.specs.Claims.{Entry}
-use Rattle.controller.specs.Reads.{given, unless, readOf, noHead, headsIf, headsOf, marks, netNumbers, tablePlace}
+use Rattle.controller.specs.Reads.{given, unless, readOf, noHead, headsIf, headsOf, marks, netNumbers, four}
 use Rattle.controller.proofs.Decided.{entry-of, last-is}
 use Rattle.controller.proofs.Answered.{in-log, is-kept}
 
@@ -55,27 +55,6 @@ in-range n f b e t =
     let h : isField n f ≡ true = sym e ∙ t in (leb-true 1 f (and-left _ _ h), leb-true f n (and-right (leb 1 f) _ h))
 
 -- ---- values
-at-table : (l : List ℕ) (b at : ℕ) → at ≡ tablePlace b → fieldsAt l at tableWidths ≡ tableNumbers (view l) b
-unfolding tablePlace view tableOf
-at-table l b at e = ap (λ (x : ℕ). fieldsAt l x tableWidths) e ∙ go (eqb b 1) (eqb b 2) (eqb b 3)
-  where
-    go : (x y z : Bool) → fieldsAt l (cond x 4622 (cond y 4696 (cond z 4760 4885))) tableWidths
-        ≡ cond x (fieldsAt l 4622 tableWidths) (cond y (fieldsAt l 4696 tableWidths) (cond z (fieldsAt l 4760 tableWidths) (fieldsAt l 4885 tableWidths)))
-    go true y z = refl
-    go false true z = refl
-    go false false true = refl
-    go false false false = refl
-
-pub table-room : (b at n : ℕ) → at ≡ tablePlace b → 4949 ≤ n → at + 64 ≤ n
-unfolding tablePlace
-table-room b at n e h = go (eqb b 1) (eqb b 2) (eqb b 3) e
-  where
-    go : (x y z : Bool) → at ≡ cond x 4622 (cond y 4696 (cond z 4760 4885)) → at + 64 ≤ n
-    go true y z q = omega arith
-    go false true z q = omega arith
-    go false false true q = omega arith
-    go false false false q = omega arith
-
 module _ (b p : ℕ) (k : Bool) (ek : k ≡ (isField 4 b && ltb p 32)) where
   pub path-low : k ≡ true → p < 32
   path-low t = ltb-true p 32 (and-right (isField 4 b) _ (sym ek ∙ t))
@@ -84,16 +63,16 @@ module _ (b p : ℕ) (k : Bool) (ek : k ≡ (isField 4 b && ltb p 32)) where
   unfolding read
   no-value s t = let z : (isField 4 b && ltb p 32) ≡ false = sym ek ∙ t in ap (λ (x : Bool). reads.unless 2 x (shows (getD (tableNumbers s b) p 0))) z
 
-  pub value-is : (l : List ℕ) (at v w : ℕ) → k ≡ true → at ≡ tablePlace b → v ≡ getD (fieldsAt l at tableWidths) p 0 → w ≡ v
+  pub value-is : (l : List ℕ) (at v w : ℕ) → k ≡ true → PlacesTable b at → LoadsValue l at p v → w ≡ v
       → read (view l) (ofTable b p) ≡ shows w
   unfolding read
   value-is l at v w t ea ev ew =
       let z : (isField 4 b && ltb p 32) ≡ true = sym ek ∙ t in
       ap (λ (x : Bool). reads.unless 2 x (shows (getD (tableNumbers (view l) b) p 0))) z
-      ∙ ap shows (sym (ew ∙ ev ∙ ap (λ (x : List ℕ). getD x p 0) (at-table l b at ea)))
+      ∙ ap shows (sym (ew ∙ table-shows l b at p v ea ev))
 
 -- ---- a transaction
-pub entry-numbers : (t : Transaction) (m p v k : List ℕ) → m ≡ marks t → p ≡ quad (t .paths) → v ≡ quad (t .values) → k ≡ quad (t .kept)
+pub entry-numbers : (t : Transaction) (m p v k : List ℕ) → m ≡ marks t → p ≡ four (t .paths) → v ≡ four (t .values) → k ≡ four (t .kept)
     → (getD m 0 0 ∷ getD m 1 0 ∷ getD m 2 0 ∷ getD m 3 0 ∷ getD m 4 0 ∷ getD m 5 0 ∷ getD m 6 0 ∷ getD m 7 0 ∷ getD m 8 0
     ∷ getD p 0 0 ∷ getD p 1 0 ∷ getD p 2 0 ∷ getD p 3 0 ∷ getD v 0 0 ∷ getD v 1 0 ∷ getD v 2 0 ∷ getD v 3 0
     ∷ getD k 0 0 ∷ getD k 1 0 ∷ getD k 2 0 ∷ getD k 3 0 ∷ []) ≡ entryNumbers t
@@ -141,7 +120,7 @@ pub net-numbers : (l : List ℕ) (g : Configuration) (m : Mastership) (t : Targe
 net-numbers l g m t a x y z eg em et ea ex ey ez = rw (ea, ex, ey, ez, eg, em, et)
 
 pub state-numbers : (l : List ℕ) → formed l ≡ true → (n b d : ℕ) (g : Number) (h j : Head) (c a w : List ℕ) → n ≡ lastOf l → b ≡ foldedOf l → g ≡ num (changeOf l) → d ≡ g .0
-    → h ≡ headAt l 4612 → c ≡ headNumbers h → j ≡ headAt l 4686 → a ≡ headNumbers j → w ≡ netNumbers (netOf l)
+    → h ≡ headAt l committedAt → c ≡ headNumbers h → j ≡ headAt l appliedAt → a ≡ headNumbers j → w ≡ netNumbers (netOf l)
     → (n ∷ getD c 0 0 ∷ d ∷ getD c 1 0 ∷ getD c 2 0 ∷ getD c 3 0 ∷ getD a 0 0 ∷ getD a 1 0 ∷ getD a 2 0 ∷ getD a 3 0
     ∷ getD w 0 0 ∷ getD w 1 0 ∷ getD w 2 0 ∷ getD w 3 0 ∷ getD w 4 0 ∷ getD w 5 0 ∷ getD w 6 0 ∷ b ∷ []) ≡ stateNumbers (view l)
 unfolding stateNumbers view
@@ -186,7 +165,7 @@ module _ (n f : ℕ) (k : Bool) (ek : k ≡ (isNode n && isField 2 f)) where
 
 -- ---- both heads
 module _ (l : List ℕ) (b : Bool) (eb : b ≡ formed l) (h j : Head) where
-  pub heads-are : b ≡ true → h ≡ headAt l 4612 → j ≡ headAt l 4686 → record { committed = h; applied = j } ≡ headsOf l
+  pub heads-are : b ≡ true → h ≡ headAt l committedAt → j ≡ headAt l appliedAt → record { committed = h; applied = j } ≡ headsOf l
   unfolding headsOf view
   heads-are t p q =
       let z : formed l ≡ true = sym eb ∙ t in

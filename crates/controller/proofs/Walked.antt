@@ -16,6 +16,7 @@ use Rattle.kinds.specs.declared.Head.{Head}
 use Rattle.machine.specs.State.{Log, State, entryOf, last}
 use Rattle.machine.specs.LiveList.{hops, live}
 use Rattle.machine.proofs.Kept as kept
+use Rattle.image.specs.Layout.{slots, committedAt}
 use Rattle.image.specs.Records.{entryAt, foldedOf, headAt}
 use Rattle.image.specs.View.{view}
 use Rattle.image.specs.Formed.{formed}
@@ -140,8 +141,8 @@ module _ (l : List ℕ) (b v : ℕ) (c : Chained l b v) where
       let g = c .folded in
       sym (le-leb (length (liveFrom (view l) v)) m (omega (arith, view-folded l)))
 
-  -- at most 128
-  pub few : length (liveFrom (view l) v) ≤ 128
+  -- at most as many as are kept
+  pub few : length (liveFrom (view l) v) ≤ slots
   unfolding liveFrom
   few =
       let k = short (view l) (formed-view l (c .formed)) v v chain-last in
@@ -157,7 +158,7 @@ module _ (l : List ℕ) (b v : ℕ) (c : Chained l b v) where
       let g = c .folded in
       (omega (arith, view-folded l), q .1)
 
-  pub fits : Fitting l b v 128
+  pub fits : Fitting l b v slots
   fits = record { chained = c; room = few }
 
   pub listed-in : (m r : List ℕ) (n : ℕ) → (n ≡ length (liveFrom (view l) v)) × (r ≡ Leading m (liveFrom (view l) v)) → ListedIn l b v r n
@@ -307,7 +308,7 @@ halves n m = go (leb n (m / 2)) refl
     go true e = let h = leb-true n (m / 2) e in le-leb (2 * n) m (omega arith)
     go false e = let h = leb-false n (m / 2) e in lt-leb (2 * n) m (omega arith)
 
-module _ (l : List ℕ) (w : formed l ≡ true) (d : Head) (v b : ℕ) (ed : d ≡ headAt l 4612) (ev : v ≡ d .revision .0) (ef : b ≡ foldedOf l) where
+module _ (l : List ℕ) (w : formed l ≡ true) (d : Head) (v b : ℕ) (ed : d ≡ headAt l committedAt) (ev : v ≡ d .revision .0) (ef : b ≡ foldedOf l) where
   from-revision : v ≡ view l .committed .head .revision .0
   unfolding view
   from-revision = ev ∙ ap (λ (x : Head). x .revision .0) ed

@@ -1,11 +1,15 @@
 -- The pairs of an append as they are lent: four bytes a pair, its path and its value, each little-endian. Assumes nothing.
-use Prim.Native.Nat.{ℕ, _+_, _*_, _/_, _%_}
+use Prim.Native.Nat.{ℕ, _+_, _*_, _/_, _%_, _<_}
 use mathlib.Core.Bool.{Bool, true, false, _&&_}
 use mathlib.Core.List.{List, [], _∷_}
 use lib.Dec.{eqb}
 use lib.ListN.{length, getD}
 use Rattle.machine.specs.WellFormed.{pairsOk}
 use Rattle.machine.specs.Calls.{Pair, Call, append}
+
+-- every one is a byte
+abbrev pub AllBytes : List ℕ → Type 0
+AllBytes b = (j : ℕ) → getD b j 0 < 256
 
 -- the number of two bytes at a place; bytes past the end count as 0
 abbrev pub two : List ℕ → ℕ → ℕ

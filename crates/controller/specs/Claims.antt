@@ -1,9 +1,8 @@
 -- What a public call claims of its reply and of the image that it leaves: one contract for all of them. Assumes nothing.
-use Prim.Native.Nat.{ℕ, _+_, _≤_, _<_}
+use Prim.Native.Nat.{ℕ, _≤_, _<_}
 use mathlib.Core.Path.{_≡_}
-use mathlib.Core.Bool.{Bool, true, not, _&&_, _||_}
+use mathlib.Core.Bool.{Bool, true}
 use mathlib.Core.List.{List}
-use lib.Dec.{eqb, leb}
 use Rattle.kinds.specs.declared.Reply.{Reply}
 use Rattle.kinds.specs.declared.Status.{Status}
 use Rattle.kinds.specs.declared.Status.the-variants.{None, Pending, InProgress, Complete, Aborted, Canceled, Failed}
@@ -11,8 +10,6 @@ use Rattle.machine.specs.State.{State}
 use Rattle.machine.specs.Settled.{settled}
 use Rattle.machine.specs.Folding.{finished, entryWaits}
 use Rattle.machine.specs.Calls.{Outcome, Call, unless, decide}
-use Rattle.fields.specs.Field.{field}
-use Rattle.image.specs.Layout.{placeOf}
 use Rattle.image.specs.Records.{entryAt, lastOf, foldedOf}
 use Rattle.image.specs.View.{view, written}
 use Rattle.image.specs.Formed.{formed}
@@ -41,14 +38,7 @@ pub record Ring (l : List ℕ) (b n : ℕ) : Type 0 where
   pub folded : b ≡ foldedOf l
   pub last : n ≡ lastOf l
 
--- ---- settled, as the code reads it
--- a side whose apply code is at a place, and its ordinal at another: it does not carry o, or is Done (3 to 6)
-abbrev pub sideSettledAt : List ℕ → ℕ → ℕ → ℕ → Bool
-sideSettledAt l o apply at = not (eqb (field l at 4) o) || leb 3 (field l apply 1)
-
-unfoldable pub entrySettledAt : List ℕ → ℕ → ℕ → Bool
-entrySettledAt l o n = sideSettledAt l o (placeOf n + 1) (placeOf n + 8) && sideSettledAt l o (placeOf n + 3) (placeOf n + 12)
-
+-- ---- settled, as the code asks it
 -- asked of a side whose apply is Pending; at any other status the rules do not look at it
 abbrev pub settledFor : Status → State → Bool
 settledFor Pending s = settled s

@@ -1,20 +1,14 @@
--- A fresh image: every byte 0 but the configuration's state, Pending (paper: The state). Assumes nothing.
+-- What `fresh` claims: the image's fresh one, or a refusal by the length (paper: The state). Assumes nothing.
 use Prim.Native.Nat.{ℕ}
 use mathlib.Core.Path.{_≡_}
 use mathlib.Core.Bool.{Bool, true, false}
 use mathlib.Core.List.{List}
 use lib.Dec.{eqb}
-use lib.ListN.{length, replicate}
+use lib.ListN.{length}
 use Rattle.kinds.specs.declared.Reply.{Reply}
 use Rattle.kinds.specs.Events.{refusal}
-use Rattle.fields.specs.Field.{putField}
-use Rattle.image.specs.Layout.{configurationAt, imageLength}
-
-unfoldable pub zeros : ℕ → List ℕ
-zeros n = replicate n 0
-
-unfoldable pub freshImage : List ℕ
-freshImage = putField (zeros imageLength) configurationAt 1 1
+use Rattle.image.specs.Layout.{imageLength}
+use Rattle.image.specs.Fresh.{freshImage}
 
 abbrev pub answerIf : Bool → ℕ
 answerIf true = 0

@@ -1,3 +1,4 @@
+-- The definitions of the controller: all that one has to believe of this crate. Assumes nothing.
 pub mod Claims
 pub mod Bytes
 pub mod Fresh

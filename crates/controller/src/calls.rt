@@ -15,6 +15,8 @@ use crate::perform::perform;
 use connections::connect_of;
 use connections::disconnect_of;
 use connections::stop_of;
+use image::HIGHEST;
+use image::SLOTS;
 use image::clear_target;
 use image::copy_target;
 use image::grow;
@@ -41,18 +43,21 @@ use rules::reaches;
 use rules::rolled_back;
 use rules::synchronise;
 
+// Whether a number was given, where n is the highest.
 pub fn in_log(i: u16, n: u16) -> bool
     ensures { λ r. ⌜ r ≡ (leb 1 i && leb i n) ⌝ }
 {
     (1 <= i) & (i <= n)
 }
 
+// Whether a number is a node's.
 pub fn is_node(n: u16) -> bool
     ensures { λ r. ⌜ r ≡ isNode n ⌝ }
 {
     (1 <= n) & (n <= 8)
 }
 
+// Takes a change into the log: refuses 3, 4, 9.
 pub fn append(s: &mut [u8], pairs: &[u8]) -> Reply
     requires { ⌜ formed (now s) ≡ true ⌝ }
     ensures { λ r. ⌜ Does (now (s .entry)) (appendOf (now (pairs .entry))) r (now (s .exit)) ⌝ }
@@ -60,8 +65,8 @@ pub fn append(s: &mut [u8], pairs: &[u8]) -> Reply
     if valid(pairs) {
         let n = last_number(s);
         let b = last_fold(s);
-        if n - b < 128 {
-            if n < 65535 {
+        if n - b < SLOTS {
+            if n < HIGHEST {
                 let t = entered(pairs);
                 grow(s, n, t);
                 let event = Event {
@@ -79,6 +84,7 @@ pub fn append(s: &mut [u8], pairs: &[u8]) -> Reply
     Reply::of(3)
 }
 
+// Asks for the rollback of a change: refuses 5, 18, 6.
 pub fn rollback(s: &mut [u8], number: u16) -> Reply
     requires { ⌜ formed (now s) ≡ true ⌝ }
     ensures { λ r. ⌜ Does (now (s .entry)) (rollback number) r (now (s .exit)) ⌝ }
@@ -99,6 +105,7 @@ pub fn rollback(s: &mut [u8], number: u16) -> Reply
     Reply::of(5)
 }
 
+// Starts the target: refuses what the rule refuses.
 pub fn start(s: &mut [u8]) -> Reply
     requires { ⌜ formed (now s) ≡ true ⌝ }
     ensures { λ r. ⌜ Does (now (s .entry)) start r (now (s .exit)) ⌝ }
@@ -113,6 +120,7 @@ pub fn start(s: &mut [u8]) -> Reply
     Reply::of(answer)
 }
 
+// Stops the target, clears its values and takes every connection away.
 pub fn stop(s: &mut [u8]) -> Reply
     requires { ⌜ formed (now s) ≡ true ⌝ }
     ensures { λ r. ⌜ Does (now (s .entry)) stop r (now (s .exit)) ⌝ }
@@ -130,6 +138,7 @@ pub fn stop(s: &mut [u8]) -> Reply
     Reply::of(answer)
 }
 
+// Connects a node.
 pub fn connect(s: &mut [u8], node: u16) -> Reply
     requires { ⌜ formed (now s) ≡ true ⌝ }
     ensures { λ r. ⌜ Does (now (s .entry)) (connect node) r (now (s .exit)) ⌝ }
@@ -145,6 +154,7 @@ pub fn connect(s: &mut [u8], node: u16) -> Reply
     Reply::of(answer)
 }
 
+// Disconnects a node.
 pub fn disconnect(s: &mut [u8], node: u16) -> Reply
     requires { ⌜ formed (now s) ≡ true ⌝ }
     ensures { λ r. ⌜ Does (now (s .entry)) (disconnect node) r (now (s .exit)) ⌝ }
@@ -159,6 +169,7 @@ pub fn disconnect(s: &mut [u8], node: u16) -> Reply
     Reply::of(answer)
 }
 
+// Gives or frees mastership: refuses 2, then what the rule refuses.
 pub fn master(s: &mut [u8], node: u16) -> Reply
     requires { ⌜ formed (now s) ≡ true ⌝ }
     ensures { λ r. ⌜ Does (now (s .entry)) (master node) r (now (s .exit)) ⌝ }
@@ -178,6 +189,7 @@ pub fn master(s: &mut [u8], node: u16) -> Reply
     Reply::of(2)
 }
 
+// Synchronises: refuses 2, then what the rule refuses.
 pub fn sync(s: &mut [u8], node: u16) -> Reply
     requires { ⌜ formed (now s) ≡ true ⌝ }
     ensures { λ r. ⌜ Does (now (s .entry)) (sync node) r (now (s .exit)) ⌝ }
@@ -219,6 +231,7 @@ fn of_commit(job: u16) -> bool
     job == 3
 }
 
+// One step of a job: refuses 2, 5, 18, 10, then what the plan answers.
 pub fn work(s: &mut [u8], node: u16, job: u16, number: u16, outcome: u16, cut: u16) -> Reply
     requires { ⌜ formed (now s) ≡ true ⌝ }
     ensures { λ r. ⌜ Does (now (s .entry)) (work node job number outcome cut) r (now (s .exit)) ⌝ }

@@ -1,23 +1,22 @@
 // What a job plans: the records that its rules read are loaded from the image, and the rules decide.
 ghost use mathlib.Core.Path.{_≡_};
-ghost use mathlib.Core.Bool.{Bool, true, _&&_};
-ghost use Prim.Native.Nat.{_+_, _*_, _-_, _≤_};
-ghost use lib.Dec.{eqb, leb};
+ghost use mathlib.Core.Bool.{true};
+ghost use Prim.Native.Nat.{_≤_};
 ghost use lib.ListN.{length};
 ghost use Rattle.machine.specs.State.{lineOpenFor};
 ghost use Rattle.machine.specs.Settled.{settled};
 ghost use Rattle.machine.specs.Rest.{restOf};
 ghost use Rattle.machine.specs.Calls.{presentOne, present, job1, job2, job3, job4, planOf};
-ghost use Rattle.image.specs.Layout.{tableWidths, placeOf};
-ghost use Rattle.image.specs.Records.{entryAt, lastOf};
-ghost use Rattle.image.specs.View.{view};
-ghost use Rattle.image.specs.Formed.{formed, allKept};
-ghost use Rattle.fields.specs.Field.{fieldsAt};
-ghost use Rattle.controller.specs.Claims.{Entry, sideSettledAt, entrySettledAt, settledFor};
-use fields::get1;
-use fields::get4;
+ghost use Rattle.machine.specs.Stores.{ofCommitted};
+ghost use Rattle.image.specs.Layout.{imageLength};
+ghost use Rattle.image.specs.View.{view, tableOf};
+ghost use Rattle.image.specs.Formed.{formed};
+ghost use Rattle.controller.specs.Claims.{Entry, settledFor};
+use image::APPLIED_AT;
+use image::COMMITTED_AT;
+use image::COMMITTED_VALUES_AT;
+use image::all_settled;
 use image::last_fold;
-use image::last_number;
 use image::load_change;
 use image::load_configuration;
 use image::load_connection;
@@ -42,7 +41,7 @@ pub fn rest(s: &[u8]) -> bool
     requires { ⌜ formed (now s) ≡ true ⌝ }
     ensures { λ r. ⌜ r ≡ restOf (view (now (s .entry))) ⌝ }
 {
-    let h = load_head(s, 4612);
+    let h = load_head(s, COMMITTED_AT);
     let i = h.index.get();
     let b = last_fold(s);
     if i <= b {
@@ -58,19 +57,19 @@ pub fn rest(s: &[u8]) -> bool
 
 // The committed value of a pair's path, where the pair is used.
 fn present_one(s: &[u8], used: bool, p: u8) -> u16
-    requires { ⌜ 4949 ≤ length (now s) ⌝ }
-    ensures { λ r. ⌜ r ≡ presentOne used (fieldsAt (now (s .entry)) 4622 tableWidths) p ⌝ }
+    requires { ⌜ imageLength ≤ length (now s) ⌝ }
+    ensures { λ r. ⌜ r ≡ presentOne used (tableOf (now (s .entry)) ofCommitted) p ⌝ }
 {
     if used {
-        return load_value(s, 4622, p);
+        return load_value(s, COMMITTED_VALUES_AT, p);
     }
     0
 }
 
 // The committed values of a change's paths.
 fn present(s: &[u8], t: Transaction) -> [u16; 4]
-    requires { ⌜ 4949 ≤ length (now s) ⌝ }
-    ensures { λ r. ⌜ r ≡ present (fieldsAt (now (s .entry)) 4622 tableWidths) t ⌝ }
+    requires { ⌜ imageLength ≤ length (now s) ⌝ }
+    ensures { λ r. ⌜ r ≡ present (tableOf (now (s .entry)) ofCommitted) t ⌝ }
 {
     let n = t.count;
     let p = t.paths;
@@ -81,55 +80,17 @@ fn present(s: &[u8], t: Transaction) -> [u16; 4]
     [a, b, c, d]
 }
 
-// Whether a side does not carry ordinal o, or is Done applying: its apply code is at a place, its ordinal at another.
-fn side_settled(s: &[u8], o: u32, apply: usize, at: usize) -> bool
-    requires { ⌜ (apply + 1 ≤ length (now s)) × (at + 4 ≤ length (now s)) ⌝ }
-    ensures { λ r. ⌜ r ≡ sideSettledAt (now (s .entry)) o apply at ⌝ }
-{
-    if get4(s, at) == o {
-        return 3 <= get1(s, apply);
-    }
-    true
-}
-
-fn entry_settled(s: &[u8], o: u32, n: usize) -> bool
-    requires { ⌜ (1 ≤ n) × (4949 ≤ length (now s)) ⌝ }
-    ensures { λ r. ⌜ r ≡ entrySettledAt (now (s .entry)) o n ⌝ }
-{
-    let at = 36 * ((n - 1) % 128);
-    if side_settled(s, o, at + 1, at + 8) {
-        return side_settled(s, o, at + 3, at + 12);
-    }
-    false
-}
-
-// Entries b + 1 to n.
-fn entries_settled(s: &[u8], o: u32, b: usize, n: usize) -> bool
-    requires { ⌜ (b ≤ n) × (4949 ≤ length (now s)) ⌝ }
-    ensures { λ r. ⌜ r ≡ allKept (entrySettledAt (now (s .entry)) o) b n ⌝ }
-{
-    let mut i = b;
-    while i < n {
-        if !entry_settled(s, o, i + 1) {
-            return false;
-        }
-        i += 1;
-    }
-    true
-}
-
 // Whether the applied side is settled.
 pub fn settled(s: &[u8]) -> bool
     requires { ⌜ formed (now s) ≡ true ⌝ }
     ensures { λ r. ⌜ r ≡ settled (view (now (s .entry))) ⌝ }
 {
-    let o = get4(s, 4692);
-    if o == 0 {
+    let h = load_head(s, APPLIED_AT);
+    let o = h.ordinal;
+    if o.get() == 0 {
         return true;
     }
-    let n = last_number(s);
-    let b = last_fold(s);
-    entries_settled(s, o, b as usize, n as usize)
+    all_settled(s, o)
 }
 
 // The same where a side's apply is Pending: the rules ask it at no other status, and then no entry is looked at.
@@ -165,7 +126,7 @@ fn job1(s: &[u8], number: u16, accepted: bool) -> Plan
     ensures { λ r. ⌜ r ≡ job1 (view (now (s .entry))) number accepted ⌝ }
 {
     let t = load_entry(s, number);
-    let h = load_head(s, 4612);
+    let h = load_head(s, COMMITTED_AT);
     let change = load_change(s);
     let quiet = rest(s);
     let values = present(s, t);
@@ -177,7 +138,7 @@ fn job2(s: &[u8], node: u8, number: u16, accepted: bool) -> Plan
     ensures { λ r. ⌜ r ≡ job2 (view (now (s .entry))) node number accepted ⌝ }
 {
     let t = load_entry(s, number);
-    let h = load_head(s, 4686);
+    let h = load_head(s, APPLIED_AT);
     let x = t.change;
     let apply = x.apply;
     let quiet = settled_for(s, apply);
@@ -190,7 +151,7 @@ fn job3(s: &[u8], number: u16) -> Plan
     ensures { λ r. ⌜ r ≡ job3 (view (now (s .entry))) number ⌝ }
 {
     let t = load_entry(s, number);
-    let h = load_head(s, 4612);
+    let h = load_head(s, COMMITTED_AT);
     let quiet = rest(s);
     commit_rollback(t, h, quiet, Number::of(number))
 }
@@ -200,7 +161,7 @@ fn job4(s: &[u8], node: u8, number: u16, accepted: bool) -> Plan
     ensures { λ r. ⌜ r ≡ job4 (view (now (s .entry))) node number accepted ⌝ }
 {
     let t = load_entry(s, number);
-    let h = load_head(s, 4686);
+    let h = load_head(s, APPLIED_AT);
     let y = t.rollback;
     let apply = y.apply;
     let quiet = settled_for(s, apply);

@@ -6,6 +6,7 @@ ghost use lib.Dec.{leb, ltb};
 ghost use lib.ListN.{length};
 ghost use Rattle.machine.specs.Folding.{finished, sideWaits, entryWaits, mayFold, baseRow};
 ghost use Rattle.machine.specs.Calls.{foldTo};
+ghost use Rattle.image.specs.Layout.{imageLength, slots};
 ghost use Rattle.image.specs.View.{view, written};
 ghost use Rattle.image.specs.Formed.{formed, allKept};
 ghost use Rattle.controller.specs.Claims.{Does, Ring, waitsAt, finishedAt};
@@ -14,6 +15,10 @@ use crate::deciding::rest;
 use crate::deciding::settled;
 use crate::perform::lay;
 use crate::walking::hop;
+use image::APPLIED_AT;
+use image::BASE_AT;
+use image::COMMITTED_AT;
+use image::RING;
 use image::carries_next;
 use image::last_fold;
 use image::last_number;
@@ -52,7 +57,7 @@ fn entry_waits(a: Ordinal, g: u16, i: u16, t: Transaction) -> bool
 
 // The same of entry i. Hardly any carries it, and of the others the ordinals alone are read.
 fn waits(s: &[u8], a: Ordinal, g: u16, i: u16) -> bool
-    requires { ⌜ (1 ≤ i) × (4949 ≤ length (now s)) ⌝ }
+    requires { ⌜ (1 ≤ i) × (imageLength ≤ length (now s)) ⌝ }
     ensures { λ r. ⌜ r ≡ waitsAt (now (s .entry)) (a .0) g i ⌝ }
 {
     if carries_next(s, i, a) {
@@ -64,7 +69,7 @@ fn waits(s: &[u8], a: Ordinal, g: u16, i: u16) -> bool
 
 // Entries b + 1 to n.
 fn entries_wait(s: &[u8], a: Ordinal, g: u16, b: u16, n: u16) -> bool
-    requires { ⌜ (b ≤ n) × (4949 ≤ length (now s)) ⌝ }
+    requires { ⌜ (b ≤ n) × (imageLength ≤ length (now s)) ⌝ }
     ensures { λ r. ⌜ r ≡ allKept (waitsAt (now (s .entry)) (a .0) g) b n ⌝ }
 {
     let mut i = b;
@@ -97,7 +102,7 @@ fn entry_finished(t: Transaction) -> bool
 
 // Entries b + 1 to n.
 fn entries_finished(s: &[u8], b: u16, n: u16) -> bool
-    requires { ⌜ (b ≤ n) × (4949 ≤ length (now s)) ⌝ }
+    requires { ⌜ (b ≤ n) × (imageLength ≤ length (now s)) ⌝ }
     ensures { λ r. ⌜ r ≡ allKept (finishedAt (now (s .entry))) b n ⌝ }
 {
     let mut i = b;
@@ -118,7 +123,7 @@ fn may_fold(s: &[u8], b: u16, n: u16, to: u16) -> bool
 {
     if rest(s) {
         if settled(s) {
-            let h = load_head(s, 4686);
+            let h = load_head(s, APPLIED_AT);
             let a = h.ordinal;
             let g = h.target.get();
             if entries_wait(s, a, g, b, n) {
@@ -161,8 +166,8 @@ fn list_down(s: &[u8], b: u16, v: u16, room: &mut [u16]) -> usize
 }
 
 // The first n listed, which are the live ones from v down to the last fold b, over the base: the oldest first.
-fn lay_listed(s: &mut [u8], b: u16, to: u16, v: u16, list: &[u16; 128], n: usize)
-    requires { ⌜ ListedIn (now s) b v (now list) n × ((v ≤ to) × (n ≤ 128)) ⌝ }
+fn lay_listed(s: &mut [u8], b: u16, to: u16, v: u16, list: &[u16; RING], n: usize)
+    requires { ⌜ ListedIn (now s) b v (now list) n × ((v ≤ to) × (n ≤ slots)) ⌝ }
     ensures { λ _. ⌜ now (s .exit) ≡ written (now (s .entry)) (baseRow (view (now (s .entry)) .log) to (liveFrom (view (now (s .entry))) v)) ⌝ }
 {
     let mut k = n;
@@ -171,7 +176,7 @@ fn lay_listed(s: &mut [u8], b: u16, to: u16, v: u16, list: &[u16; 128], n: usize
         let t = load_entry(s, list[k]);
         let p = t.paths;
         let u = t.values;
-        lay(s, 4885, p, u, t.count);
+        lay(s, BASE_AT, p, u, t.count);
     }
 }
 
@@ -180,7 +185,7 @@ fn lay_base(s: &mut [u8], b: u16, to: u16, v: u16)
     requires { ⌜ Chained (now s) b v × (v ≤ to) ⌝ }
     ensures { λ _. ⌜ now (s .exit) ≡ written (now (s .entry)) (baseRow (view (now (s .entry)) .log) to (liveFrom (view (now (s .entry))) v)) ⌝ }
 {
-    let mut list = [0u16; 128];
+    let mut list = [0u16; RING];
     let n = list_down(s, b, v, &mut list);
     lay_listed(s, b, to, v, &list, n);
 }
@@ -194,6 +199,7 @@ fn is_kept(i: u16, b: u16, n: u16) -> bool
     (b < i) & (i <= n)
 }
 
+// Folds all up to a number away: refuses 5, 17.
 pub fn fold(s: &mut [u8], number: u16) -> Reply
     requires { ⌜ formed (now s) ≡ true ⌝ }
     ensures { λ r. ⌜ Does (now (s .entry)) (foldTo number) r (now (s .exit)) ⌝ }
@@ -202,7 +208,7 @@ pub fn fold(s: &mut [u8], number: u16) -> Reply
     let b = last_fold(s);
     if is_kept(number, b, n) {
         if may_fold(s, b, n, number) {
-            let h = load_head(s, 4612);
+            let h = load_head(s, COMMITTED_AT);
             let v = h.revision.get();
             let first = down_to(s, b, number, v);
             lay_base(s, b, number, first);

@@ -19,6 +19,7 @@ mod walking; // walking.rt: the live list
 mod reads; // reads.rt: one number of the state at a time
 
 pub use clearing::fresh;
+pub use image::IMAGE_LENGTH;
 pub use reads::Heads;
 pub use reads::Read;
 pub use reads::both_heads;
@@ -49,6 +50,7 @@ pub fn rollback(s: &mut [u8], number: u16) -> Reply
     Reply::of(1)
 }
 
+// Starts the target: its id counts up.
 pub fn start(s: &mut [u8]) -> Reply
     ensures { λ r. ⌜ Claims (now (s .entry)) start r (now (s .exit)) ⌝ }
 {
@@ -58,6 +60,7 @@ pub fn start(s: &mut [u8]) -> Reply
     Reply::of(1)
 }
 
+// Stops the target: its values are lost, and every connection.
 pub fn stop(s: &mut [u8]) -> Reply
     ensures { λ r. ⌜ Claims (now (s .entry)) stop r (now (s .exit)) ⌝ }
 {
@@ -67,6 +70,7 @@ pub fn stop(s: &mut [u8]) -> Reply
     Reply::of(1)
 }
 
+// Connects a node to the target.
 pub fn connect(s: &mut [u8], node: u16) -> Reply
     ensures { λ r. ⌜ Claims (now (s .entry)) (connect node) r (now (s .exit)) ⌝ }
 {
@@ -76,6 +80,7 @@ pub fn connect(s: &mut [u8], node: u16) -> Reply
     Reply::of(1)
 }
 
+// Takes a node's connection away.
 pub fn disconnect(s: &mut [u8], node: u16) -> Reply
     ensures { λ r. ⌜ Claims (now (s .entry)) (disconnect node) r (now (s .exit)) ⌝ }
 {

@@ -5,8 +5,13 @@ ghost use Prim.Native.Nat.{_+_, _≤_};
 ghost use lib.ListN.{length};
 ghost use Rattle.machine.specs.Stores.{Table, ofCommitted, ofApplied, ofTarget};
 ghost use Rattle.machine.specs.Rows.{overlay, laid, entryRow, changeRow, headRow, rowsOf};
-ghost use Rattle.image.specs.Layout.{valuesAt};
+ghost use Rattle.image.specs.Layout.{valuesAt, tableSize, imageLength};
 ghost use Rattle.image.specs.View.{written};
+use image::APPLIED_AT;
+use image::APPLIED_VALUES_AT;
+use image::COMMITTED_AT;
+use image::COMMITTED_VALUES_AT;
+use image::TARGET_VALUES_AT;
 use image::store_change;
 use image::store_entry;
 use image::store_head;
@@ -19,7 +24,7 @@ use rules::Plan;
 
 // The first n pairs over the table at a place.
 pub fn lay(s: &mut [u8], at: usize, p: [u8; 4], v: [u16; 4], n: u8)
-    requires { ⌜ at + 64 ≤ length (now s) ⌝ }
+    requires { ⌜ at + tableSize ≤ length (now s) ⌝ }
     ensures { λ _. ⌜ ((b : Table) → valuesAt b ≡ at → now (s .exit) ≡ written (now (s .entry)) (overlay b p v n)) ⌝ }
 {
     if n < 1 {
@@ -41,7 +46,7 @@ pub fn lay(s: &mut [u8], at: usize, p: [u8; 4], v: [u16; 4], n: u8)
 }
 
 fn lay_by(s: &mut [u8], at: usize, l: Lay, t: Transaction)
-    requires { ⌜ at + 64 ≤ length (now s) ⌝ }
+    requires { ⌜ at + tableSize ≤ length (now s) ⌝ }
     ensures { λ _. ⌜ ((b : Table) → valuesAt b ≡ at → now (s .exit) ≡ written (now (s .entry)) (laid b l t)) ⌝ }
 {
     let p = t.paths;
@@ -63,7 +68,7 @@ fn lay_by(s: &mut [u8], at: usize, l: Lay, t: Transaction)
 }
 
 fn store_change_if(s: &mut [u8], moves: bool, i: u16)
-    requires { ⌜ 4949 ≤ length (now s) ⌝ }
+    requires { ⌜ imageLength ≤ length (now s) ⌝ }
     ensures { λ _. ⌜ now (s .exit) ≡ written (now (s .entry)) (changeRow moves i) ⌝ }
 {
     if moves {
@@ -74,32 +79,32 @@ fn store_change_if(s: &mut [u8], moves: bool, i: u16)
 
 // The head's store of jobs 1 and 3: Committed.
 fn commit_row(s: &mut [u8], i: u16, p: Plan)
-    requires { ⌜ 4949 ≤ length (now s) ⌝ }
+    requires { ⌜ imageLength ≤ length (now s) ⌝ }
     ensures { λ _. ⌜ now (s .exit) ≡ written (now (s .entry)) (headRow true p i) ⌝ }
 {
     let h = p.head;
     let l = p.lay;
     let t = p.entry;
-    store_head(s, 4612, h);
+    store_head(s, COMMITTED_AT, h);
     store_change_if(s, p.change, i);
-    lay_by(s, 4622, l, t);
+    lay_by(s, COMMITTED_VALUES_AT, l, t);
 }
 
 // The head's store of jobs 2 and 4: the target's values, and Applied.
 fn apply_row(s: &mut [u8], i: u16, p: Plan)
-    requires { ⌜ 4949 ≤ length (now s) ⌝ }
+    requires { ⌜ imageLength ≤ length (now s) ⌝ }
     ensures { λ _. ⌜ now (s .exit) ≡ written (now (s .entry)) (headRow false p i) ⌝ }
 {
     let h = p.head;
     let l = p.lay;
     let t = p.entry;
-    lay_by(s, 4760, l, t);
-    store_head(s, 4686, h);
-    lay_by(s, 4696, l, t);
+    lay_by(s, TARGET_VALUES_AT, l, t);
+    store_head(s, APPLIED_AT, h);
+    lay_by(s, APPLIED_VALUES_AT, l, t);
 }
 
 fn head_row(s: &mut [u8], commits: bool, i: u16, p: Plan)
-    requires { ⌜ 4949 ≤ length (now s) ⌝ }
+    requires { ⌜ imageLength ≤ length (now s) ⌝ }
     ensures { λ _. ⌜ now (s .exit) ≡ written (now (s .entry)) (headRow commits p i) ⌝ }
 {
     if commits {
@@ -110,15 +115,16 @@ fn head_row(s: &mut [u8], commits: bool, i: u16, p: Plan)
 }
 
 fn entry_row(s: &mut [u8], i: u16, p: Plan)
-    requires { ⌜ (1 ≤ i) × (4949 ≤ length (now s)) ⌝ }
+    requires { ⌜ (1 ≤ i) × (imageLength ≤ length (now s)) ⌝ }
     ensures { λ _. ⌜ now (s .exit) ≡ written (now (s .entry)) (entryRow p i) ⌝ }
 {
     let t = p.entry;
     store_entry(s, i, t);
 }
 
+// A plan's stores for entry i; a cut leaves out the second of two.
 pub fn perform(s: &mut [u8], commits: bool, i: u16, p: Plan, cut: bool)
-    requires { ⌜ (1 ≤ i) × (4949 ≤ length (now s)) ⌝ }
+    requires { ⌜ (1 ≤ i) × (imageLength ≤ length (now s)) ⌝ }
     ensures { λ _. ⌜ now (s .exit) ≡ written (now (s .entry)) (rowsOf commits p i cut) ⌝ }
 {
     let order = p.order;

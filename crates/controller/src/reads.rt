@@ -4,16 +4,18 @@ ghost use mathlib.Core.Bool.{true, _&&_};
 ghost use Prim.Native.Nat.{_<_, _≤_};
 ghost use lib.Dec.{ltb};
 ghost use lib.ListN.{length};
-ghost use Rattle.fields.specs.Field.{quad};
 ghost use Rattle.machine.specs.State.{isNode};
 ghost use Rattle.machine.specs.Reads.{Query, ofTable, ofEntry, ofState, ofNode, shows, refuses, isField, flag, entryNumbers, stateNumbers, nodeNumbers};
+ghost use Rattle.image.specs.Layout.{imageLength};
 ghost use Rattle.image.specs.Records.{headNumbers};
 ghost use Rattle.image.specs.View.{view, netOf};
 ghost use Rattle.image.specs.Formed.{formed};
-ghost use Rattle.controller.specs.Reads.{given, noHead, marks, netNumbers, tablePlace};
+ghost use Rattle.controller.specs.Reads.{given, noHead, marks, netNumbers, four};
 ghost use Rattle.controller.specs.Promises.{Shows, ShowsHeads};
 use crate::calls::in_log;
 use crate::calls::is_node;
+use image::APPLIED_AT;
+use image::COMMITTED_AT;
 use image::last_fold;
 use image::last_number;
 use image::load_change;
@@ -24,6 +26,7 @@ use image::load_head;
 use image::load_mastership;
 use image::load_target;
 use image::load_value;
+use image::table_place;
 use image::well_formed;
 use kinds::Connection;
 use kinds::Head;
@@ -93,21 +96,6 @@ fn is_value(table: u16, path: u16) -> bool
     ok & (path < 32)
 }
 
-fn table_place(table: u16) -> usize
-    ensures { λ r. ⌜ r ≡ tablePlace table ⌝ }
-{
-    if table == 1 {
-        return 4622;
-    }
-    if table == 2 {
-        return 4696;
-    }
-    if table == 3 {
-        return 4760;
-    }
-    4885
-}
-
 // The value of a path: table 1 Committed, 2 Applied, 3 the target, 4 the base. Refuses 1, 2.
 pub fn value(s: &[u8], table: u16, path: u16) -> Read
     ensures { λ r. ⌜ Shows (now (s .entry)) (ofTable table path) r ⌝ }
@@ -126,7 +114,7 @@ pub fn value(s: &[u8], table: u16, path: u16) -> Read
 // ---- a transaction
 
 fn four_bytes(x: [u8; 4]) -> [u32; 4]
-    ensures { λ r. ⌜ r ≡ quad x ⌝ }
+    ensures { λ r. ⌜ r ≡ four x ⌝ }
 {
     let a = wide8(x[0]);
     let b = wide8(x[1]);
@@ -136,7 +124,7 @@ fn four_bytes(x: [u8; 4]) -> [u32; 4]
 }
 
 fn four_words(x: [u16; 4]) -> [u32; 4]
-    ensures { λ r. ⌜ r ≡ quad x ⌝ }
+    ensures { λ r. ⌜ r ≡ four x ⌝ }
 {
     let a = wide16(x[0]);
     let b = wide16(x[1]);
@@ -241,7 +229,7 @@ fn head_numbers(h: Head) -> [u32; 4]
 }
 
 fn net_numbers(s: &[u8]) -> [u32; 7]
-    requires { ⌜ 4949 ≤ length (now s) ⌝ }
+    requires { ⌜ imageLength ≤ length (now s) ⌝ }
     ensures { λ r. ⌜ r ≡ netNumbers (netOf (now (s .entry))) ⌝ }
 {
     let g = load_configuration(s);
@@ -268,8 +256,8 @@ fn state_numbers(s: &[u8]) -> [u32; 18]
     let n = last_number(s) as u32;
     let b = last_fold(s) as u32;
     let g = load_change(s).get() as u32;
-    let c = head_numbers(load_head(s, 4612));
-    let a = head_numbers(load_head(s, 4686));
+    let c = head_numbers(load_head(s, COMMITTED_AT));
+    let a = head_numbers(load_head(s, APPLIED_AT));
     let w = net_numbers(s);
     [
         n,
@@ -346,8 +334,8 @@ pub fn both_heads(s: &[u8]) -> Heads
     ensures { λ r. ⌜ ShowsHeads (now (s .entry)) r ⌝ }
 {
     if well_formed(s) {
-        let committed = load_head(s, 4612);
-        let applied = load_head(s, 4686);
+        let committed = load_head(s, COMMITTED_AT);
+        let applied = load_head(s, APPLIED_AT);
         return Heads { committed, applied };
     }
     let committed = no_head();

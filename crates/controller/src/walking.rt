@@ -9,6 +9,7 @@ ghost use Rattle.image.specs.View.{view};
 ghost use Rattle.image.specs.Formed.{formed};
 ghost use Rattle.controller.specs.Claims.{Entry};
 ghost use Rattle.controller.specs.Live.{Lists, ListsLive, liveFrom, Chained, Placed, Put};
+use image::COMMITTED_AT;
 use image::last_fold;
 use image::load_entry;
 use image::load_head;
@@ -83,7 +84,7 @@ fn list(s: &[u8], room: &mut [u8]) -> Listed
     requires { ⌜ formed (now s) ≡ true ⌝ }
     ensures { λ r. ⌜ ListsLive (now (s .entry)) (now (room .entry)) r (now (room .exit)) ⌝ }
 {
-    let h = load_head(s, 4612);
+    let h = load_head(s, COMMITTED_AT);
     let v = h.revision.get();
     let b = last_fold(s);
     if has_room(s, b, v, room.len() / 2) {

@@ -17,6 +17,7 @@ fn wide32(x: u8) -> u32
     x as u32
 }
 
+// The byte at a place.
 pub fn get1(s: &[u8], at: usize) -> u8
     requires { ⌜ at + 1 ≤ length (now s) ⌝ }
     ensures { λ r. ⌜ Gets (now (s .entry)) at 1 r ⌝ }
@@ -24,6 +25,7 @@ pub fn get1(s: &[u8], at: usize) -> u8
     s[at]
 }
 
+// The number of two bytes at a place.
 pub fn get2(s: &[u8], at: usize) -> u16
     requires { ⌜ at + 2 ≤ length (now s) ⌝ }
     ensures { λ r. ⌜ Gets (now (s .entry)) at 2 r ⌝ }
@@ -34,6 +36,7 @@ pub fn get2(s: &[u8], at: usize) -> u16
     x + 256 * y
 }
 
+// The number of four bytes at a place.
 pub fn get4(s: &[u8], at: usize) -> u32
     requires { ⌜ at + 4 ≤ length (now s) ⌝ }
     ensures { λ r. ⌜ Gets (now (s .entry)) at 4 r ⌝ }
@@ -48,6 +51,7 @@ pub fn get4(s: &[u8], at: usize) -> u32
     x + 256 * (y + 256 * (z + 256 * w))
 }
 
+// A byte, put at a place.
 pub fn put1(s: &mut [u8], at: usize, x: u8)
     requires { ⌜ at + 1 ≤ length (now s) ⌝ }
     ensures { λ _. ⌜ Puts (now (s .entry)) at 1 x (now (s .exit)) ⌝ }
@@ -55,6 +59,7 @@ pub fn put1(s: &mut [u8], at: usize, x: u8)
     s[at] = x;
 }
 
+// A number of two bytes, put at a place.
 pub fn put2(s: &mut [u8], at: usize, x: u16)
     requires { ⌜ at + 2 ≤ length (now s) ⌝ }
     ensures { λ _. ⌜ Puts (now (s .entry)) at 2 x (now (s .exit)) ⌝ }
@@ -64,6 +69,7 @@ pub fn put2(s: &mut [u8], at: usize, x: u16)
     s[b] = (x / 256 % 256) as u8;
 }
 
+// A number of four bytes, put at a place.
 pub fn put4(s: &mut [u8], at: usize, x: u32)
     requires { ⌜ at + 4 ≤ length (now s) ⌝ }
     ensures { λ _. ⌜ Puts (now (s .entry)) at 4 x (now (s .exit)) ⌝ }
@@ -106,6 +112,7 @@ pub fn get_twos(s: &[u8], at: usize) -> [u16; 4]
     ]
 }
 
+// Four bytes, put one after another.
 pub fn put_ones(s: &mut [u8], at: usize, x: [u8; 4])
     requires { ⌜ at + 4 ≤ length (now s) ⌝ }
     ensures { λ _. ⌜ PutsFour (now (s .entry)) at ones x (now (s .exit)) ⌝ }
@@ -116,6 +123,7 @@ pub fn put_ones(s: &mut [u8], at: usize, x: [u8; 4])
     put1(s, at + 3, x[3]);
 }
 
+// Four numbers of two bytes, put one after another.
 pub fn put_twos(s: &mut [u8], at: usize, x: [u16; 4])
     requires { ⌜ at + 8 ≤ length (now s) ⌝ }
     ensures { λ _. ⌜ PutsFour (now (s .entry)) at twos x (now (s .exit)) ⌝ }

@@ -1,3 +1,4 @@
+-- The laws of the history: why its contracts and theorems hold. Assumes nothing.
 pub mod Commits
 pub mod Applies
 pub mod Line

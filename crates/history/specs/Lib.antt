@@ -1,3 +1,4 @@
+-- The definitions of the history: all that one has to believe of this crate. Assumes nothing.
 pub mod Demand3
 pub mod Values
 pub mod Ops

@@ -13,7 +13,7 @@ use Rattle.fields.specs.Field.{field, putField, fieldsAt, putFields}
 use Rattle.fields.proofs.Laws.{Bytes, put-back}
 use Rattle.fields.proofs.Runs.{puts-back}
 use Rattle.machine.specs.Stores.{Table}
-use Rattle.image.specs.Layout.{entryWidths, headWidths, tableWidths, configurationWidths, mastershipWidths, targetWidths, connectionsWidths, placeOf, changeAt, valuesAt, configurationAt, mastershipAt, targetAt, connectionsAt}
+use Rattle.image.specs.Layout.{entryWidths, headWidths, tableWidths, configurationWidths, mastershipWidths, targetWidths, connectionsWidths, placeOf, changeAt, valuesAt, configurationAt, mastershipAt, targetAt, connectionsAt, connectedAt, runningIn}
 use Rattle.image.specs.Records.{flagCode, flagOf, entryAt, putEntryAt, changeOf, headAt, putHeadAt, configurationOf, putConfiguration, mastershipOf, putMastership, targetOf, putTarget, connectionsOf, putConnections}
 use Rattle.image.specs.View.{tableOf}
 use Rattle.image.specs.Formed.{flagOk, statusesOk, flagsOk}
@@ -94,19 +94,19 @@ module _ (l : List ℕ) (y : Bytes l) where
         let b : field l configurationAt 1 ≤ 3 = leb-true _ _ (and-right (leb 1 (field l configurationAt 1)) _ s) in
         rw (state-back (field l configurationAt 1) a b) (puts-back configurationWidths l configurationAt y)
 
-    rest : (flagOk l (targetAt + 4)
-        && ((flagOk l (connectionsAt + 4) && (flagOk l (connectionsAt + 9) && (flagOk l (connectionsAt + 14) && flagOk l (connectionsAt + 19))))
-        && (flagOk l (connectionsAt + 24) && (flagOk l (connectionsAt + 29) && (flagOk l (connectionsAt + 34) && flagOk l (connectionsAt + 39)))))) ≡ true
+    rest : (flagOk l (targetAt + runningIn)
+        && ((flagOk l (connectedAt 0) && (flagOk l (connectedAt 1) && (flagOk l (connectedAt 2) && flagOk l (connectedAt 3))))
+        && (flagOk l (connectedAt 4) && (flagOk l (connectedAt 5) && (flagOk l (connectedAt 6) && flagOk l (connectedAt 7)))))) ≡ true
     unfolding flagsOk
     rest = and-right (leb 1 (field l configurationAt 1) && leb (field l configurationAt 1) 3) _ f
 
     pub target-stored-back : putTarget l (targetOf l) ≡ l
     unfolding putTarget targetOf fieldsAt
-    target-stored-back = rw (flag-back (field l (targetAt + 4) 1) (leb-true _ _ (and-left _ _ rest))) (puts-back targetWidths l targetAt y)
+    target-stored-back = rw (flag-back (field l (targetAt + runningIn) 1) (leb-true _ _ (and-left _ _ rest))) (puts-back targetWidths l targetAt y)
 
-    nodes : ((flagOk l (connectionsAt + 4) && (flagOk l (connectionsAt + 9) && (flagOk l (connectionsAt + 14) && flagOk l (connectionsAt + 19))))
-        && (flagOk l (connectionsAt + 24) && (flagOk l (connectionsAt + 29) && (flagOk l (connectionsAt + 34) && flagOk l (connectionsAt + 39))))) ≡ true
-    nodes = and-right (flagOk l (targetAt + 4)) _ rest
+    nodes : ((flagOk l (connectedAt 0) && (flagOk l (connectedAt 1) && (flagOk l (connectedAt 2) && flagOk l (connectedAt 3))))
+        && (flagOk l (connectedAt 4) && (flagOk l (connectedAt 5) && (flagOk l (connectedAt 6) && flagOk l (connectedAt 7))))) ≡ true
+    nodes = and-right (flagOk l (targetAt + runningIn)) _ rest
 
     four-flags : (a b d e : ℕ) → (flagOk l a && (flagOk l b && (flagOk l d && flagOk l e))) ≡ true
         → (field l a 1 ≤ 1) × ((field l b 1 ≤ 1) × ((field l d 1 ≤ 1) × (field l e 1 ≤ 1)))
@@ -118,17 +118,17 @@ module _ (l : List ℕ) (y : Bytes l) where
     pub connections-stored-back : putConnections l (connectionsOf l) ≡ l
     unfolding putConnections connectionsOf fieldsAt
     connections-stored-back =
-        let p = four-flags (connectionsAt + 4) (connectionsAt + 9) (connectionsAt + 14) (connectionsAt + 19) (and-left _ _ nodes) in
-        let q = four-flags (connectionsAt + 24) (connectionsAt + 29) (connectionsAt + 34) (connectionsAt + 39)
-        (and-right (flagOk l (connectionsAt + 4) && (flagOk l (connectionsAt + 9) && (flagOk l (connectionsAt + 14) && flagOk l (connectionsAt + 19)))) _ nodes) in
+        let p = four-flags (connectedAt 0) (connectedAt 1) (connectedAt 2) (connectedAt 3) (and-left _ _ nodes) in
+        let q = four-flags (connectedAt 4) (connectedAt 5) (connectedAt 6) (connectedAt 7)
+        (and-right (flagOk l (connectedAt 0) && (flagOk l (connectedAt 1) && (flagOk l (connectedAt 2) && flagOk l (connectedAt 3)))) _ nodes) in
         rw (
-          flag-back (field l (connectionsAt + 4) 1) (p .0),
-          flag-back (field l (connectionsAt + 9) 1) (p .1 .0),
-          flag-back (field l (connectionsAt + 14) 1) (p .1 .1 .0),
-          flag-back (field l (connectionsAt + 19) 1) (p .1 .1 .1),
-          flag-back (field l (connectionsAt + 24) 1) (q .0),
-          flag-back (field l (connectionsAt + 29) 1) (q .1 .0),
-          flag-back (field l (connectionsAt + 34) 1) (q .1 .1 .0),
-          flag-back (field l (connectionsAt + 39) 1) (q .1 .1 .1),
+          flag-back (field l (connectedAt 0) 1) (p .0),
+          flag-back (field l (connectedAt 1) 1) (p .1 .0),
+          flag-back (field l (connectedAt 2) 1) (p .1 .1 .0),
+          flag-back (field l (connectedAt 3) 1) (p .1 .1 .1),
+          flag-back (field l (connectedAt 4) 1) (q .0),
+          flag-back (field l (connectedAt 5) 1) (q .1 .0),
+          flag-back (field l (connectedAt 6) 1) (q .1 .1 .0),
+          flag-back (field l (connectedAt 7) 1) (q .1 .1 .1),
         )
         (puts-back connectionsWidths l connectionsAt y)

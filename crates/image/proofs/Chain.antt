@@ -1,6 +1,6 @@
 -- What a row of reads gives, and what a row of writes leaves, over variables. Assumes nothing.
 use mathlib.Core.Bool.{Bool, _||_, cond}
-use Prim.Native.Nat.{ℕ, zero, suc, _+_, _-_, _*_, _%_, _<_, _≤_}
+use Prim.Native.Nat.{ℕ, zero, suc, _+_, _-_, _*_, _<_, _≤_}
 use mathlib.Core.Path.{_≡_, refl, ap, ap₂, sym, _∙_}
 use mathlib.Core.Logic.{inl}
 use mathlib.Core.List.{List, [], _∷_, _++_}
@@ -23,43 +23,43 @@ use Rattle.fields.proofs.Runs.{table-at, length-fields, length-puts, puts-appen
 use Rattle.fields.proofs.Laws.{field-kept}
 use Rattle.machine.specs.State.{absent, never, nodeOf}
 use Rattle.machine.specs.Stores.{Table, ofApplied, targetValues}
-use Rattle.image.specs.Layout.{codeWidths, markWidths, tableWidths, nodeWidths, valuesAt}
+use Rattle.image.specs.Layout.{codeWidths, markWidths, valueSize, tableWidths, nodeWidths, placeOf, changeApplyIn, rollbackCommitIn, rollbackApplyIn, phaseIn, countIn, indexIn, changeOrdinalIn, rollbackOrdinalIn, pathsIn, valuesIn, keptIn, targetValuesAt, connectionsAt, valuesAt, nodeAt}
 use Rattle.image.specs.Records.{toSide, toConnections, codes, marks, entryAt, putEntryAt, toNode, putNodeAt, connectionsOf, putConnections}
 use Rattle.image.specs.View.{tableOf, write}
 
 -- ---- an entry
-pub loaded : (l : List ℕ) (n : ℕ) (x y : Side) (f g h : ℕ) (i : Number) (p v r : List ℕ)
-    → x ≡ toSide l (36 * ((n - 1) % 128)) (36 * ((n - 1) % 128) + 8) → y ≡ toSide l (36 * ((n - 1) % 128) + 2) (36 * ((n - 1) % 128) + 12)
-    → f ≡ field l (36 * ((n - 1) % 128) + 4) 1 → g ≡ field l (36 * ((n - 1) % 128) + 5) 1 → h ≡ field l (36 * ((n - 1) % 128) + 6) 2 → i ≡ num h
-    → p ≡ fieldsAt l (36 * ((n - 1) % 128) + 16) ones → v ≡ fieldsAt l (36 * ((n - 1) % 128) + 20) twos → r ≡ fieldsAt l (36 * ((n - 1) % 128) + 28) twos
+pub loaded : (l : List ℕ) (n at : ℕ) → at ≡ placeOf n → (x y : Side) (f g h : ℕ) (i : Number) (p v r : List ℕ)
+    → x ≡ toSide l at (at + changeOrdinalIn) → y ≡ toSide l (at + rollbackCommitIn) (at + rollbackOrdinalIn)
+    → f ≡ field l (at + phaseIn) 1 → g ≡ field l (at + countIn) 1 → h ≡ field l (at + indexIn) 2 → i ≡ num h
+    → p ≡ fieldsAt l (at + pathsIn) ones → v ≡ fieldsAt l (at + valuesIn) twos → r ≡ fieldsAt l (at + keptIn) twos
     → _≡_ {A = Transaction} (record { phase = f; count = g; paths = p; values = v; change = x; rollback = y; index = i; kept = r }) (entryAt l n)
 unfolding entryAt fieldsAt
-loaded l n x y f g h i p v r q0 q1 q2 q3 q4 q5 q6 q7 q8 = simp (q0, q1, q2, q3, q5, q4, q6, q7, q8, add-assoc)
+loaded l n at e x y f g h i p v r q0 q1 q2 q3 q4 q5 q6 q7 q8 = simp (q0, q1, q2, q3, q5, q4, q6, q7, q8, e, add-assoc)
 
 -- of which only the ordinals were read
-pub carried : (l : List ℕ) (n : ℕ) (a x y : Ordinal) (p q r : Bool) (f g : ℕ) → f ≡ field l (36 * ((n - 1) % 128) + 8) 4 → x ≡ ord f → g ≡ field l (36 * ((n - 1) % 128) + 12) 4 → y ≡ ord g
-    → p ≡ follows (a .0) (x .0) → q ≡ follows (a .0) (y .0) → r ≡ (p || q)
+pub carried : (l : List ℕ) (n at : ℕ) → at ≡ placeOf n → (a x y : Ordinal) (p q r : Bool) (f g : ℕ) → f ≡ field l (at + changeOrdinalIn) 4 → x ≡ ord f
+    → g ≡ field l (at + rollbackOrdinalIn) 4 → y ≡ ord g → p ≡ follows (a .0) (x .0) → q ≡ follows (a .0) (y .0) → r ≡ (p || q)
     → r ≡ (follows (a .0) (entryAt l n .change .ordinal .0) || follows (a .0) (entryAt l n .rollback .ordinal .0))
 unfolding entryAt fieldsAt
-carried l n a x y p q r f g ef ex eg ey ep eq er = simp (er, ep, eq, ex, ey, ef, eg, add-assoc)
+carried l n at e a x y p q r f g ef ex eg ey ep eq er = simp (er, ep, eq, ex, ey, ef, eg, e, add-assoc)
 
 pub coded : (l l1 l2 l3 l4 l5 l6 : List ℕ) (at a b d e : ℕ) (t : Transaction)
     → a ≡ codeOf (t .change .commit) → b ≡ codeOf (t .change .apply) → d ≡ codeOf (t .rollback .commit) → e ≡ codeOf (t .rollback .apply)
-    → l1 ≡ putField l at 1 a → l2 ≡ putField l1 (at + 1) 1 b → l3 ≡ putField l2 (at + 2) 1 d → l4 ≡ putField l3 (at + 3) 1 e
-    → l5 ≡ putField l4 (at + 4) 1 (t .phase) → l6 ≡ putField l5 (at + 5) 1 (t .count) → l6 ≡ putFields l at codeWidths (codes t)
+    → l1 ≡ putField l at 1 a → l2 ≡ putField l1 (at + changeApplyIn) 1 b → l3 ≡ putField l2 (at + rollbackCommitIn) 1 d → l4 ≡ putField l3 (at + rollbackApplyIn) 1 e
+    → l5 ≡ putField l4 (at + phaseIn) 1 (t .phase) → l6 ≡ putField l5 (at + countIn) 1 (t .count) → l6 ≡ putFields l at codeWidths (codes t)
 unfolding putFields
 coded l l1 l2 l3 l4 l5 l6 at a b d e t p1 p2 p3 p4 q1 q2 q3 q4 q5 q6 = simp (q6, q5, q4, q3, q2, q1, p1, p2, p3, p4, add-assoc)
 
-pub stored : (l l1 l2 l3 l4 l5 : List ℕ) (n : ℕ) (t : Transaction)
-    → l1 ≡ putFields l (36 * ((n - 1) % 128)) codeWidths (codes t) → l2 ≡ putFields l1 (36 * ((n - 1) % 128) + 6) markWidths (marks t)
-    → l3 ≡ putFields l2 (36 * ((n - 1) % 128) + 16) ones (quad (t .paths)) → l4 ≡ putFields l3 (36 * ((n - 1) % 128) + 20) twos (quad (t .values))
-    → l5 ≡ putFields l4 (36 * ((n - 1) % 128) + 28) twos (quad (t .kept)) → l5 ≡ putEntryAt l n t
+pub stored : (l l1 l2 l3 l4 l5 : List ℕ) (n at : ℕ) → at ≡ placeOf n → (t : Transaction)
+    → l1 ≡ putFields l at codeWidths (codes t) → l2 ≡ putFields l1 (at + indexIn) markWidths (marks t)
+    → l3 ≡ putFields l2 (at + pathsIn) ones (quad (t .paths)) → l4 ≡ putFields l3 (at + valuesIn) twos (quad (t .values))
+    → l5 ≡ putFields l4 (at + keptIn) twos (quad (t .kept)) → l5 ≡ putEntryAt l n t
 unfolding putEntryAt putFields
-stored l l1 l2 l3 l4 l5 n t q1 q2 q3 q4 q5 = simp (q5, q4, q3, q2, q1, add-assoc)
+stored l l1 l2 l3 l4 l5 n at e t q1 q2 q3 q4 q5 = simp (q5, q4, q3, q2, q1, e, add-assoc)
 
 -- ---- the eight connections
 pub nodes-loaded : (l : List ℕ) (a b d e f g h i : Connection)
-    → a ≡ toNode l 4843 → b ≡ toNode l 4848 → d ≡ toNode l 4853 → e ≡ toNode l 4858 → f ≡ toNode l 4863 → g ≡ toNode l 4868 → h ≡ toNode l 4873 → i ≡ toNode l 4878
+    → a ≡ toNode l connectionsAt → b ≡ toNode l (nodeAt 1) → d ≡ toNode l (nodeAt 2) → e ≡ toNode l (nodeAt 3) → f ≡ toNode l (nodeAt 4) → g ≡ toNode l (nodeAt 5) → h ≡ toNode l (nodeAt 6) → i ≡ toNode l (nodeAt 7)
     → (a ∷ b ∷ d ∷ e ∷ f ∷ g ∷ h ∷ i ∷ []) ≡ connectionsOf l
 unfolding connectionsOf fieldsAt
 nodes-loaded l a b d e f g h i q0 q1 q2 q3 q4 q5 q6 q7 = rw (q0, q1, q2, q3, q4, q5, q6, q7)
@@ -71,11 +71,11 @@ nodes-at (suc m) l at zero h = let z : at + 5 * 0 ≡ at = omega arith in rw z
 nodes-at (suc m) l at (suc k) h =
     let e : at + 4 + 1 + 5 * k ≡ at + 5 * suc k = omega arith in nodes-at m l (at + 4 + 1) k (omega arith) ∙ ap (toNode l) e
 
-pub node-loaded : (l : List ℕ) (n : ℕ) (x : Connection) → 1 ≤ n → n ≤ 8 → x ≡ toNode l (4843 + 5 * (n - 1)) → x ≡ nodeOf (connectionsOf l) n
+pub node-loaded : (l : List ℕ) (n : ℕ) (x : Connection) → 1 ≤ n → n ≤ 8 → x ≡ toNode l (nodeAt (n - 1)) → x ≡ nodeOf (connectionsOf l) n
 unfolding connectionsOf
 node-loaded l zero x a b q = absurd (omega arith)
 node-loaded l (suc k) x a b q =
-    let e : suc k - 1 ≡ k = omega arith in q ∙ ap (λ (j : ℕ). toNode l (4843 + 5 * j)) e ∙ sym (nodes-at 8 l 4843 k (omega arith))
+    let e : suc k - 1 ≡ k = omega arith in q ∙ ap (λ (j : ℕ). toNode l (nodeAt j)) e ∙ sym (nodes-at 8 l connectionsAt k (omega arith))
 
 -- ---- one value of a table at a place
 pub value-loaded : (l : List ℕ) (at p k x : ℕ) → k ≡ p → k < 32 → x ≡ field l (at + 2 * k) 2 → x ≡ getD (fieldsAt l at tableWidths) p 0
@@ -92,8 +92,8 @@ value-lost l at p k v e h = rw (le-ltb p 32 (omega arith))
 
 -- ---- connections stored
 pub nodes-stored : (l l1 l2 : List ℕ) (xs : List Connection)
-    → l1 ≡ putNodeAt (putNodeAt (putNodeAt (putNodeAt l 4843 (getD xs 0 never)) 4848 (getD xs 1 never)) 4853 (getD xs 2 never)) 4858 (getD xs 3 never)
-    → l2 ≡ putNodeAt (putNodeAt (putNodeAt (putNodeAt l1 4863 (getD xs 4 never)) 4868 (getD xs 5 never)) 4873 (getD xs 6 never)) 4878 (getD xs 7 never)
+    → l1 ≡ putNodeAt (putNodeAt (putNodeAt (putNodeAt l connectionsAt (getD xs 0 never)) (nodeAt 1) (getD xs 1 never)) (nodeAt 2) (getD xs 2 never)) (nodeAt 3) (getD xs 3 never)
+    → l2 ≡ putNodeAt (putNodeAt (putNodeAt (putNodeAt l1 (nodeAt 4) (getD xs 4 never)) (nodeAt 5) (getD xs 5 never)) (nodeAt 6) (getD xs 6 never)) (nodeAt 7) (getD xs 7 never)
     → l2 ≡ putConnections l xs
 unfolding putConnections putNodeAt putFields
 nodes-stored l l1 l2 xs p q = q ∙ rw p
@@ -123,10 +123,10 @@ module _ (l vs : List ℕ) (at : ℕ) where
 
 -- ---- the target's values, all at once: what stands in the slice after k of them, none at first, one more, all 32
 abbrev pub Here : List ℕ → List ℕ → List ℕ → ℕ → Type 0
-Here l vs s k = (s ≡ upToHere l vs 4760 k) × (length s ≡ length l)
+Here l vs s k = (s ≡ upToHere l vs targetValuesAt k) × (length s ≡ length l)
 
-here : (l vs s : List ℕ) (k : ℕ) → s ≡ upToHere l vs 4760 k → Here l vs s k
-here l vs s k e = (e, ap length e ∙ length-here l vs 4760 k)
+here : (l vs s : List ℕ) (k : ℕ) → s ≡ upToHere l vs targetValuesAt k → Here l vs s k
+here l vs s k e = (e, ap length e ∙ length-here l vs targetValuesAt k)
 
 pub clear-none : (l : List ℕ) → Here l absent l 0
 unfolding putFields
@@ -136,28 +136,28 @@ pub copy-none : (l : List ℕ) → Here l (tableOf l ofApplied) l 0
 unfolding putFields
 copy-none l = (refl, refl)
 
-pub clear-more : (l s m : List ℕ) (k : ℕ) → k < 32 → Here l absent s k → m ≡ putField s (4760 + 2 * k) 2 0 → Here l absent m (k + 1)
+pub clear-more : (l s m : List ℕ) (k : ℕ) → k < 32 → Here l absent s k → m ≡ putField s (targetValuesAt + valueSize * k) 2 0 → Here l absent m (k + 1)
 clear-more l s m k h p q =
     here l absent m (k + 1)
-    (one-more l absent 4760 m k 0 (omega (arith, length-replicate {A = ℕ} 32 0)) (q ∙ ap (λ (x : List ℕ). putField x (4760 + 2 * k) 2 0) (p .0))
+    (one-more l absent targetValuesAt m k 0 (omega (arith, length-replicate {A = ℕ} 32 0)) (q ∙ ap (λ (x : List ℕ). putField x (targetValuesAt + valueSize * k) 2 0) (p .0))
     (sym (getD-replicate {A = ℕ} 32 k 0 0 h)))
 
-pub copy-more : (l s m : List ℕ) (k v : ℕ) → k < 32 → Here l (tableOf l ofApplied) s k → v ≡ field s (4696 + 2 * k) 2
-    → m ≡ putField s (4760 + 2 * k) 2 v → Here l (tableOf l ofApplied) m (k + 1)
+pub copy-more : (l s m : List ℕ) (k v : ℕ) → k < 32 → Here l (tableOf l ofApplied) s k → v ≡ field s (valuesAt ofApplied + valueSize * k) 2
+    → m ≡ putField s (targetValuesAt + valueSize * k) 2 v → Here l (tableOf l ofApplied) m (k + 1)
 unfolding tableOf
 copy-more l s m k v h p r q =
     here l (tableOf l ofApplied) m (k + 1)
-    (one-more l (tableOf l ofApplied) 4760 m k v (omega (arith, length-fields tableWidths l 4696))
-    (q ∙ ap (λ (x : List ℕ). putField x (4760 + 2 * k) 2 v) (p .0))
-    (r ∙ ap (λ (x : List ℕ). field x (4696 + 2 * k) 2) (p .0) ∙ before-here l (tableOf l ofApplied) 4760 k (4696 + 2 * k) (omega arith)
-    ∙ sym (table-at 32 l 4696 k h)))
+    (one-more l (tableOf l ofApplied) targetValuesAt m k v (omega (arith, length-fields tableWidths l (valuesAt ofApplied)))
+    (q ∙ ap (λ (x : List ℕ). putField x (targetValuesAt + valueSize * k) 2 v) (p .0))
+    (r ∙ ap (λ (x : List ℕ). field x (valuesAt ofApplied + valueSize * k) 2) (p .0) ∙ before-here l (tableOf l ofApplied) targetValuesAt k (valuesAt ofApplied + valueSize * k) (omega arith)
+    ∙ sym (table-at 32 l (valuesAt ofApplied) k h)))
 
 pub all-here : (l s vs : List ℕ) (k : ℕ) → k ≤ 32 → 32 ≤ k → length vs ≡ 32 → Here l vs s k → s ≡ write l (targetValues vs)
 unfolding write
 all-here l s vs k a b z p =
     let e : k ≡ 32 = omega arith in
     let t : take 32 vs ≡ vs = take-all 32 vs (omega arith) in
-    p .0 ∙ ap (upToHere l vs 4760) e ∙ ap (λ (x : List ℕ). putFields l 4760 tableWidths x) t
+    p .0 ∙ ap (upToHere l vs targetValuesAt) e ∙ ap (λ (x : List ℕ). putFields l targetValuesAt tableWidths x) t
 
 pub length-table : (l : List ℕ) (b : Table) → length (tableOf l b) ≡ 32
 unfolding tableOf

@@ -1,17 +1,21 @@
 -- What a change of the bytes from a to below e leaves: each part of the view that lies apart. Assumes nothing.
-use Prim.Native.Nat.{ℕ, _+_, _-_, _*_, _%_, _≤_, _<_}
-use mathlib.Core.Path.{_≡_, ap, ap₂, _∙_}
+use Prim.Native.Nat.{ℕ, _+_, _-_, _*_, _≤_, _<_}
+use mathlib.Core.Path.{_≡_, refl, ap, ap₂, _∙_}
+use mathlib.Core.Bool.{Bool, true, false, cond}
 use mathlib.Core.Logic.{_⊎_, inl, inr, ⊎-elim}
 use mathlib.Core.List.{List}
+use lib.Dec.{ltb}
+use lib.ListN.{length}
 use native.Mathlib.Omega.{arith}
 use Rattle.kinds.specs.declared.Transaction.{Transaction}
 use Rattle.kinds.specs.Numbers.{num}
-use Rattle.fields.proofs.Laws.{Outside, field-kept}
+use Rattle.fields.specs.Field.{putField}
+use Rattle.fields.proofs.Laws.{Outside, field-kept, put-outside, length-put}
 use Rattle.fields.proofs.Runs.{fields-kept}
-use Rattle.machine.specs.Stores.{Table, ofTarget, ofBase}
-use Rattle.image.specs.Layout.{entryWidths, headWidths, tableWidths, configurationWidths, mastershipWidths, targetWidths, connectionsWidths, placeOf, lastAt, changeAt, valuesAt, configurationAt, mastershipAt, targetAt, connectionsAt, foldedAt, imageLength}
+use Rattle.machine.specs.Stores.{Table, ofTarget, ofBase, value}
+use Rattle.image.specs.Layout.{entryWidths, headWidths, tableWidths, configurationWidths, mastershipWidths, targetWidths, connectionsWidths, placeOf, lastAt, changeAt, valuesAt, configurationAt, mastershipAt, targetAt, connectionsAt, foldedAt, highest, stride, headSize, tableSize, tableLength, valueSize, connectionsSize, connectedAt, runningIn}
 use Rattle.image.specs.Records.{toEntry, entryAt, lastOf, foldedOf, changeOf, toHead, headAt, toConfiguration, configurationOf, toMastership, mastershipOf, toTarget, targetOf, toConnections, connectionsOf}
-use Rattle.image.specs.View.{upFrom, tableOf, entriesOf, logOf, partOf, netOf}
+use Rattle.image.specs.View.{upFrom, tableOf, entriesOf, logOf, partOf, netOf, write}
 use Rattle.image.specs.Formed.{statusesOk, flagsOk}
 use Rattle.image.proofs.UpTo.{upFrom-same}
 
@@ -25,14 +29,14 @@ pub same-log : (l : List ℕ) (b : ℕ) (vs : List ℕ) (ts : List Transaction) 
 same-log l b vs ts p q r = ap₂ (λ (x : ℕ) (y : List ℕ). record { folded = num x; base = y; entries = entriesOf l }) p q ∙ ap (λ (z : List Transaction). record { folded = num b; base = vs; entries = z }) r
 
 module _ (l m : List ℕ) (a e : ℕ) (o : Outside l m a e) where
-  pub entry-kept : (n : ℕ) → Apart a e (placeOf n) 36 → entryAt m n ≡ entryAt l n
+  pub entry-kept : (n : ℕ) → Apart a e (placeOf n) stride → entryAt m n ≡ entryAt l n
   unfolding entryAt
   entry-kept n h = ap toEntry (fields-kept l m a e o entryWidths (placeOf n) h)
 
-  pub statuses-kept : (n : ℕ) → Apart a e (placeOf n) 36 → statusesOk m (placeOf n) ≡ statusesOk l (placeOf n)
+  pub statuses-kept : (n : ℕ) → Apart a e (placeOf n) stride → statusesOk m (placeOf n) ≡ statusesOk l (placeOf n)
   unfolding statusesOk
   statuses-kept n h =
-      let k : (d : ℕ) → d ≤ 35 → Apart a e (placeOf n + d) 1 = λ d q. ⊎-elim (λ x. inl (omega arith)) (λ y. inr (omega arith)) h in
+      let k : (d : ℕ) → d < stride → Apart a e (placeOf n + d) 1 = λ d q. ⊎-elim (λ x. inl (omega arith)) (λ y. inr (omega arith)) h in
       let z : Apart a e (placeOf n) 1 = ⊎-elim (λ x. inl (omega arith)) (λ y. inr (omega arith)) h in
       rw (
         field-kept l m a e o 1 (placeOf n) z,
@@ -53,15 +57,15 @@ module _ (l m : List ℕ) (a e : ℕ) (o : Outside l m a e) where
   unfolding changeOf
   change-kept h = field-kept l m a e o 2 changeAt h
 
-  pub head-kept : (at : ℕ) → Apart a e at 10 → headAt m at ≡ headAt l at
+  pub head-kept : (at : ℕ) → Apart a e at headSize → headAt m at ≡ headAt l at
   unfolding headAt
   head-kept at h = ap toHead (fields-kept l m a e o headWidths at h)
 
-  pub table-kept : (b : Table) → Apart a e (valuesAt b) 64 → tableOf m b ≡ tableOf l b
+  pub table-kept : (b : Table) → Apart a e (valuesAt b) tableSize → tableOf m b ≡ tableOf l b
   unfolding tableOf
   table-kept b h = fields-kept l m a e o tableWidths (valuesAt b) h
 
-  pub part-kept : (at : ℕ) (b : Table) → Apart a e at 10 → Apart a e (valuesAt b) 64 → partOf m at b ≡ partOf l at b
+  pub part-kept : (at : ℕ) (b : Table) → Apart a e at headSize → Apart a e (valuesAt b) tableSize → partOf m at b ≡ partOf l at b
   part-kept at b h k = rw (head-kept at h, table-kept b k)
 
   pub configuration-kept : Apart a e configurationAt 5 → configurationOf m ≡ configurationOf l
@@ -76,19 +80,19 @@ module _ (l m : List ℕ) (a e : ℕ) (o : Outside l m a e) where
   unfolding targetOf
   target-kept h = ap toTarget (fields-kept l m a e o targetWidths targetAt h)
 
-  pub connections-kept : Apart a e connectionsAt 40 → connectionsOf m ≡ connectionsOf l
+  pub connections-kept : Apart a e connectionsAt connectionsSize → connectionsOf m ≡ connectionsOf l
   unfolding connectionsOf
   connections-kept h = ap toConnections (fields-kept l m a e o connectionsWidths connectionsAt h)
 
-  pub net-kept : Apart a e (valuesAt ofTarget) 123 → netOf m ≡ netOf l
+  pub net-kept : Apart a e (valuesAt ofTarget) (foldedAt - valuesAt ofTarget) → netOf m ≡ netOf l
   net-kept h =
       let k : (at w : ℕ) → valuesAt ofTarget ≤ at → at + w ≤ foldedAt → Apart a e at w = λ at w p q. ⊎-elim (λ x. inl (omega arith)) (λ y. inr (omega arith)) h in
       rw (
         configuration-kept (k configurationAt 5 (omega arith) (omega arith)),
         mastership-kept (k mastershipAt 9 (omega arith) (omega arith)),
-        connections-kept (k connectionsAt 40 (omega arith) (omega arith)),
+        connections-kept (k connectionsAt connectionsSize (omega arith) (omega arith)),
         target-kept (k targetAt 5 (omega arith) (omega arith)),
-        table-kept ofTarget (k (valuesAt ofTarget) 64 (omega arith) (omega arith)),
+        table-kept ofTarget (k (valuesAt ofTarget) tableSize (omega arith) (omega arith)),
       )
 
   -- every entry, past the ring
@@ -105,20 +109,29 @@ module _ (l m : List ℕ) (a e : ℕ) (o : Outside l m a e) where
       (ap₂ (λ (b n : ℕ). upFrom (entryAt m) b n) (ends-kept h k .0) (ends-kept h k .1) ∙ entries-kept (foldedOf l) (lastOf l) (omega arith))
 
   -- the flags lie in three places
-  pub flags-kept : Apart a e configurationAt 5 → Apart a e (targetAt + 4) 1 → Apart a e connectionsAt 40 → flagsOk m ≡ flagsOk l
+  pub flags-kept : Apart a e configurationAt 5 → Apart a e (targetAt + runningIn) 1 → Apart a e connectionsAt connectionsSize → flagsOk m ≡ flagsOk l
   unfolding flagsOk
   flags-kept g t x =
       let c : Apart a e configurationAt 1 = ⊎-elim (λ p. inl (omega arith)) (λ q. inr (omega arith)) g in
-      let k : (d : ℕ) → d ≤ 39 → Apart a e (connectionsAt + d) 1 = λ d r. ⊎-elim (λ p. inl (omega arith)) (λ q. inr (omega arith)) x in
+      let k : (d : ℕ) → d < connectionsSize → Apart a e (connectionsAt + d) 1 = λ d r. ⊎-elim (λ p. inl (omega arith)) (λ q. inr (omega arith)) x in
       rw (
         field-kept l m a e o 1 configurationAt c,
-        field-kept l m a e o 1 (targetAt + 4) t,
-        field-kept l m a e o 1 (connectionsAt + 4) (k 4 (omega arith)),
-        field-kept l m a e o 1 (connectionsAt + 9) (k 9 (omega arith)),
-        field-kept l m a e o 1 (connectionsAt + 14) (k 14 (omega arith)),
-        field-kept l m a e o 1 (connectionsAt + 19) (k 19 (omega arith)),
-        field-kept l m a e o 1 (connectionsAt + 24) (k 24 (omega arith)),
-        field-kept l m a e o 1 (connectionsAt + 29) (k 29 (omega arith)),
-        field-kept l m a e o 1 (connectionsAt + 34) (k 34 (omega arith)),
-        field-kept l m a e o 1 (connectionsAt + 39) (k 39 (omega arith)),
+        field-kept l m a e o 1 (targetAt + runningIn) t,
+        field-kept l m a e o 1 (connectedAt 0) (k 4 (omega arith)),
+        field-kept l m a e o 1 (connectedAt 1) (k 9 (omega arith)),
+        field-kept l m a e o 1 (connectedAt 2) (k 14 (omega arith)),
+        field-kept l m a e o 1 (connectedAt 3) (k 19 (omega arith)),
+        field-kept l m a e o 1 (connectedAt 4) (k 24 (omega arith)),
+        field-kept l m a e o 1 (connectedAt 5) (k 29 (omega arith)),
+        field-kept l m a e o 1 (connectedAt 6) (k 34 (omega arith)),
+        field-kept l m a e o 1 (connectedAt 7) (k 39 (omega arith)),
       )
+
+-- ---- a value laid over the base leaves every entry, and the length
+pub value-leaves : (l : List ℕ) (p v k : ℕ) → (entryAt (write l (value ofBase p v)) k ≡ entryAt l k) × (length (write l (value ofBase p v)) ≡ length l)
+unfolding write
+value-leaves l p v k = go (ltb p tableLength) (valuesAt ofBase + valueSize * p) (omega arith)
+  where
+    go : (x : Bool) (at : ℕ) → lastAt ≤ at → (entryAt (cond x (putField l at valueSize v) l) k ≡ entryAt l k) × (length (cond x (putField l at valueSize v) l) ≡ length l)
+    go false at h = (refl, refl)
+    go true at h = (entry-kept l (putField l at valueSize v) at (at + 2) (put-outside 2 l at v) k (inl (omega arith)), length-put 2 l at v)

@@ -12,7 +12,7 @@ use Rattle.kinds.specs.declared.Transaction.{Transaction}
 use Rattle.fields.specs.Field.{field, fieldsAt, ones}
 use Rattle.machine.specs.State.{State, last, entryOf}
 use Rattle.machine.specs.WellFormed.{allEntries, pairsOk, logOk, entryOk, headsOk, sizesOk, wellFormed}
-use Rattle.image.specs.Layout.{imageLength}
+use Rattle.image.specs.Layout.{slots, highest, highestOrdinal, changeApplyIn, rollbackCommitIn, rollbackApplyIn, phaseIn, countIn, indexIn, changeOrdinalIn, rollbackOrdinalIn, pathsIn, lastAt, foldedAt, imageLength}
 use Rattle.image.specs.Records.{entryAt, lastOf, foldedOf, connectionsOf}
 use Rattle.image.specs.View.{upFrom, tableOf, view}
 use Rattle.image.specs.Formed.{allKept, statusesOk, entryStatusesOk, marksOk, flagsOk, entryFormed, codesOk, formed}
@@ -55,14 +55,14 @@ reorder true true false h e = refl
 reorder true false n h e = sym (ap (λ (x : Bool). n && (x && e)) (and-false h) ∙ and-false n)
 reorder false f n h e = sym (ap (λ (x : Bool). n && x) (and-false (h && f)) ∙ and-false n)
 
--- at most 128 kept, numbered up to 65,535
+-- at most as many kept as the ring has, none numbered past the highest
 abbrev pub ringOk : ℕ → ℕ → Bool
-ringOk b n = leb (n - b) 128 && leb n 65535
+ringOk b n = leb (n - b) slots && leb n highest
 
 -- in the scan's order: the length, the last fold and the highest number, the heads and flags, the entries kept
 pub scanned : List ℕ → Bool
 scanned l =
-    eqb (length l) 4949
+    eqb (length l) imageLength
     && (leb (foldedOf l) (lastOf l)
     && (ringOk (foldedOf l) (lastOf l) && ((headsOk (view l) (lastOf l) && flagsOk l) && allKept (entryFormed l) (foldedOf l) (lastOf l))))
 
@@ -75,7 +75,7 @@ states l = allEntries entryOk (view l .log)
 
 pub formed-scanned : (l : List ℕ) → formed l ≡ scanned l
 unfolding formed wellFormed scanned
-formed-scanned l = ap (λ (x : Bool). eqb (length l) 4949 && x) (go (leb (foldedOf l) (lastOf l)) refl)
+formed-scanned l = ap (λ (x : Bool). eqb (length l) imageLength && x) (go (leb (foldedOf l) (lastOf l)) refl)
   where
     a : allKept (entryFormed l) (foldedOf l) (lastOf l) ≡ (kepts l && states l)
     a =
@@ -89,43 +89,46 @@ formed-scanned l = ap (λ (x : Bool). eqb (length l) 4949 && x) (go (leb (folded
     go false e = refl
     go true e =
         let n : last (view l .log) ≡ lastOf l = view-last l (leb-true _ _ e) in
-        ap₂ (λ (k : ℕ) (x : Bool). (kepts l && flagsOk l) && ((leb (length (view l .log .entries)) 128 && leb k 65535) && (headsOk (view l) k && (states l && x)))) n (sizes l)
-        ∙ ap (λ (k : ℕ). (kepts l && flagsOk l) && ((leb k 128 && leb (lastOf l) 65535) && (headsOk (view l) (lastOf l) && (states l && true)))) (view-kept l)
+        ap₂ (λ (k : ℕ) (x : Bool). (kepts l && flagsOk l) && ((leb (length (view l .log .entries)) slots && leb k highest) && (headsOk (view l) k && (states l && x)))) n (sizes l)
+        ∙ ap (λ (k : ℕ). (kepts l && flagsOk l) && ((leb k slots && leb (lastOf l) highest) && (headsOk (view l) (lastOf l) && (states l && true)))) (view-kept l)
         ∙ reorder (kepts l) (flagsOk l) (ringOk (foldedOf l) (lastOf l)) (headsOk (view l) (lastOf l)) (states l)
         ∙ ap (λ (x : Bool). ringOk (foldedOf l) (lastOf l) && ((headsOk (view l) (lastOf l) && flagsOk l) && x)) (sym a)
 
 -- ---- the scan's answers
-pub wrong-length : (l : List ℕ) → (length l ≡ 4949 → ⊥) → false ≡ formed l
+pub wrong-length : (l : List ℕ) → (length l ≡ imageLength → ⊥) → false ≡ formed l
 unfolding scanned
 wrong-length l h = sym (formed-scanned l ∙ rw (ne-eqb _ _ h))
 
-module _ (l : List ℕ) (n b : ℕ) (z : length l ≡ 4949) (e : n ≡ field l 4608 2) (f : b ≡ field l 4883 2) where
+module _ (l : List ℕ) (n b : ℕ) (z : length l ≡ imageLength) (e : n ≡ field l lastAt 2) (f : b ≡ field l foldedAt 2) where
   pub past-last : n < b → false ≡ formed l
   unfolding scanned lastOf foldedOf
   past-last h = sym (formed-scanned l ∙ rw (eq-eqb _ _ z, ← e, ← f, lt-leb b n h))
 
-  pub too-many : b ≤ n → 128 < n - b → false ≡ formed l
+  pub too-many : b ≤ n → slots < n - b → false ≡ formed l
   unfolding scanned lastOf foldedOf
-  too-many g h = sym (formed-scanned l ∙ rw (eq-eqb _ _ z, ← e, ← f, le-leb b n g, lt-leb (n - b) 128 h))
+  too-many g h = sym (formed-scanned l ∙ rw (eq-eqb _ _ z, ← e, ← f, le-leb b n g, lt-leb (n - b) slots h))
 
-  module _ (x y : Bool) (g : b ≤ n) (k : n - b ≤ 128) (r : n < 65536) (p : x ≡ headsOk (view l) n) (q : y ≡ flagsOk l) where
+  module _ (x y : Bool) (g : b ≤ n) (k : n - b ≤ slots) (r : n ≤ highest) (p : x ≡ headsOk (view l) n) (q : y ≡ flagsOk l) where
     pub wrong-heads : (x && y) ≡ false → false ≡ formed l
     unfolding scanned lastOf foldedOf
-    wrong-heads t = sym (formed-scanned l ∙ rw (eq-eqb _ _ z, ← e, ← f, le-leb b n g, le-leb (n - b) 128 k, le-leb n 65535 (omega arith), ← p, ← q, t))
+    wrong-heads t = sym (formed-scanned l ∙ rw (eq-eqb _ _ z, ← e, ← f, le-leb b n g, le-leb (n - b) slots k, le-leb n highest r, ← p, ← q, t))
 
     pub by-entries : (w : Bool) → (x && y) ≡ true → w ≡ allKept (entryFormed l) b n → w ≡ formed l
     unfolding scanned lastOf foldedOf
-    by-entries w t u = u ∙ sym (formed-scanned l ∙ rw (eq-eqb _ _ z, ← e, ← f, le-leb b n g, le-leb (n - b) 128 k, le-leb n 65535 (omega arith), ← p, ← q, t))
+    by-entries w t u = u ∙ sym (formed-scanned l ∙ rw (eq-eqb _ _ z, ← e, ← f, le-leb b n g, le-leb (n - b) slots k, le-leb n highest r, ← p, ← q, t))
 
 -- ---- what a formed image has
--- the last fold b and the highest number n: at most 128 kept, numbered up to 65,535
+-- the last fold b and the highest number n: at most as many kept as the ring has, none numbered past the highest
 abbrev pub Room : ℕ → ℕ → Type 0
-Room b n = (b ≤ n) × ((n ≤ b + 128) × (n ≤ 65535))
+Room b n = (b ≤ n) × ((n ≤ b + slots) × (n ≤ highest))
 
 module _ (l : List ℕ) (h : formed l ≡ true) where
   pub formed-length : length l ≡ imageLength
   unfolding formed
   formed-length = eqb-true (length l) imageLength (and-left _ _ h)
+
+  pub formed-size : imageLength ≤ length l
+  formed-size = omega (arith, formed-length)
 
   pub formed-codes : codesOk l ≡ true
   unfolding formed
@@ -140,8 +143,8 @@ module _ (l : List ℕ) (h : formed l ≡ true) where
   formed-room =
       let p : foldedOf l ≤ lastOf l = leb-true _ _ (and-left _ _ formed-codes) in
       let w = and-left (logOk (view l .log)) _ formed-state in
-      let a = leb-true (length (view l .log .entries)) 128 (and-left _ _ w) in
-      let b = leb-true (last (view l .log)) 65535 (and-right (leb (length (view l .log .entries)) 128) _ w) in
+      let a = leb-true (length (view l .log .entries)) slots (and-left _ _ w) in
+      let b = leb-true (last (view l .log)) highest (and-right (leb (length (view l .log .entries)) slots) _ w) in
       (p, (omega (arith, view-kept l), omega (arith, view-last l p)))
 
 -- ---- an entry's pairs, as the scan reads them
@@ -150,25 +153,25 @@ abbrev pub Rise : List ℕ → ℕ → Bool
 Rise l at = ltb (field l at 1) (field l (at + 1) 1) && ltb (field l (at + 1) 1) 32
 
 abbrev pub Pairs : List ℕ → ℕ → Bool
-Pairs l at = pairsOk (field l (at + 5) 1) (fieldsAt l (at + 16) ones)
+Pairs l at = pairsOk (field l (at + countIn) 1) (fieldsAt l (at + pathsIn) ones)
 
-pairs-are : (l : List ℕ) (at n a : ℕ) → n ≡ field l (at + 5) 1 → a ≡ field l (at + 16) 1
-    → Pairs l at ≡ ((leb 1 n && leb n 4) && (ltb a 32 && ((ltb n 2 || Rise l (at + 16)) && ((ltb n 3 || Rise l (at + 17)) && (ltb n 4 || Rise l (at + 18))))))
+pairs-are : (l : List ℕ) (at n a : ℕ) → n ≡ field l (at + countIn) 1 → a ≡ field l (at + pathsIn) 1
+    → Pairs l at ≡ ((leb 1 n && leb n 4) && (ltb a 32 && ((ltb n 2 || Rise l (at + pathsIn)) && ((ltb n 3 || Rise l (at + (pathsIn + 1))) && (ltb n 4 || Rise l (at + (pathsIn + 2)))))))
 unfolding pairsOk fieldsAt
 pairs-are l at n a p q =
-    let x : at + 16 + 1 ≡ at + 17 = omega arith in
-    let y : at + 17 + 1 ≡ at + 18 = omega arith in
-    let z : at + 18 + 1 ≡ at + 19 = omega arith in
+    let x : at + pathsIn + 1 ≡ at + (pathsIn + 1) = omega arith in
+    let y : at + (pathsIn + 1) + 1 ≡ at + (pathsIn + 2) = omega arith in
+    let z : at + (pathsIn + 2) + 1 ≡ at + (pathsIn + 3) = omega arith in
     rw (p, q, x, y, z)
 
-module _ (l : List ℕ) (at n : ℕ) (p : n ≡ field l (at + 5) 1) where
+module _ (l : List ℕ) (at n : ℕ) (p : n ≡ field l (at + countIn) 1) where
   pub no-pairs : n < 1 → false ≡ Pairs l at
   no-pairs h = sym (pairs-are l at n _ p refl ∙ rw (lt-leb _ _ h))
 
   pub many-pairs : 1 ≤ n → 4 < n → false ≡ Pairs l at
   many-pairs h k = sym (pairs-are l at n _ p refl ∙ rw (le-leb _ _ h, lt-leb _ _ k))
 
-  module _ (a : ℕ) (q : a ≡ field l (at + 16) 1) (h : 1 ≤ n) (k : n ≤ 4) where
+  module _ (a : ℕ) (q : a ≡ field l (at + pathsIn) 1) (h : 1 ≤ n) (k : n ≤ 4) where
     pub past-paths : 32 ≤ a → false ≡ Pairs l at
     past-paths r = sym (pairs-are l at n a p q ∙ rw (le-leb 1 n h, le-leb n 4 k, le-ltb a 32 r))
 
@@ -179,7 +182,7 @@ module _ (l : List ℕ) (at n : ℕ) (p : n ≡ field l (at + 5) 1) where
           let y : n < 4 = omega arith in
           sym (pairs-are l at n a p q ∙ rw (le-leb 1 n h, le-leb n 4 k, lt-ltb a 32 r, lt-ltb n 2 s, lt-ltb n 3 x, lt-ltb n 4 y))
 
-      module _ (s : 2 ≤ n) (b : Bool) (e : b ≡ Rise l (at + 16)) where
+      module _ (s : 2 ≤ n) (b : Bool) (e : b ≡ Rise l (at + pathsIn)) where
         pub fall-two : b ≡ false → false ≡ Pairs l at
         fall-two f = sym (pairs-are l at n a p q ∙ rw (le-leb 1 n h, le-leb n 4 k, lt-ltb a 32 r, le-ltb n 2 s, ← e, f))
 
@@ -189,7 +192,7 @@ module _ (l : List ℕ) (at n : ℕ) (p : n ≡ field l (at + 5) 1) where
               let y : n < 4 = omega arith in
               sym (pairs-are l at n a p q ∙ rw (le-leb 1 n h, le-leb n 4 k, lt-ltb a 32 r, le-ltb n 2 s, ← e, f, lt-ltb n 3 x, lt-ltb n 4 y))
 
-          module _ (x : 3 ≤ n) (d : Bool) (g : d ≡ Rise l (at + 17)) where
+          module _ (x : 3 ≤ n) (d : Bool) (g : d ≡ Rise l (at + (pathsIn + 1))) where
             pub fall-three : d ≡ false → false ≡ Pairs l at
             fall-three w = sym (pairs-are l at n a p q ∙ rw (le-leb 1 n h, le-leb n 4 k, lt-ltb a 32 r, le-ltb n 2 s, ← e, f, le-ltb n 3 x, ← g, w))
 
@@ -197,17 +200,17 @@ module _ (l : List ℕ) (at n : ℕ) (p : n ≡ field l (at + 5) 1) where
             three-pairs w y =
                 sym (pairs-are l at n a p q ∙ rw (le-leb 1 n h, le-leb n 4 k, lt-ltb a 32 r, le-ltb n 2 s, ← e, f, le-ltb n 3 x, ← g, w, lt-ltb n 4 y))
 
-            pub four-pairs : d ≡ true → 4 ≤ n → (c : Bool) → c ≡ Rise l (at + 18) → c ≡ Pairs l at
+            pub four-pairs : d ≡ true → 4 ≤ n → (c : Bool) → c ≡ Rise l (at + (pathsIn + 2)) → c ≡ Pairs l at
             four-pairs w y c v =
                 v ∙ sym (pairs-are l at n a p q ∙ rw (le-leb 1 n h, le-leb n 4 k, lt-ltb a 32 r, le-ltb n 2 s, ← e, f, le-ltb n 3 x, ← g, w, le-ltb n 4 y))
 
 -- ---- the last test of the statuses, and of the marks
-pub last-status : (l : List ℕ) (at a b d e : ℕ) → a ≡ field l at 1 → b ≡ field l (at + 1) 1 → d ≡ field l (at + 2) 1 → e ≡ field l (at + 3) 1
+pub last-status : (l : List ℕ) (at a b d e : ℕ) → a ≡ field l at 1 → b ≡ field l (at + changeApplyIn) 1 → d ≡ field l (at + rollbackCommitIn) 1 → e ≡ field l (at + rollbackApplyIn) 1
     → a ≤ 6 → b ≤ 6 → d ≤ 6 → leb e 6 ≡ statusesOk l at
 unfolding statusesOk
 last-status l at a b d e p q r s x y z = rw (← p, ← q, ← r, ← s, le-leb a 6 x, le-leb b 6 y, le-leb d 6 z)
 
-pub last-mark : (l : List ℕ) (at n a b d e : ℕ) → a ≡ field l (at + 4) 1 → b ≡ field l (at + 6) 2 → d ≡ field l (at + 8) 4 → e ≡ field l (at + 12) 4
-    → 1 ≤ a → a ≤ 2 → b < n → d ≤ 131070 → leb e 131070 ≡ marksOk l at n
+pub last-mark : (l : List ℕ) (at n a b d e : ℕ) → a ≡ field l (at + phaseIn) 1 → b ≡ field l (at + indexIn) 2 → d ≡ field l (at + changeOrdinalIn) 4 → e ≡ field l (at + rollbackOrdinalIn) 4
+    → 1 ≤ a → a ≤ 2 → b < n → d ≤ highestOrdinal → leb e highestOrdinal ≡ marksOk l at n
 unfolding marksOk
-last-mark l at n a b d e p q r s w x y z = rw (← p, ← q, ← r, ← s, le-leb 1 a w, le-leb a 2 x, lt-ltb b n y, le-leb d 131070 z)
+last-mark l at n a b d e p q r s w x y z = rw (← p, ← q, ← r, ← s, le-leb 1 a w, le-leb a 2 x, lt-ltb b n y, le-leb d highestOrdinal z)

@@ -23,7 +23,7 @@ use Rattle.fields.proofs.Laws.{Outside, length-put, put-outside, put-same}
 use Rattle.fields.proofs.Runs.{Fit, length-puts, puts-outside, puts-same, table-set}
 use Rattle.machine.specs.State.{Part, Net, Log, State, blank, grown, putPlace}
 use Rattle.machine.specs.Stores.{Table, ofCommitted, ofApplied, ofTarget, ofBase, Store, grow, entry, fold, change, committedHead, appliedHead, value, targetValues, configuration, mastership, connections, target, withLog, withCommitted, withApplied, withNet, afterValue, after, afters}
-use Rattle.image.specs.Layout.{entryWidths, headWidths, tableWidths, configurationWidths, mastershipWidths, targetWidths, connectionsWidths, slotOf, placeOf, lastAt, changeAt, committedAt, appliedAt, valuesAt, configurationAt, mastershipAt, targetAt, connectionsAt, foldedAt, imageLength}
+use Rattle.image.specs.Layout.{entryWidths, headWidths, tableWidths, configurationWidths, mastershipWidths, targetWidths, connectionsWidths, slotOf, placeOf, lastAt, changeAt, committedAt, appliedAt, valuesAt, configurationAt, mastershipAt, targetAt, connectionsAt, foldedAt, imageLength, slots, highest, stride, headSize, tableSize, connectionsSize}
 use Rattle.image.specs.Records.{toEntry, entryNumbers, entryAt, putEntryAt, lastOf, foldedOf, changeOf, toHead, headNumbers, headAt, putHeadAt, toConfiguration, configurationNumbers, configurationOf, putConfiguration, toMastership, mastershipNumbers, mastershipOf, putMastership, toTarget, targetNumbers, targetOf, putTarget, toConnections, connectionsNumbers, eight, connectionsOf, putConnections}
 use Rattle.image.specs.View.{upFrom, tableOf, entriesOf, logOf, partOf, netOf, view, write, written}
 use Rattle.image.proofs.UpTo.{upFrom-same, upFrom-more, upFrom-drop, put-upFrom}
@@ -34,7 +34,7 @@ use Rattle.image.proofs.Sized.{SizedEntry, SizedHead, SizedMastership, 
 
 -- ---- each number of a store has room, and a store of an entry is of a number kept: b the last fold, n the highest number
 abbrev pub Fits : ℕ → ℕ → Store → Type 0
-Fits b n (grow t) = SizedEntry t × ((n < b + 128) × (n < 65535))
+Fits b n (grow t) = SizedEntry t × ((n < b + slots) × (n < highest))
 Fits b n (entry i t) = SizedEntry t × ((b < i) × (i ≤ n))
 Fits b n (fold k) = (b ≤ k .0) × (k .0 ≤ n)
 Fits b n (change k) = k .0 < 65536
@@ -105,14 +105,14 @@ shown-base l m a e o h log q =
     (change-kept l m a e o (inl (omega arith))) (part-kept l m a e o committedAt ofCommitted (inl (omega arith)) (inl (omega arith)))
     (part-kept l m a e o appliedAt ofApplied (inl (omega arith)) (inl (omega arith))) (net-kept l m a e o (inl (omega arith)))
 
--- two numbers of which at most 128 are kept lie apart
-pub slots-differ : (b i j : ℕ) → b < i → i ≤ b + 128 → b < j → j ≤ b + 128 → slotOf j ≡ slotOf i → j ≡ i
+-- two numbers that the ring keeps at once lie apart
+pub slots-differ : (b i j : ℕ) → b < i → i ≤ b + slots → b < j → j ≤ b + slots → slotOf j ≡ slotOf i → j ≡ i
 slots-differ b i j p q r s e = omega arith
 
-pub entries-apart : (b i j : ℕ) → b < i → i ≤ b + 128 → b < j → j ≤ b + 128 → (j ≡ i → ⊥) → Apart (placeOf i) (placeOf i + 36) (placeOf j) 36
+pub entries-apart : (b i j : ℕ) → b < i → i ≤ b + slots → b < j → j ≤ b + slots → (j ≡ i → ⊥) → Apart (placeOf i) (placeOf i + stride) (placeOf j) stride
 entries-apart b i j p q r s d = go (ltb (slotOf j) (slotOf i)) refl
   where
-    go : (x : Bool) → ltb (slotOf j) (slotOf i) ≡ x → Apart (placeOf i) (placeOf i + 36) (placeOf j) 36
+    go : (x : Bool) → ltb (slotOf j) (slotOf i) ≡ x → Apart (placeOf i) (placeOf i + stride) (placeOf j) stride
     go true e = let y : slotOf j < slotOf i = ltb-true (slotOf j) (slotOf i) e in inl (omega arith)
     go false e =
         let y : slotOf i ≤ slotOf j = ltb-false (slotOf j) (slotOf i) e in
@@ -134,7 +134,7 @@ same-part h v k u p q = cc
 
 module _ (l : List ℕ) (z : length l ≡ imageLength) (f : Room (foldedOf l) (lastOf l)) where
   -- ---- an entry
-  pub entry-outside : (n : ℕ) (t : Transaction) → Outside l (putEntryAt l n t) (placeOf n) (placeOf n + 36)
+  pub entry-outside : (n : ℕ) (t : Transaction) → Outside l (putEntryAt l n t) (placeOf n) (placeOf n + stride)
   unfolding putEntryAt
   entry-outside n t = puts-outside entryWidths (entryNumbers t) l (placeOf n)
 
@@ -143,7 +143,7 @@ module _ (l : List ℕ) (z : length l ≡ imageLength) (f : Room (foldedOf l) (l
   entry-same n t h = ap toEntry (puts-same entryWidths (entryNumbers t) l (placeOf n) (entry-room t h) (omega arith)) ∙ entry-back t h
 
   -- every other kept
-  pub other-kept : (m : List ℕ) (i : ℕ) → Outside l m (placeOf i) (placeOf i + 36) → foldedOf l < i → i ≤ foldedOf l + 128
+  pub other-kept : (m : List ℕ) (i : ℕ) → Outside l m (placeOf i) (placeOf i + stride) → foldedOf l < i → i ≤ foldedOf l + slots
       → (k : ℕ) → foldedOf l < k → k ≤ lastOf l → (k ≡ i → ⊥) → entryAt m k ≡ entryAt l k
   other-kept m i o p q k u v d = entry-kept l m _ _ o k (entries-apart (foldedOf l) i k p q u (omega (arith, f .1 .0)) d)
 
@@ -151,8 +151,8 @@ module _ (l : List ℕ) (z : length l ≡ imageLength) (f : Room (foldedOf l) (l
   unfolding view write after
   shown-entry i t h k =
       let m = putEntryAt l i t in
-      let o : Outside l m (placeOf i) (placeOf i + 36) = entry-outside i t in
-      let x : placeOf i + 36 ≤ lastAt = omega arith in
+      let o : Outside l m (placeOf i) (placeOf i + stride) = entry-outside i t in
+      let x : placeOf i + stride ≤ lastAt = omega arith in
       let p : foldedOf m ≡ foldedOf l = folded-kept l m _ _ o (inr (omega arith)) in
       let c : lastOf m ≡ lastOf l = last-kept l m _ _ o (inr x) in
       let q : entriesOf m ≡ putPlace (entriesOf l) (i - foldedOf l) t =
@@ -162,7 +162,7 @@ module _ (l : List ℕ) (z : length l ≡ imageLength) (f : Room (foldedOf l) (l
       shown-log l m _ _ o (omega arith) _ q
 
   -- ---- the log, one longer
-  counted : (m : List ℕ) (n : ℕ) → length m ≡ imageLength → n < 65535 → lastOf (putField m lastAt 2 (n + 1)) ≡ n + 1
+  counted : (m : List ℕ) (n : ℕ) → length m ≡ imageLength → n < highest → lastOf (putField m lastAt 2 (n + 1)) ≡ n + 1
   unfolding lastOf
   counted m n y h = put-same 2 m lastAt (n + 1) (omega arith) (omega arith)
 
@@ -176,7 +176,7 @@ module _ (l : List ℕ) (z : length l ≡ imageLength) (f : Room (foldedOf l) (l
       put-outside 2 (putEntryAt l (lastOf l + 1) t) lastAt (lastOf l + 1) j (⊎-elim (λ x. inl (omega arith)) (λ y. inr (omega arith)) h)
       ∙ entry-outside (lastOf l + 1) t j (⊎-elim (λ x. inl (omega arith)) (λ y. inr (omega arith)) h)
 
-  shown-grow : (t : Transaction) → SizedEntry t → (lastOf l < foldedOf l + 128) × (lastOf l < 65535) → view (write l (grow t)) ≡ after (view l) (grow t)
+  shown-grow : (t : Transaction) → SizedEntry t → (lastOf l < foldedOf l + slots) × (lastOf l < highest) → view (write l (grow t)) ≡ after (view l) (grow t)
   unfolding view write after
   shown-grow t h k =
       let n = lastOf l in
@@ -262,11 +262,11 @@ module _ (l : List ℕ) (z : length l ≡ imageLength) (f : Room (foldedOf l) (l
         (part-kept l m _ _ o appliedAt ofApplied (inl (omega arith)) (inl (omega arith))) q
 
   -- ---- heads
-  pub head-outside : (at : ℕ) (h : Head) → Outside l (putHeadAt l at h) at (at + 10)
+  pub head-outside : (at : ℕ) (h : Head) → Outside l (putHeadAt l at h) at (at + headSize)
   unfolding putHeadAt
   head-outside at h = puts-outside headWidths (headNumbers h) l at
 
-  head-same : (at : ℕ) (h : Head) → SizedHead h → at + 10 ≤ imageLength → headAt (putHeadAt l at h) at ≡ h
+  head-same : (at : ℕ) (h : Head) → SizedHead h → at + headSize ≤ imageLength → headAt (putHeadAt l at h) at ≡ h
   unfolding headAt putHeadAt
   head-same at h k r = ap toHead (puts-same headWidths (headNumbers h) l at (head-room h k) (omega arith))
 
@@ -274,7 +274,7 @@ module _ (l : List ℕ) (z : length l ≡ imageLength) (f : Room (foldedOf l) (l
   unfolding write after view
   shown-committed h k =
       let m = putHeadAt l committedAt h in
-      let o : Outside l m committedAt (committedAt + 10) = head-outside committedAt h in
+      let o : Outside l m committedAt (committedAt + headSize) = head-outside committedAt h in
       in-committed m (wider l m _ _ _ _ o (omega arith) (omega arith)) _
       (same-part (headAt m committedAt) (tableOf m ofCommitted) h (tableOf l ofCommitted) (head-same committedAt h k (omega arith)) (table-kept l m _ _ o ofCommitted (inr (omega arith))))
 
@@ -282,21 +282,21 @@ module _ (l : List ℕ) (z : length l ≡ imageLength) (f : Room (foldedOf l) (l
   unfolding write after view
   shown-applied h k =
       let m = putHeadAt l appliedAt h in
-      let o : Outside l m appliedAt (appliedAt + 10) = head-outside appliedAt h in
+      let o : Outside l m appliedAt (appliedAt + headSize) = head-outside appliedAt h in
       in-applied m (wider l m _ _ _ _ o (omega arith) (omega arith)) _
       (same-part (headAt m appliedAt) (tableOf m ofApplied) h (tableOf l ofApplied) (head-same appliedAt h k (omega arith)) (table-kept l m _ _ o ofApplied (inr (omega arith))))
 
   -- ---- one value of a table
   module _ (b : Table) (p v : ℕ) (h : p < 32) where
-    pub value-outside : Outside l (putField l (valuesAt b + 2 * p) 2 v) (valuesAt b) (valuesAt b + 64)
+    pub value-outside : Outside l (putField l (valuesAt b + 2 * p) 2 v) (valuesAt b) (valuesAt b + tableSize)
     value-outside = wider l (putField l (valuesAt b + 2 * p) 2 v) _ _ _ _ (put-outside 2 l (valuesAt b + 2 * p) v) (omega arith) (omega arith)
 
-    value-same : v < 65536 → valuesAt b + 64 ≤ imageLength → tableOf (putField l (valuesAt b + 2 * p) 2 v) b ≡ set (tableOf l b) p v
+    value-same : v < 65536 → valuesAt b + tableSize ≤ imageLength → tableOf (putField l (valuesAt b + 2 * p) 2 v) b ≡ set (tableOf l b) p v
     unfolding tableOf
     value-same k r = table-set 32 l (valuesAt b) p v h k (omega arith)
 
   -- the target's values alone
-  target-values : (m vs : List ℕ) → Outside l m (valuesAt ofTarget) (valuesAt ofTarget + 64) → tableOf m ofTarget ≡ vs
+  target-values : (m vs : List ℕ) → Outside l m (valuesAt ofTarget) (valuesAt ofTarget + tableSize) → tableOf m ofTarget ≡ vs
       → view m ≡ withNet (view l) (record { configuration = configurationOf l; mastership = mastershipOf l; connections = connectionsOf l; target = targetOf l; values = vs })
   target-values m vs o q =
       in-net m (wider l m _ _ _ _ o (omega arith) (omega arith)) _
@@ -307,21 +307,21 @@ module _ (l : List ℕ) (z : length l ≡ imageLength) (f : Room (foldedOf l) (l
   unfolding view
   value-in ofCommitted p v k h =
       let m = putField l (valuesAt ofCommitted + 2 * p) 2 v in
-      let o : Outside l m (valuesAt ofCommitted) (valuesAt ofCommitted + 64) = value-outside ofCommitted p v h in
+      let o : Outside l m (valuesAt ofCommitted) (valuesAt ofCommitted + tableSize) = value-outside ofCommitted p v h in
       in-committed m (wider l m _ _ _ _ o (omega arith) (omega arith)) _
       (same-part (headAt m committedAt) (tableOf m ofCommitted) (headAt l committedAt) (set (tableOf l ofCommitted) p v) (head-kept l m _ _ o committedAt (inl (omega arith))) (value-same ofCommitted p v h k (omega arith)))
   value-in ofApplied p v k h =
       let m = putField l (valuesAt ofApplied + 2 * p) 2 v in
-      let o : Outside l m (valuesAt ofApplied) (valuesAt ofApplied + 64) = value-outside ofApplied p v h in
+      let o : Outside l m (valuesAt ofApplied) (valuesAt ofApplied + tableSize) = value-outside ofApplied p v h in
       in-applied m (wider l m _ _ _ _ o (omega arith) (omega arith)) _
       (same-part (headAt m appliedAt) (tableOf m ofApplied) (headAt l appliedAt) (set (tableOf l ofApplied) p v) (head-kept l m _ _ o appliedAt (inl (omega arith))) (value-same ofApplied p v h k (omega arith)))
   value-in ofTarget p v k h =
       let m = putField l (valuesAt ofTarget + 2 * p) 2 v in
-      let o : Outside l m (valuesAt ofTarget) (valuesAt ofTarget + 64) = value-outside ofTarget p v h in
+      let o : Outside l m (valuesAt ofTarget) (valuesAt ofTarget + tableSize) = value-outside ofTarget p v h in
       target-values m _ o (value-same ofTarget p v h k (omega arith))
   value-in ofBase p v k h =
       let m = putField l (valuesAt ofBase + 2 * p) 2 v in
-      let o : Outside l m (valuesAt ofBase) (valuesAt ofBase + 64) = value-outside ofBase p v h in
+      let o : Outside l m (valuesAt ofBase) (valuesAt ofBase + tableSize) = value-outside ofBase p v h in
       let e : (foldedOf m ≡ foldedOf l) × (lastOf m ≡ lastOf l) = (folded-kept l m _ _ o (inl (omega arith)), last-kept l m _ _ o (inl (omega arith))) in
       shown-base l m _ _ o (omega arith) _
       (same-log m _ _ _ (e .0) (value-same ofBase p v h k (omega arith))
@@ -407,7 +407,7 @@ module _ (l : List ℕ) (z : length l ≡ imageLength) (f : Room (foldedOf l) (l
       (same-net _ _ _ _ _ _ _ _ _ _ (configuration-kept l m _ _ o (inl (omega arith))) (mastership-kept l m _ _ o (inl (omega arith)))
       (connections-kept l m _ _ o (inr (omega arith))) (target-same t k) (table-kept l m _ _ o ofTarget (inl (omega arith))))
 
-  connections-outside : (xs : List Connection) → Outside l (putConnections l xs) connectionsAt (connectionsAt + 40)
+  connections-outside : (xs : List Connection) → Outside l (putConnections l xs) connectionsAt (connectionsAt + connectionsSize)
   unfolding putConnections
   connections-outside xs = puts-outside connectionsWidths (connectionsNumbers (eight xs)) l connectionsAt
 
@@ -422,7 +422,7 @@ module _ (l : List ℕ) (z : length l ≡ imageLength) (f : Room (foldedOf l) (l
   unfolding write after view
   shown-connections xs k =
       let m = putConnections l xs in
-      let o : Outside l m connectionsAt (connectionsAt + 40) = connections-outside xs in
+      let o : Outside l m connectionsAt (connectionsAt + connectionsSize) = connections-outside xs in
       in-net m (wider l m _ _ _ _ o (omega arith) (omega arith)) _
       (same-net _ _ _ _ _ _ _ _ _ _ (configuration-kept l m _ _ o (inl (omega arith))) (mastership-kept l m _ _ o (inl (omega arith))) (connections-same xs k)
       (target-kept l m _ _ o (inl (omega arith))) (table-kept l m _ _ o ofTarget (inl (omega arith))))
@@ -477,7 +477,7 @@ module _ (l : List ℕ) (z : length l ≡ imageLength) (f : Room (foldedOf l) (l
       ends-kept l (putField l (valuesAt ofTarget + 2 * p) 2 v) _ _ (value-outside ofTarget p v (ltb-true p 32 e)) (omega arith) (omega arith)
   ends-value ofBase p v true e =
       let m = putField l (valuesAt ofBase + 2 * p) 2 v in
-      let o : Outside l m (valuesAt ofBase) (valuesAt ofBase + 64) = value-outside ofBase p v (ltb-true p 32 e) in
+      let o : Outside l m (valuesAt ofBase) (valuesAt ofBase + tableSize) = value-outside ofBase p v (ltb-true p 32 e) in
       (folded-kept l m _ _ o (inl (omega arith)), last-kept l m _ _ o (inl (omega arith)))
 
   pub ends-write : (e : Store) → Fits (foldedOf l) (lastOf l) e → Ends (write l e) e
@@ -485,7 +485,7 @@ module _ (l : List ℕ) (z : length l ≡ imageLength) (f : Room (foldedOf l) (l
   ends-write (grow t) h =
       (folded-kept l _ _ _ (grow-outside t) (inr (omega arith)), counted (putEntryAt l (lastOf l + 1) t) (lastOf l) (length-entry (lastOf l + 1) t) (h .1 .1))
   ends-write (entry i t) h =
-      let x : placeOf i + 36 ≤ lastAt = omega arith in
+      let x : placeOf i + stride ≤ lastAt = omega arith in
       (folded-kept l _ _ _ (entry-outside i t) (inr (omega arith)), last-kept l _ _ _ (entry-outside i t) (inr x))
   ends-write (fold b) h = (fold-same (b .0) (omega (arith, h .1, f .1 .1)), last-kept l _ _ _ (fold-outside (b .0)) (inl (omega arith)))
   ends-write (change n) h = ends-kept l _ _ _ (change-outside (n .0)) (omega arith) (omega arith)

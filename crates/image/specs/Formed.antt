@@ -7,7 +7,7 @@ use lib.Dec.{eqb, leb, ltb}
 use lib.ListN.{length}
 use Rattle.fields.specs.Field.{field, fieldsAt, ones}
 use Rattle.machine.specs.WellFormed.{pairsOk, wellFormed}
-use Rattle.image.specs.Layout.{placeOf, configurationAt, targetAt, connectionsAt, imageLength}
+use Rattle.image.specs.Layout.{highestOrdinal, placeOf, changeApplyIn, rollbackCommitIn, rollbackApplyIn, phaseIn, countIn, indexIn, changeOrdinalIn, rollbackOrdinalIn, pathsIn, configurationAt, targetAt, runningIn, connectedAt, imageLength}
 use Rattle.image.specs.Records.{lastOf, foldedOf}
 use Rattle.image.specs.View.{view}
 
@@ -22,7 +22,7 @@ allKept p b n = allUpTo (λ j. p (b + j)) (n - b)
 
 -- the four statuses of the entry at a place
 unfoldable pub statusesOk : List ℕ → ℕ → Bool
-statusesOk l at = leb (field l at 1) 6 && (leb (field l (at + 1) 1) 6 && (leb (field l (at + 2) 1) 6 && leb (field l (at + 3) 1) 6))
+statusesOk l at = leb (field l at 1) 6 && (leb (field l (at + changeApplyIn) 1) 6 && (leb (field l (at + rollbackCommitIn) 1) 6 && leb (field l (at + rollbackApplyIn) 1) 6))
 
 abbrev pub entryStatusesOk : List ℕ → ℕ → Bool
 entryStatusesOk l n = statusesOk l (placeOf n)
@@ -35,9 +35,9 @@ flagOk l at = leb (field l at 1) 1
 unfoldable pub flagsOk : List ℕ → Bool
 flagsOk l =
     (leb 1 (field l configurationAt 1) && leb (field l configurationAt 1) 3)
-    && (flagOk l (targetAt + 4)
-    && ((flagOk l (connectionsAt + 4) && (flagOk l (connectionsAt + 9) && (flagOk l (connectionsAt + 14) && flagOk l (connectionsAt + 19))))
-    && (flagOk l (connectionsAt + 24) && (flagOk l (connectionsAt + 29) && (flagOk l (connectionsAt + 34) && flagOk l (connectionsAt + 39))))))
+    && (flagOk l (targetAt + runningIn)
+    && ((flagOk l (connectedAt 0) && (flagOk l (connectedAt 1) && (flagOk l (connectedAt 2) && flagOk l (connectedAt 3))))
+    && (flagOk l (connectedAt 4) && (flagOk l (connectedAt 5) && (flagOk l (connectedAt 6) && flagOk l (connectedAt 7))))))
 
 abbrev pub codesOk : List ℕ → Bool
 codesOk l = leb (foldedOf l) (lastOf l) && (allKept (entryStatusesOk l) (foldedOf l) (lastOf l) && flagsOk l)
@@ -49,9 +49,10 @@ formed l = eqb (length l) imageLength && (codesOk l && wellFormed (view l))
 -- the phase, r.index and the two ordinals of entry n at a place
 unfoldable pub marksOk : List ℕ → ℕ → ℕ → Bool
 marksOk l at n =
-    (leb 1 (field l (at + 4) 1) && leb (field l (at + 4) 1) 2) && (ltb (field l (at + 6) 2) n && (leb (field l (at + 8) 4) 131070 && leb (field l (at + 12) 4) 131070))
+    (leb 1 (field l (at + phaseIn) 1) && leb (field l (at + phaseIn) 1) 2)
+    && (ltb (field l (at + indexIn) 2) n && (leb (field l (at + changeOrdinalIn) 4) highestOrdinal && leb (field l (at + rollbackOrdinalIn) 4) highestOrdinal))
 
 -- all that is asked of entry n
 unfoldable pub entryFormed : List ℕ → ℕ → Bool
 entryFormed l n =
-    statusesOk l (placeOf n) && (marksOk l (placeOf n) n && pairsOk (field l (placeOf n + 5) 1) (fieldsAt l (placeOf n + 16) ones))
+    statusesOk l (placeOf n) && (marksOk l (placeOf n) n && pairsOk (field l (placeOf n + countIn) 1) (fieldsAt l (placeOf n + pathsIn) ones))

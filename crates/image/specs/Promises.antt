@@ -18,9 +18,12 @@ use Rattle.kinds.specs.declared.Target.{Target}
 use Rattle.kinds.specs.declared.Transaction.{Transaction}
 use Rattle.fields.specs.Field.{fieldsAt, putField}
 use Rattle.image.specs.Formed.{formed}
-use Rattle.image.specs.Layout.{tableWidths}
+use Rattle.image.specs.Layout.{tableLength, valueSize, tableWidths, tablePlace}
 use Rattle.image.specs.Records.{entryAt, putEntryAt, lastOf, foldedOf, changeOf, headAt, putHeadAt, configurationOf, putConfiguration, mastershipOf, putMastership, targetOf, putTarget, connectionsOf, putConnections}
-use Rattle.image.specs.View.{write, tableOf}
+use Rattle.image.specs.View.{write, tableOf, view}
+use Rattle.image.specs.Fresh.{freshImage}
+use Rattle.machine.specs.Settled.{entrySettled}
+use Rattle.machine.specs.WellFormed.{allEntries}
 use Rattle.machine.specs.State.{nodeOf, absent}
 use Rattle.machine.specs.Stores.{grow, fold, change, targetValues, ofApplied}
 
@@ -29,6 +32,18 @@ TellsFormed s r = r ≡ formed s
 
 pub tells-formed-only : (s : List ℕ) (r q : Bool) → TellsFormed s r → TellsFormed s q → r ≡ q
 tells-formed-only s r q = one
+
+abbrev pub TellsSettled : List ℕ → Ordinal → Bool → Type 0
+TellsSettled s o r = r ≡ allEntries (entrySettled (o .0)) (view s .log)
+
+pub tells-settled-only : (s : List ℕ) (o : Ordinal) (r q : Bool) → TellsSettled s o r → TellsSettled s o q → r ≡ q
+tells-settled-only s o r q = one
+
+abbrev pub MakesFresh : List ℕ → List ℕ → Type 0
+MakesFresh s s′ = s′ ≡ freshImage
+
+pub makes-fresh-only : (s s′ s″ : List ℕ) → MakesFresh s s′ → MakesFresh s s″ → s′ ≡ s″
+makes-fresh-only s s′ s″ = one
 
 abbrev pub LoadsEntry : List ℕ → ℕ → Transaction → Type 0
 LoadsEntry s n r = r ≡ entryAt s n
@@ -99,14 +114,24 @@ pub stores-head-only : (s : List ℕ) (at : ℕ) (h : Head) (s′ s″ : List �
     → StoresHead s at h s′ → StoresHead s at h s″ → s′ ≡ s″
 stores-head-only s at h s′ s″ = one
 
+abbrev pub PlacesTable : ℕ → ℕ → Type 0
+PlacesTable b r = r ≡ tablePlace b
+
+pub places-table-only : (b r q : ℕ) → PlacesTable b r → PlacesTable b q → r ≡ q
+places-table-only b r q = one
+
 abbrev pub LoadsValue : List ℕ → ℕ → ℕ → ℕ → Type 0
 LoadsValue s at p r = r ≡ getD (fieldsAt s at tableWidths) p 0
 
 pub loads-value-only : (s : List ℕ) (at p r q : ℕ) → LoadsValue s at p r → LoadsValue s at p q → r ≡ q
 loads-value-only s at p r q = one
 
+-- a path's value in the table at a place; a path past the table stores nothing
+abbrev pub valuePut : List ℕ → ℕ → ℕ → ℕ → List ℕ
+valuePut s at p v = cond (ltb p tableLength) (putField s (at + valueSize * p) valueSize v) s
+
 abbrev pub StoresValue : List ℕ → ℕ → ℕ → ℕ → List ℕ → Type 0
-StoresValue s at p v s′ = s′ ≡ cond (ltb p 32) (putField s (at + 2 * p) 2 v) s
+StoresValue s at p v s′ = s′ ≡ valuePut s at p v
 
 pub stores-value-only : (s : List ℕ) (at p v : ℕ) (s′ s″ : List ℕ)
     → StoresValue s at p v s′ → StoresValue s at p v s″ → s′ ≡ s″

@@ -15,7 +15,7 @@ use Rattle.kinds.specs.Numbers.{num, ord, trm}
 use Rattle.kinds.specs.Statuses.{codeOf, statusOf, progressCode, progressOf}
 use Rattle.machine.specs.State.{never}
 use Rattle.fields.specs.Field.{field, fieldsAt, putFields, quad}
-use Rattle.image.specs.Layout.{entryWidths, headWidths, configurationWidths, mastershipWidths, targetWidths, connectionsWidths, placeOf, lastAt, changeAt, configurationAt, mastershipAt, targetAt, connectionsAt, foldedAt}
+use Rattle.image.specs.Layout.{entryWidths, headWidths, configurationWidths, mastershipWidths, targetWidths, nodeWidths, connectionsWidths, applyIn, connectedIn, placeOf, lastAt, changeAt, configurationAt, mastershipAt, targetAt, connectionsAt, foldedAt, numberSize}
 
 -- ---- flags
 abbrev pub flagCode : Bool → ℕ
@@ -50,7 +50,7 @@ toEntry l =
 
 -- one side, its statuses at a place and its ordinal at another
 abbrev pub toSide : List ℕ → ℕ → ℕ → Side
-toSide l at o = record { commit = statusOf (field l at 1); apply = statusOf (field l (at + 1) 1); ordinal = ord (field l o 4) }
+toSide l at o = record { commit = statusOf (field l at 1); apply = statusOf (field l (at + applyIn) 1); ordinal = ord (field l o 4) }
 
 -- the entry of number n
 unfoldable pub entryAt : List ℕ → ℕ → Transaction
@@ -61,13 +61,13 @@ putEntryAt l n t = putFields l (placeOf n) entryWidths (entryNumbers t)
 
 -- ---- the highest number given, the last fold, Committed's change
 unfoldable pub lastOf : List ℕ → ℕ
-lastOf l = field l lastAt 2
+lastOf l = field l lastAt numberSize
 
 unfoldable pub foldedOf : List ℕ → ℕ
-foldedOf l = field l foldedAt 2
+foldedOf l = field l foldedAt numberSize
 
 unfoldable pub changeOf : List ℕ → ℕ
-changeOf l = field l changeAt 2
+changeOf l = field l changeAt numberSize
 
 -- ---- a head, at a place
 abbrev pub headNumbers : Head → List ℕ
@@ -124,10 +124,10 @@ abbrev pub nodeNumbers : Connection → List ℕ
 nodeNumbers x = x .id ∷ flagCode (x .connected) ∷ []
 
 abbrev pub toNode : List ℕ → ℕ → Connection
-toNode l at = record { id = field l at 4; connected = flagOf (field l (at + 4) 1) }
+toNode l at = record { id = field l at 4; connected = flagOf (field l (at + connectedIn) 1) }
 
 unfoldable pub putNodeAt : List ℕ → ℕ → Connection → List ℕ
-putNodeAt l at x = putFields l at (4 ∷ 1 ∷ []) (nodeNumbers x)
+putNodeAt l at x = putFields l at (nodeWidths 1) (nodeNumbers x)
 
 abbrev pub connectionsNumbers : List Connection → List ℕ
 connectionsNumbers [] = []

@@ -8,7 +8,7 @@ use Rattle.kinds.specs.Numbers.{num}
 use Rattle.fields.specs.Field.{putField, fieldsAt, putFields}
 use Rattle.machine.specs.State.{Part, Net, Log, State}
 use Rattle.machine.specs.Stores.{Table, ofCommitted, ofApplied, ofTarget, ofBase, Store, grow, entry, fold, change, committedHead, appliedHead, value, targetValues, configuration, mastership, connections, target}
-use Rattle.image.specs.Layout.{tableWidths, lastAt, changeAt, committedAt, appliedAt, foldedAt, valuesAt}
+use Rattle.image.specs.Layout.{tableLength, valueSize, tableWidths, lastAt, changeAt, committedAt, appliedAt, foldedAt, valuesAt, numberSize}
 use Rattle.image.specs.Records.{entryAt, putEntryAt, lastOf, foldedOf, changeOf, headAt, putHeadAt, configurationOf, putConfiguration, mastershipOf, putMastership, targetOf, putTarget, connectionsOf, putConnections}
 
 -- f 1, f 2 .. f n
@@ -56,13 +56,13 @@ view l =
 
 -- ---- stores in an image
 unfoldable pub write : List ℕ → Store → List ℕ
-write l (grow t) = putField (putEntryAt l (lastOf l + 1) t) lastAt 2 (lastOf l + 1)
+write l (grow t) = putField (putEntryAt l (lastOf l + 1) t) lastAt numberSize (lastOf l + 1)
 write l (entry i t) = putEntryAt l i t
-write l (fold b) = putField l foldedAt 2 (b .0)
-write l (change n) = putField l changeAt 2 (n .0)
+write l (fold b) = putField l foldedAt numberSize (b .0)
+write l (change n) = putField l changeAt numberSize (n .0)
 write l (committedHead h) = putHeadAt l committedAt h
 write l (appliedHead h) = putHeadAt l appliedAt h
-write l (value b p v) = cond (ltb p 32) (putField l (valuesAt b + 2 * p) 2 v) l
+write l (value b p v) = cond (ltb p tableLength) (putField l (valuesAt b + valueSize * p) valueSize v) l
 write l (targetValues vs) = putFields l (valuesAt ofTarget) tableWidths vs
 write l (configuration g) = putConfiguration l g
 write l (mastership m) = putMastership l m

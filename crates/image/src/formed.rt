@@ -7,52 +7,89 @@ ghost use lib.ListN.{length};
 ghost use lib.Dec.{ltb};
 ghost use Rattle.fields.specs.Field.{field, fieldsAt, ones};
 ghost use Rattle.machine.specs.WellFormed.{pairsOk, headOk, headsOk};
-ghost use Rattle.image.specs.Layout.{placeOf};
+ghost use Rattle.image.specs.Layout.{placeOf, slots, highest, stride, countIn, pathsIn, headSize, imageLength};
 ghost use Rattle.image.specs.Records.{headAt};
 ghost use Rattle.image.specs.View.{view};
 ghost use Rattle.image.specs.Formed.{allKept, statusesOk, marksOk, flagsOk, entryFormed};
 ghost use Rattle.image.specs.Promises.{TellsFormed};
+use crate::entry::place_of;
+use crate::layout::APPLIED_AT;
+use crate::layout::CHANGE_APPLY_IN;
+use crate::layout::CHANGE_AT;
+use crate::layout::CHANGE_ORDINAL_IN;
+use crate::layout::COMMITTED_AT;
+use crate::layout::COMMITTED_REVISION_AT;
+use crate::layout::CONFIGURATION_AT;
+use crate::layout::CONNECTED_1_AT;
+use crate::layout::CONNECTED_2_AT;
+use crate::layout::CONNECTED_3_AT;
+use crate::layout::CONNECTED_4_AT;
+use crate::layout::CONNECTED_5_AT;
+use crate::layout::CONNECTED_6_AT;
+use crate::layout::CONNECTED_7_AT;
+use crate::layout::CONNECTED_8_AT;
+use crate::layout::COUNT_IN;
+use crate::layout::FOLDED_AT;
+use crate::layout::HIGHEST_ORDINAL;
+use crate::layout::IMAGE_LENGTH;
+use crate::layout::INDEX_IN;
+use crate::layout::LAST_AT;
+use crate::layout::MASTERSHIP_AT;
+use crate::layout::ORDINAL_IN;
+use crate::layout::PATHS_IN;
+use crate::layout::PHASE_IN;
+use crate::layout::REVISION_IN;
+use crate::layout::RING;
+use crate::layout::ROLLBACK_APPLY_IN;
+use crate::layout::ROLLBACK_COMMIT_IN;
+use crate::layout::ROLLBACK_ORDINAL_IN;
+use crate::layout::RUNNING_AT;
+use crate::layout::SECOND_PATH_IN;
+use crate::layout::SLOTS;
+use crate::layout::STRIDE;
+use crate::layout::TARGET_IN;
+use crate::layout::THIRD_PATH_IN;
 use fields::get1;
 use fields::get2;
 use fields::get4;
 
 // The four statuses of the entry at a place.
 fn statuses_formed(s: &[u8], at: usize) -> bool
-    requires { ⌜ at + 36 ≤ length (now s) ⌝ }
+    requires { ⌜ at + stride ≤ length (now s) ⌝ }
     ensures { λ r. ⌜ r ≡ statusesOk (now (s .entry)) at ⌝ }
 {
     if 6 < get1(s, at) {
         return false;
     }
-    if 6 < get1(s, at + 1) {
+    if 6 < get1(s, at + CHANGE_APPLY_IN) {
         return false;
     }
-    if 6 < get1(s, at + 2) {
+    if 6 < get1(s, at + ROLLBACK_COMMIT_IN) {
         return false;
     }
-    get1(s, at + 3) <= 6
+    get1(s, at + ROLLBACK_APPLY_IN) <= 6
 }
 
 // The phase, r.index and the two ordinals of entry n at a place.
 fn marks_formed(s: &[u8], at: usize, n: usize) -> bool
-    requires { ⌜ at + 36 ≤ length (now s) ⌝ }
+    requires { ⌜ at + stride ≤ length (now s) ⌝ }
     ensures { λ r. ⌜ r ≡ marksOk (now (s .entry)) at n ⌝ }
 {
-    let phase = get1(s, at + 4);
+    let phase = get1(s, at + PHASE_IN);
     if phase < 1 {
         return false;
     }
     if 2 < phase {
         return false;
     }
-    let index = get2(s, at + 6) as usize;
+    let index = get2(s, at + INDEX_IN) as usize;
     if n <= index {
         return false;
     }
-    if 131070 < get4(s, at + 8) {
+    if HIGHEST_ORDINAL < get4(s, at + CHANGE_ORDINAL_IN) {
         return false;
     }
-    get4(s, at + 12) <= 131070
+    get4(s, at + ROLLBACK_ORDINAL_IN) <= HIGHEST_ORDINAL
 }
 
 // Whether the second of the two paths at a place is above the first and below 32.
@@ -70,31 +107,31 @@ fn rises(s: &[u8], at: usize) -> bool
 
 // The number of pairs, and as many paths, of the entry at a place.
 fn pairs_formed(s: &[u8], at: usize) -> bool
-    requires { ⌜ at + 36 ≤ length (now s) ⌝ }
-    ensures { λ r. ⌜ r ≡ pairsOk (field (now (s .entry)) (at + 5) 1) (fieldsAt (now (s .entry)) (at + 16) ones) ⌝ }
+    requires { ⌜ at + stride ≤ length (now s) ⌝ }
+    ensures { λ r. ⌜ r ≡ pairsOk (field (now (s .entry)) (at + countIn) 1) (fieldsAt (now (s .entry)) (at + pathsIn) ones) ⌝ }
 {
-    let n = get1(s, at + 5);
+    let n = get1(s, at + COUNT_IN);
     if n < 1 {
         return false;
     }
     if 4 < n {
         return false;
     }
-    if 32 <= get1(s, at + 16) {
+    if 32 <= get1(s, at + PATHS_IN) {
         return false;
     }
     if n < 2 {
         return true;
     }
-    if rises(s, at + 16) {
+    if rises(s, at + PATHS_IN) {
         if n < 3 {
             return true;
         }
-        if rises(s, at + 17) {
+        if rises(s, at + SECOND_PATH_IN) {
             if n < 4 {
                 return true;
             }
-            return rises(s, at + 18);
+            return rises(s, at + THIRD_PATH_IN);
         }
         return false;
     }
@@ -103,7 +140,7 @@ fn pairs_formed(s: &[u8], at: usize) -> bool
 
 // Entry n, at its place.
 fn entry_formed(s: &[u8], at: usize, n: usize) -> bool
-    requires { ⌜ (at ≡ placeOf n) × (length (now s) ≡ 4949) ⌝ }
+    requires { ⌜ (at ≡ placeOf n) × (length (now s) ≡ imageLength) ⌝ }
     ensures { λ r. ⌜ r ≡ entryFormed (now (s .entry)) n ⌝ }
 {
     if statuses_formed(s, at) {
@@ -117,27 +154,27 @@ fn entry_formed(s: &[u8], at: usize, n: usize) -> bool
 
 // Entries b + 1 to n, where their slots lie one after another.
 fn run_formed(s: &[u8], b: usize, n: usize) -> bool
-    requires { ⌜ (b ≤ n) × ((b % 128 + (n - b) ≤ 128) × (length (now s) ≡ 4949)) ⌝ }
+    requires { ⌜ (b ≤ n) × ((b % slots + (n - b) ≤ slots) × ((n ≤ highest) × (length (now s) ≡ imageLength))) ⌝ }
     ensures { λ r. ⌜ r ≡ allKept (entryFormed (now (s .entry))) b n ⌝ }
 {
-    let mut at = 36 * (b % 128);
+    let mut at = place_of(b + 1);
     let mut i = b;
     while i < n {
         if !entry_formed(s, at, i + 1) {
             return false;
         }
-        at += 36;
+        at += STRIDE;
         i += 1;
     }
     true
 }
 
-// Entries b + 1 to n, at most 128: up to the ring's end, and from its start on.
+// Entries b + 1 to n, no more than the ring has: up to the ring's end, and from its start on.
 fn entries_formed(s: &[u8], b: usize, n: usize) -> bool
-    requires { ⌜ (b ≤ n) × ((n - b ≤ 128) × ((n < 65536) × (length (now s) ≡ 4949))) ⌝ }
+    requires { ⌜ (b ≤ n) × ((n - b ≤ slots) × ((n ≤ highest) × (length (now s) ≡ imageLength))) ⌝ }
     ensures { λ r. ⌜ r ≡ allKept (entryFormed (now (s .entry))) b n ⌝ }
 {
-    let end = b + (128 - b % 128);
+    let end = b + (RING - b % RING);
     if n <= end {
         return run_formed(s, b, n);
     }
@@ -149,44 +186,44 @@ fn entries_formed(s: &[u8], b: usize, n: usize) -> bool
 
 // A head where the highest number given is n.
 fn head_formed(s: &[u8], at: usize, n: u16) -> bool
-    requires { ⌜ at + 10 ≤ length (now s) ⌝ }
+    requires { ⌜ at + headSize ≤ length (now s) ⌝ }
     ensures { λ r. ⌜ r ≡ headOk n (headAt (now (s .entry)) at) ⌝ }
 {
     let i = get2(s, at);
-    let t = get2(s, at + 2);
-    let v = get2(s, at + 4);
-    let o = get4(s, at + 6);
-    ((i <= n) & ((t <= n) & (v <= n))) & (o <= 131070)
+    let t = get2(s, at + TARGET_IN);
+    let v = get2(s, at + REVISION_IN);
+    let o = get4(s, at + ORDINAL_IN);
+    ((i <= n) & ((t <= n) & (v <= n))) & (o <= HIGHEST_ORDINAL)
 }
 
 // The two heads, Committed's change and the master, where the highest number given is n.
 fn heads_formed(s: &[u8], n: u16) -> bool
-    requires { ⌜ length (now s) ≡ 4949 ⌝ }
+    requires { ⌜ length (now s) ≡ imageLength ⌝ }
     ensures { λ r. ⌜ r ≡ headsOk (view (now (s .entry))) n ⌝ }
 {
-    let committed = head_formed(s, 4612, n);
-    let applied = head_formed(s, 4686, n);
-    let change = get2(s, 4610);
-    let revision = get2(s, 4616);
-    let master = get1(s, 4829);
+    let committed = head_formed(s, COMMITTED_AT, n);
+    let applied = head_formed(s, APPLIED_AT, n);
+    let change = get2(s, CHANGE_AT);
+    let revision = get2(s, COMMITTED_REVISION_AT);
+    let master = get1(s, MASTERSHIP_AT);
     (committed & applied) & (((change <= n) & (revision <= change)) & (master <= 8))
 }
 
 // The configuration's state, and the flags of the target and the nodes.
 fn flags_formed(s: &[u8]) -> bool
-    requires { ⌜ length (now s) ≡ 4949 ⌝ }
+    requires { ⌜ length (now s) ≡ imageLength ⌝ }
     ensures { λ r. ⌜ r ≡ flagsOk (now (s .entry)) ⌝ }
 {
-    let state = get1(s, 4824);
-    let running = get1(s, 4842);
-    let a = get1(s, 4847);
-    let b = get1(s, 4852);
-    let c = get1(s, 4857);
-    let d = get1(s, 4862);
-    let e = get1(s, 4867);
-    let f = get1(s, 4872);
-    let g = get1(s, 4877);
-    let h = get1(s, 4882);
+    let state = get1(s, CONFIGURATION_AT);
+    let running = get1(s, RUNNING_AT);
+    let a = get1(s, CONNECTED_1_AT);
+    let b = get1(s, CONNECTED_2_AT);
+    let c = get1(s, CONNECTED_3_AT);
+    let d = get1(s, CONNECTED_4_AT);
+    let e = get1(s, CONNECTED_5_AT);
+    let f = get1(s, CONNECTED_6_AT);
+    let g = get1(s, CONNECTED_7_AT);
+    let h = get1(s, CONNECTED_8_AT);
     let first = (a <= 1) & ((b <= 1) & ((c <= 1) & (d <= 1)));
     let last = (e <= 1) & ((f <= 1) & ((g <= 1) & (h <= 1)));
     ((1 <= state) & (state <= 3)) & ((running <= 1) & (first & last))
@@ -196,15 +233,15 @@ fn flags_formed(s: &[u8]) -> bool
 pub fn well_formed(s: &[u8]) -> bool
     ensures { λ r. ⌜ TellsFormed (now (s .entry)) r ⌝ }
 {
-    if s.len() != 4949 {
+    if s.len() != IMAGE_LENGTH {
         return false;
     }
-    let n = get2(s, 4608);
-    let b = get2(s, 4883);
+    let n = get2(s, LAST_AT);
+    let b = get2(s, FOLDED_AT);
     if n < b {
         return false;
     }
-    if 128 < n - b {
+    if SLOTS < n - b {
         return false;
     }
     let heads = heads_formed(s, n);

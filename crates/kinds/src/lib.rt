@@ -12,24 +12,28 @@ pub struct Ordinal(u32);
 pub struct Term(u32);
 
 impl Number {
+    // The log number n.
     pub fn of(n: u16) -> Number
         ensures { λ r. ⌜ MakesNumber n r ⌝ }
     {
         Number(n)
     }
 
+    // The number itself.
     pub fn get(self) -> u16
         ensures { λ r. ⌜ ShowsNumber self r ⌝ }
     {
         self.0
     }
 
+    // Whether two log numbers are the same.
     pub fn is(self, other: Number) -> bool
         ensures { λ r. ⌜ SameNumber self other r ⌝ }
     {
         self.0 == other.0
     }
 
+    // Whether this number is below another.
     pub fn below(self, other: Number) -> bool
         ensures { λ r. ⌜ BelowNumber self other r ⌝ }
     {
@@ -47,18 +51,21 @@ impl Number {
 }
 
 impl Ordinal {
+    // The ordinal n.
     pub fn of(n: u32) -> Ordinal
         ensures { λ r. ⌜ MakesOrdinal n r ⌝ }
     {
         Ordinal(n)
     }
 
+    // The ordinal's number.
     pub fn get(self) -> u32
         ensures { λ r. ⌜ ShowsOrdinal self r ⌝ }
     {
         self.0
     }
 
+    // Whether two ordinals are the same.
     pub fn is(self, other: Ordinal) -> bool
         ensures { λ r. ⌜ SameOrdinal self other r ⌝ }
     {
@@ -74,6 +81,7 @@ impl Ordinal {
         b + 1 == n
     }
 
+    // Whether there is no ordinal after this one.
     pub fn full(self) -> bool
         ensures { λ r. ⌜ TellsFull self r ⌝ }
     {
@@ -93,30 +101,35 @@ impl Ordinal {
 }
 
 impl Term {
+    // The term n.
     pub fn of(n: u32) -> Term
         ensures { λ r. ⌜ MakesTerm n r ⌝ }
     {
         Term(n)
     }
 
+    // The term's number.
     pub fn get(self) -> u32
         ensures { λ r. ⌜ ShowsTerm self r ⌝ }
     {
         self.0
     }
 
+    // Whether two terms are the same.
     pub fn is(self, other: Term) -> bool
         ensures { λ r. ⌜ SameTerm self other r ⌝ }
     {
         self.0 == other.0
     }
 
+    // Whether this term is before another.
     pub fn below(self, other: Term) -> bool
         ensures { λ r. ⌜ BelowTerm self other r ⌝ }
     {
         self.0 < other.0
     }
 
+    // Whether there is no term after this one.
     pub fn last(self) -> bool
         ensures { λ r. ⌜ TellsLast self r ⌝ }
     {
@@ -146,6 +159,7 @@ pub enum Status {
 }
 
 impl Status {
+    // The status's number, 0 to 6.
     pub fn code(self) -> u8
         ensures { λ r. ⌜ ShowsStatus self r ⌝ }
     {
@@ -175,6 +189,7 @@ impl Status {
         }
     }
 
+    // Whether the status is Done: Complete, Aborted, Canceled or Failed.
     pub fn done(self) -> bool
         ensures { λ r. ⌜ TellsDone self r ⌝ }
     {
@@ -189,6 +204,7 @@ impl Status {
         }
     }
 
+    // Whether the status is Complete.
     pub fn complete(self) -> bool
         ensures { λ r. ⌜ TellsComplete self r ⌝ }
     {
@@ -203,6 +219,7 @@ impl Status {
         }
     }
 
+    // Whether the status is Pending.
     pub fn pending(self) -> bool
         ensures { λ r. ⌜ TellsPending self r ⌝ }
     {
@@ -217,6 +234,7 @@ impl Status {
         }
     }
 
+    // Whether the status is Failed.
     pub fn failed(self) -> bool
         ensures { λ r. ⌜ TellsFailed self r ⌝ }
     {
@@ -240,6 +258,7 @@ pub enum Progress {
 }
 
 impl Progress {
+    // The state's number, 1 to 3.
     pub fn code(self) -> u8
         ensures { λ r. ⌜ ShowsProgress self r ⌝ }
     {
@@ -308,6 +327,7 @@ pub struct Transaction {
 }
 
 impl Transaction {
+    // The transaction with another change side.
     pub fn with_change(self, change: Side) -> Transaction
         ensures { λ r. ⌜ PutsChange self change r ⌝ }
     {
@@ -328,6 +348,7 @@ impl Transaction {
         }
     }
 
+    // The transaction with another rollback side.
     pub fn with_rollback(self, rollback: Side) -> Transaction
         ensures { λ r. ⌜ PutsRollback self rollback r ⌝ }
     {
@@ -377,6 +398,7 @@ pub struct Reply {
 }
 
 impl Event {
+    // No event.
     pub fn none() -> Event
         ensures { λ r. ⌜ MakesNoEvent r ⌝ }
     {

@@ -16,7 +16,7 @@ use Rattle.fields.proofs.Laws.{Outside, Bytes, length-put}
 use Rattle.fields.proofs.Runs.{length-puts}
 use Rattle.machine.specs.Stores.{Store, grow, entry, fold, change, committedHead, appliedHead, value, targetValues, configuration, mastership, connections, target, ofTarget}
 use Rattle.machine.specs.Calls.{Call, Outcome, unless, decide}
-use Rattle.image.specs.Layout.{entryWidths, headWidths, tableWidths, configurationWidths, mastershipWidths, targetWidths, connectionsWidths, placeOf, lastAt, changeAt, committedAt, appliedAt, valuesAt, configurationAt, mastershipAt, targetAt, connectionsAt, foldedAt, imageLength}
+use Rattle.image.specs.Layout.{entryWidths, headWidths, tableWidths, configurationWidths, mastershipWidths, targetWidths, connectionsWidths, placeOf, lastAt, changeAt, committedAt, appliedAt, valuesAt, configurationAt, mastershipAt, targetAt, connectionsAt, foldedAt, imageLength, stride, valueSize, tableLength, numberSize}
 use Rattle.image.specs.Records.{entryNumbers, putEntryAt, lastOf, foldedOf, headNumbers, putHeadAt, configurationNumbers, putConfiguration, mastershipNumbers, putMastership, targetNumbers, putTarget, connectionsNumbers, eight, putConnections}
 use Rattle.image.specs.View.{view, write, written}
 use Rattle.image.specs.Formed.{formed}
@@ -80,30 +80,30 @@ puts-both (w ∷ ws) (x ∷ xs) l m at j z h =
 
 -- ---- any store
 module _ (l m : List ℕ) (z : length m ≡ length l) (n : lastOf m ≡ lastOf l) (j : ℕ) where
-  if-both : (b : Bool) (at v : ℕ) → getD m j 0 ≡ getD l j 0 → getD (cond b (putField m at 2 v) m) j 0 ≡ getD (cond b (putField l at 2 v) l) j 0
-  if-both true at v h = put-both 2 l m at v j z (inr h)
+  if-both : (b : Bool) (at v : ℕ) → getD m j 0 ≡ getD l j 0 → getD (cond b (putField m at valueSize v) m) j 0 ≡ getD (cond b (putField l at valueSize v) l) j 0
+  if-both true at v h = put-both valueSize l m at v j z (inr h)
   if-both false at v h = h
 
   -- a byte of the new entry, or one that was the same
-  grow-both : (t : Transaction) → Both l m (placeOf (lastOf l + 1)) 36 j → getD (write m (grow t)) j 0 ≡ getD (write l (grow t)) j 0
+  grow-both : (t : Transaction) → Both l m (placeOf (lastOf l + 1)) stride j → getD (write m (grow t)) j 0 ≡ getD (write l (grow t)) j 0
   unfolding write putEntryAt
   grow-both t h =
       let at = placeOf (lastOf l + 1) in
       let x = entryNumbers t in
       let s : Boths entryWidths x l m at j = ⊎-elim (λ p. inl (refl, p)) (λ q. inr q) h in
-      ap (λ (k : ℕ). getD (putField (putFields m (placeOf (k + 1)) entryWidths x) lastAt 2 (k + 1)) j 0) n
-      ∙ put-both 2 (putFields l at entryWidths x) (putFields m at entryWidths x) lastAt (lastOf l + 1) j
+      ap (λ (k : ℕ). getD (putField (putFields m (placeOf (k + 1)) entryWidths x) lastAt numberSize (k + 1)) j 0) n
+      ∙ put-both numberSize (putFields l at entryWidths x) (putFields m at entryWidths x) lastAt (lastOf l + 1) j
       (length-puts entryWidths x m at ∙ z ∙ sym (length-puts entryWidths x l at)) (inr (puts-both entryWidths x l m at j z s))
 
   write-both : (e : Store) → getD m j 0 ≡ getD l j 0 → getD (write m e) j 0 ≡ getD (write l e) j 0
   unfolding write putEntryAt putHeadAt putConfiguration putMastership putConnections putTarget
   write-both (grow t) h = grow-both t (inr h)
   write-both (entry i t) h = puts-both entryWidths (entryNumbers t) l m (placeOf i) j z (inr h)
-  write-both (fold k) h = put-both 2 l m foldedAt (k .0) j z (inr h)
-  write-both (change k) h = put-both 2 l m changeAt (k .0) j z (inr h)
+  write-both (fold k) h = put-both numberSize l m foldedAt (k .0) j z (inr h)
+  write-both (change k) h = put-both numberSize l m changeAt (k .0) j z (inr h)
   write-both (committedHead k) h = puts-both headWidths (headNumbers k) l m committedAt j z (inr h)
   write-both (appliedHead k) h = puts-both headWidths (headNumbers k) l m appliedAt j z (inr h)
-  write-both (value t p v) h = if-both (ltb p 32) (valuesAt t + 2 * p) v h
+  write-both (value t p v) h = if-both (ltb p tableLength) (valuesAt t + valueSize * p) v h
   write-both (targetValues vs) h = puts-both tableWidths vs l m (valuesAt ofTarget) j z (inr h)
   write-both (configuration g) h = puts-both configurationWidths (configurationNumbers g) l m configurationAt j z (inr h)
   write-both (mastership x) h = puts-both mastershipWidths (mastershipNumbers x) l m mastershipAt j z (inr h)
@@ -118,11 +118,11 @@ module _ (l m : List ℕ) (a : Agree l m) (z : length l ≡ imageLength) (f : Ro
   room-m : Room (foldedOf m) (lastOf m)
   room-m = rw (same-folded l m a, same-last l m a) f
 
-  grown-byte : (t : Transaction) (j k : ℕ) → foldedOf l < k → k ≤ lastOf l + 1 → placeOf k ≤ j → j < placeOf k + 36 → (x : Bool) → ltb (lastOf l) k ≡ x
-      → Both l m (placeOf (lastOf l + 1)) 36 j
+  grown-byte : (t : Transaction) (j k : ℕ) → foldedOf l < k → k ≤ lastOf l + 1 → placeOf k ≤ j → j < placeOf k + stride → (x : Bool) → ltb (lastOf l) k ≡ x
+      → Both l m (placeOf (lastOf l + 1)) stride j
   grown-byte t j k p q r s true e =
       let d : k ≡ lastOf l + 1 = omega (arith, ltb-true (lastOf l) k e) in
-      inl (subst (λ (i : ℕ). (placeOf i ≤ j) × (j < placeOf i + 36)) d (r, s))
+      inl (subst (λ (i : ℕ). (placeOf i ≤ j) × (j < placeOf i + stride)) d (r, s))
   grown-byte t j k p q r s false e = inr (a .used j (slot k p (ltb-false (lastOf l) k e) r s))
 
   by : (e : Store) → Fits (foldedOf l) (lastOf l) e → (j : ℕ) → Used (foldedAfter (foldedOf l) e) (lastAfter (lastOf l) e) j → getD (write m e) j 0 ≡ getD (write l e) j 0

@@ -20,7 +20,7 @@ use Rattle.fields.proofs.Laws.{Outside, put-outside}
 use Rattle.fields.proofs.Runs.{Fit, puts-outside, puts-same, fields-kept}
 use Rattle.machine.proofs.Entries.{and-both}
 use Rattle.machine.specs.Stores.{Table, ofCommitted, ofApplied, ofTarget, ofBase, Store, grow, entry, fold, change, committedHead, appliedHead, value, targetValues, configuration, mastership, connections, target}
-use Rattle.image.specs.Layout.{entryWidths, headWidths, tableWidths, configurationWidths, mastershipWidths, targetWidths, connectionsWidths, placeOf, lastAt, changeAt, committedAt, appliedAt, valuesAt, configurationAt, mastershipAt, targetAt, connectionsAt, foldedAt, imageLength}
+use Rattle.image.specs.Layout.{entryWidths, headWidths, tableWidths, configurationWidths, mastershipWidths, targetWidths, connectionsWidths, placeOf, lastAt, changeAt, committedAt, appliedAt, valuesAt, configurationAt, mastershipAt, targetAt, connectionsAt, foldedAt, imageLength, slots, highest, stride, valueSize, tableLength, connectionsSize, numberSize}
 use Rattle.image.specs.Records.{flagCode, entryNumbers, putEntryAt, lastOf, foldedOf, headNumbers, putHeadAt, configurationNumbers, putConfiguration, mastershipNumbers, putMastership, targetNumbers, putTarget, connectionsNumbers, eight, putConnections}
 use Rattle.image.specs.View.{write, written}
 use Rattle.image.specs.Formed.{allKept, statusesOk, entryStatusesOk, flagsOk, codesOk}
@@ -113,7 +113,7 @@ module _ (l m : List ℕ) (a e : ℕ) (o : Outside l m a e) (c : Codes l) where
   same-running : Apart a e targetAt 5 → runningOk (targetRun m) ≡ true
   same-running h = ap (λ (x : List ℕ). runningOk x) (fields-kept l m a e o targetWidths targetAt h) ∙ c .running
 
-  same-nodes : Apart a e connectionsAt 40 → nodesOk (nodesRun m) ≡ true
+  same-nodes : Apart a e connectionsAt connectionsSize → nodesOk (nodesRun m) ≡ true
   same-nodes h = ap (λ (x : List ℕ). nodesOk x) (fields-kept l m a e o connectionsWidths connectionsAt h) ∙ c .nodes
 
   -- before the flags
@@ -125,7 +125,7 @@ module _ (l m : List ℕ) (a e : ℕ) (o : Outside l m a e) (c : Codes l) where
   above h q = record { entries = h; state = same-state (inl (omega arith)); running = same-running (inl (omega arith)); nodes = same-nodes (inl (omega arith)) }
 
   -- past the ring, where no number is kept that was not
-  same-statuses : lastAt + 2 ≤ a → foldedOf l ≤ foldedOf m → (k : ℕ) → foldedOf m < k → k ≤ lastOf m → statusesOk m (placeOf k) ≡ true
+  same-statuses : changeAt ≤ a → foldedOf l ≤ foldedOf m → (k : ℕ) → foldedOf m < k → k ≤ lastOf m → statusesOk m (placeOf k) ≡ true
   same-statuses p g k x y =
       let n : lastOf m ≡ lastOf l = last-kept l m a e o (inl p) in statuses-kept l m a e o k (inl (omega arith)) ∙ c .entries k (omega arith) (omega arith)
 
@@ -139,7 +139,7 @@ module _ (l : List ℕ) (z : length l ≡ imageLength) (f : Room (foldedOf l) (l
   stored i t h = stored-statuses _ (placeOf i) t (puts-same entryWidths (entryNumbers t) l (placeOf i) (entry-room t h) (omega arith))
 
   -- another kept number's
-  others : (i : ℕ) (t : Transaction) → foldedOf l < i → i ≤ foldedOf l + 128 → (k : ℕ) → foldedOf l < k → k ≤ lastOf l → (k ≡ i → ⊥)
+  others : (i : ℕ) (t : Transaction) → foldedOf l < i → i ≤ foldedOf l + slots → (k : ℕ) → foldedOf l < k → k ≤ lastOf l → (k ≡ i → ⊥)
       → statusesOk (putEntryAt l i t) (placeOf k) ≡ true
   others i t p q k u v d =
       statuses-kept l (putEntryAt l i t) _ _ (entry-outside l z f i t) k (entries-apart (foldedOf l) i k p q u (omega (arith, f .1 .0)) d) ∙ c .entries k u v
@@ -147,8 +147,8 @@ module _ (l : List ℕ) (z : length l ≡ imageLength) (f : Room (foldedOf l) (l
   entry-codes : (i : ℕ) (t : Transaction) → SizedEntry t → (foldedOf l < i) × (i ≤ lastOf l) → Codes (putEntryAt l i t)
   entry-codes i t h b =
       let m = putEntryAt l i t in
-      let o : Outside l m (placeOf i) (placeOf i + 36) = entry-outside l z f i t in
-      let x : placeOf i + 36 ≤ lastAt = omega arith in
+      let o : Outside l m (placeOf i) (placeOf i + stride) = entry-outside l z f i t in
+      let x : placeOf i + stride ≤ lastAt = omega arith in
       let n : lastOf m ≡ lastOf l = last-kept l m _ _ o (inr x) in
       let g : foldedOf m ≡ foldedOf l = folded-kept l m _ _ o (inr (omega arith)) in
       below l m _ _ o c (λ k p q. go k (omega arith) (omega arith) (eqb k i) refl) (omega arith)
@@ -157,22 +157,22 @@ module _ (l : List ℕ) (z : length l ≡ imageLength) (f : Room (foldedOf l) (l
       go k p q true e = subst (λ (x : ℕ). statusesOk (putEntryAt l i t) (placeOf x) ≡ true) (sym (eqb-true k i e)) (stored i t h)
       go k p q false e = others i t (b .0) (omega (arith, b .1, f .1 .0)) k p q (eqb-false k i e)
 
-  grow-codes : (t : Transaction) → SizedEntry t → (lastOf l < foldedOf l + 128) × (lastOf l < 65535)
-      → Codes (putField (putEntryAt l (lastOf l + 1) t) lastAt 2 (lastOf l + 1))
+  grow-codes : (t : Transaction) → SizedEntry t → (lastOf l < foldedOf l + slots) × (lastOf l < highest)
+      → Codes (putField (putEntryAt l (lastOf l + 1) t) lastAt numberSize (lastOf l + 1))
   unfolding write
   grow-codes t h b =
       let n = lastOf l in
       let l1 = putEntryAt l (n + 1) t in
-      let m = putField l1 lastAt 2 (n + 1) in
+      let m = putField l1 lastAt numberSize (n + 1) in
       let w = ends-write l z f (grow t) (h, b) in
       below l m _ _ (grow-outside l z f t) c (λ k p q. go k (omega (arith, w .0)) (omega (arith, w .1)) (ltb k (n + 1)) refl) (omega arith)
     where
-      up : (k : ℕ) → statusesOk (putField (putEntryAt l (lastOf l + 1) t) lastAt 2 (lastOf l + 1)) (placeOf k) ≡ statusesOk (putEntryAt l (lastOf l + 1) t) (placeOf k)
+      up : (k : ℕ) → statusesOk (putField (putEntryAt l (lastOf l + 1) t) lastAt numberSize (lastOf l + 1)) (placeOf k) ≡ statusesOk (putEntryAt l (lastOf l + 1) t) (placeOf k)
       up k =
-          statuses-kept (putEntryAt l (lastOf l + 1) t) _ lastAt (lastAt + 2) (put-outside 2 (putEntryAt l (lastOf l + 1) t) lastAt (lastOf l + 1)) k (inl (omega arith))
+          statuses-kept (putEntryAt l (lastOf l + 1) t) _ lastAt changeAt (put-outside numberSize (putEntryAt l (lastOf l + 1) t) lastAt (lastOf l + 1)) k (inl (omega arith))
 
       go : (k : ℕ) → foldedOf l < k → k ≤ lastOf l + 1 → (x : Bool) → ltb k (lastOf l + 1) ≡ x
-          → statusesOk (putField (putEntryAt l (lastOf l + 1) t) lastAt 2 (lastOf l + 1)) (placeOf k) ≡ true
+          → statusesOk (putField (putEntryAt l (lastOf l + 1) t) lastAt numberSize (lastOf l + 1)) (placeOf k) ≡ true
       go k p q true e =
           let d : k < lastOf l + 1 = ltb-true k (lastOf l + 1) e in
           up k ∙ others (lastOf l + 1) t (omega (arith, f .0)) (omega (arith, b .0)) k p (omega arith) (λ y. absurd (omega arith))
@@ -181,37 +181,37 @@ module _ (l : List ℕ) (z : length l ≡ imageLength) (f : Room (foldedOf l) (l
           up k ∙ subst (λ (x : ℕ). statusesOk (putEntryAt l (lastOf l + 1) t) (placeOf x) ≡ true) d (stored (lastOf l + 1) t h)
 
   -- ---- the last fold: fewer are kept
-  fold-codes : (b : ℕ) → (foldedOf l ≤ b) × (b ≤ lastOf l) → foldedOf (putField l foldedAt 2 b) ≡ b → Codes (putField l foldedAt 2 b)
+  fold-codes : (b : ℕ) → (foldedOf l ≤ b) × (b ≤ lastOf l) → foldedOf (putField l foldedAt numberSize b) ≡ b → Codes (putField l foldedAt numberSize b)
   fold-codes b h g =
-      let o : Outside l (putField l foldedAt 2 b) foldedAt (foldedAt + 2) = put-outside 2 l foldedAt b in
+      let o : Outside l (putField l foldedAt numberSize b) foldedAt (valuesAt ofBase) = put-outside numberSize l foldedAt b in
       above l _ _ _ o c (same-statuses l _ _ _ o c (omega arith) (omega (arith, h .0))) (omega arith)
 
-  base-codes : (p v : ℕ) → p < 32 → Codes (putField l (valuesAt ofBase + 2 * p) 2 v)
+  base-codes : (p v : ℕ) → p < tableLength → Codes (putField l (valuesAt ofBase + valueSize * p) valueSize v)
   base-codes p v h =
-      let o : Outside l (putField l (valuesAt ofBase + 2 * p) 2 v) (valuesAt ofBase + 2 * p) (valuesAt ofBase + 2 * p + 2) = put-outside 2 l (valuesAt ofBase + 2 * p) v in
-      let g : foldedOf (putField l (valuesAt ofBase + 2 * p) 2 v) ≡ foldedOf l = folded-kept l _ _ _ o (inl (omega arith)) in
+      let o : Outside l (putField l (valuesAt ofBase + valueSize * p) valueSize v) (valuesAt ofBase + valueSize * p) (valuesAt ofBase + valueSize * p + valueSize) = put-outside valueSize l (valuesAt ofBase + valueSize * p) v in
+      let g : foldedOf (putField l (valuesAt ofBase + valueSize * p) valueSize v) ≡ foldedOf l = folded-kept l _ _ _ o (inl (omega arith)) in
       above l _ _ _ o c (same-statuses l _ _ _ o c (omega arith) (omega arith)) (omega arith)
 
   -- ---- past the log
-  put-codes : (at x : ℕ) → lastAt + 2 ≤ at → at + 2 ≤ configurationAt → Codes (putField l at 2 x)
-  put-codes at x p q = let o : Outside l (putField l at 2 x) at (at + 2) = put-outside 2 l at x in below l _ _ _ o c (same-statuses l _ _ _ o c p (same-fold l _ _ _ o c (omega arith))) q
+  put-codes : (at x : ℕ) → changeAt ≤ at → at + numberSize ≤ configurationAt → Codes (putField l at numberSize x)
+  put-codes at x p q = let o : Outside l (putField l at numberSize x) at (at + numberSize) = put-outside numberSize l at x in below l _ _ _ o c (same-statuses l _ _ _ o c p (same-fold l _ _ _ o c (omega arith))) q
 
-  puts-codes : (ws xs : List ℕ) (at : ℕ) → lastAt + 2 ≤ at → at + total ws ≤ configurationAt → Codes (putFields l at ws xs)
+  puts-codes : (ws xs : List ℕ) (at : ℕ) → changeAt ≤ at → at + total ws ≤ configurationAt → Codes (putFields l at ws xs)
   puts-codes ws xs at p q =
       let o : Outside l (putFields l at ws xs) at (at + total ws) = puts-outside ws xs l at in below l _ _ _ o c (same-statuses l _ _ _ o c p (same-fold l _ _ _ o c (omega arith))) q
 
-  value-codes : (x : Bool) (b : Table) (p v : ℕ) → ltb p 32 ≡ x → Codes (cond x (putField l (valuesAt b + 2 * p) 2 v) l)
-  value-codes true ofCommitted p v e = put-codes _ v (omega arith) (omega (arith, ltb-true p 32 e))
-  value-codes true ofApplied p v e = put-codes _ v (omega arith) (omega (arith, ltb-true p 32 e))
-  value-codes true ofTarget p v e = put-codes _ v (omega arith) (omega (arith, ltb-true p 32 e))
-  value-codes true ofBase p v e = base-codes p v (ltb-true p 32 e)
+  value-codes : (x : Bool) (b : Table) (p v : ℕ) → ltb p tableLength ≡ x → Codes (cond x (putField l (valuesAt b + valueSize * p) valueSize v) l)
+  value-codes true ofCommitted p v e = put-codes _ v (omega arith) (omega (arith, ltb-true p tableLength e))
+  value-codes true ofApplied p v e = put-codes _ v (omega arith) (omega (arith, ltb-true p tableLength e))
+  value-codes true ofTarget p v e = put-codes _ v (omega arith) (omega (arith, ltb-true p tableLength e))
+  value-codes true ofBase p v e = base-codes p v (ltb-true p tableLength e)
   value-codes false b p v e = c
 
   configuration-codes : (g : Configuration) → g .term .0 < 4294967296 → Codes (putConfiguration l g)
   unfolding putConfiguration
   configuration-codes g h =
       let m = putFields l configurationAt configurationWidths (configurationNumbers g) in
-      let o : Outside l m configurationAt (configurationAt + 5) = puts-outside configurationWidths (configurationNumbers g) l configurationAt in
+      let o : Outside l m configurationAt mastershipAt = puts-outside configurationWidths (configurationNumbers g) l configurationAt in
       record {
         entries = same-statuses l m _ _ o c (omega arith) (same-fold l m _ _ o c (omega arith));
         state = ap (λ (x : List ℕ). stateOk x) (puts-same configurationWidths (configurationNumbers g) l configurationAt (configuration-room g h) (omega arith)) ∙ state-ok g;
@@ -223,7 +223,7 @@ module _ (l : List ℕ) (z : length l ≡ imageLength) (f : Room (foldedOf l) (l
   unfolding putMastership
   mastership-codes x =
       let m = putFields l mastershipAt mastershipWidths (mastershipNumbers x) in
-      let o : Outside l m mastershipAt (mastershipAt + 9) = puts-outside mastershipWidths (mastershipNumbers x) l mastershipAt in
+      let o : Outside l m mastershipAt targetAt = puts-outside mastershipWidths (mastershipNumbers x) l mastershipAt in
       record {
         entries = same-statuses l m _ _ o c (omega arith) (same-fold l m _ _ o c (omega arith));
         state = same-state l m _ _ o c (inl (omega arith));
@@ -235,7 +235,7 @@ module _ (l : List ℕ) (z : length l ≡ imageLength) (f : Room (foldedOf l) (l
   unfolding putTarget
   target-codes t h =
       let m = putFields l targetAt targetWidths (targetNumbers t) in
-      let o : Outside l m targetAt (targetAt + 5) = puts-outside targetWidths (targetNumbers t) l targetAt in
+      let o : Outside l m targetAt connectionsAt = puts-outside targetWidths (targetNumbers t) l targetAt in
       record {
         entries = same-statuses l m _ _ o c (omega arith) (same-fold l m _ _ o c (omega arith));
         state = same-state l m _ _ o c (inl (omega arith));
@@ -248,7 +248,7 @@ module _ (l : List ℕ) (z : length l ≡ imageLength) (f : Room (foldedOf l) (l
   nodes-codes xs h =
       let ns = connectionsNumbers (eight xs) in
       let m = putFields l connectionsAt connectionsWidths ns in
-      let o : Outside l m connectionsAt (connectionsAt + 40) = puts-outside connectionsWidths ns l connectionsAt in
+      let o : Outside l m connectionsAt (connectionsAt + connectionsSize) = puts-outside connectionsWidths ns l connectionsAt in
       let r : Fit connectionsWidths ns = subst (λ (y : List Connection). Fit connectionsWidths (connectionsNumbers y)) (eight-all xs (h .size)) (connections-room xs h) in
       record {
         entries = same-statuses l m _ _ o c (omega arith) (same-fold l m _ _ o c (omega arith));
@@ -266,7 +266,7 @@ module _ (l : List ℕ) (z : length l ≡ imageLength) (f : Room (foldedOf l) (l
   write-codes (change n) h = put-codes changeAt (n .0) (omega arith) (omega arith)
   write-codes (committedHead k) h = puts-codes headWidths (headNumbers k) committedAt (omega arith) (omega arith)
   write-codes (appliedHead k) h = puts-codes headWidths (headNumbers k) appliedAt (omega arith) (omega arith)
-  write-codes (value b p v) h = value-codes (ltb p 32) b p v refl
+  write-codes (value b p v) h = value-codes (ltb p tableLength) b p v refl
   write-codes (targetValues vs) h = puts-codes tableWidths vs (valuesAt ofTarget) (omega arith) (omega arith)
   write-codes (configuration g) h = configuration-codes g h
   write-codes (mastership m) h = mastership-codes m

@@ -14,8 +14,9 @@ use Rattle.machine.specs.Step.{run}
 use Rattle.image.specs.Layout.{configurationAt, imageLength}
 use Rattle.image.specs.View.{view}
 use Rattle.image.specs.Formed.{formed}
-use Rattle.controller.specs.Fresh.{zeros, freshImage, imageIf, Freshens}
-use Rattle.controller.proofs.Freshened.{shows-fresh, formed-fresh}
+use Rattle.image.specs.Fresh.{zeros, freshImage}
+use Rattle.image.proofs.Freshened.{shows-fresh, formed-fresh}
+use Rattle.controller.specs.Fresh.{imageIf, Freshens}
 use Rattle.link.specs.Runs.{Calling, stateFrom, repliesFrom}
 use Rattle.link.proofs.Lent.{bytes-put}
 use Rattle.link.proofs.Link.{Shows, shows-run, state-run, events-run, eventOf}

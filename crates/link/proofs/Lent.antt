@@ -9,7 +9,7 @@ use Rattle.fields.specs.Field.{putField, putFields}
 use Rattle.fields.proofs.Laws.{Bytes}
 use Rattle.machine.proofs.Entries.{set-all}
 use Rattle.machine.specs.Stores.{Store, grow, entry, fold, change, committedHead, appliedHead, value, targetValues, configuration, mastership, connections, target, ofTarget}
-use Rattle.image.specs.Layout.{entryWidths, headWidths, tableWidths, configurationWidths, mastershipWidths, targetWidths, connectionsWidths, placeOf, lastAt, changeAt, committedAt, appliedAt, valuesAt, configurationAt, mastershipAt, targetAt, connectionsAt, foldedAt}
+use Rattle.image.specs.Layout.{entryWidths, headWidths, tableWidths, configurationWidths, mastershipWidths, targetWidths, connectionsWidths, placeOf, lastAt, changeAt, committedAt, appliedAt, valuesAt, configurationAt, mastershipAt, targetAt, connectionsAt, foldedAt, valueSize, tableLength, numberSize}
 use Rattle.image.specs.Records.{entryNumbers, putEntryAt, lastOf, headNumbers, putHeadAt, configurationNumbers, putConfiguration, mastershipNumbers, putMastership, targetNumbers, putTarget, connectionsNumbers, eight, putConnections}
 use Rattle.image.specs.View.{write, written}
 
@@ -31,13 +31,13 @@ bytes-if false l m p q = q
 bytes-write : (l : List ℕ) (e : Store) → Bytes l → Bytes (write l e)
 unfolding write putEntryAt putHeadAt putConfiguration putMastership putConnections putTarget
 bytes-write l (grow t) h =
-    bytes-put 2 (putFields l (placeOf (lastOf l + 1)) entryWidths (entryNumbers t)) lastAt (lastOf l + 1) (bytes-puts entryWidths (entryNumbers t) l (placeOf (lastOf l + 1)) h)
+    bytes-put numberSize (putFields l (placeOf (lastOf l + 1)) entryWidths (entryNumbers t)) lastAt (lastOf l + 1) (bytes-puts entryWidths (entryNumbers t) l (placeOf (lastOf l + 1)) h)
 bytes-write l (entry i t) h = bytes-puts entryWidths (entryNumbers t) l (placeOf i) h
-bytes-write l (fold b) h = bytes-put 2 l foldedAt (b .0) h
-bytes-write l (change n) h = bytes-put 2 l changeAt (n .0) h
+bytes-write l (fold b) h = bytes-put numberSize l foldedAt (b .0) h
+bytes-write l (change n) h = bytes-put numberSize l changeAt (n .0) h
 bytes-write l (committedHead k) h = bytes-puts headWidths (headNumbers k) l committedAt h
 bytes-write l (appliedHead k) h = bytes-puts headWidths (headNumbers k) l appliedAt h
-bytes-write l (value b p v) h = bytes-if (ltb p 32) l (putField l (valuesAt b + 2 * p) 2 v) (bytes-put 2 l (valuesAt b + 2 * p) v h) h
+bytes-write l (value b p v) h = bytes-if (ltb p tableLength) l (putField l (valuesAt b + valueSize * p) valueSize v) (bytes-put valueSize l (valuesAt b + valueSize * p) v h) h
 bytes-write l (targetValues vs) h = bytes-puts tableWidths vs l (valuesAt ofTarget) h
 bytes-write l (configuration g) h = bytes-puts configurationWidths (configurationNumbers g) l configurationAt h
 bytes-write l (mastership m) h = bytes-puts mastershipWidths (mastershipNumbers m) l mastershipAt h

@@ -33,6 +33,7 @@ use Rattle.machine.specs.Folding.{mayFold}
 use Rattle.machine.specs.Rows.{rowsBy, rowsOf}
 use Rattle.machine.specs.Calls as calls
 use Rattle.machine.specs.Calls.{Call, Outcome, append, start, stop, connect, disconnect, master, sync, work, foldTo, unless, validChange, present, planOf, commits, planned, workOk, decide}
+use Rattle.image.specs.Layout.{slots, highest}
 use Rattle.image.specs.View.{view}
 use Rattle.image.specs.Formed.{formed}
 use Rattle.controller.specs.Claims.{outcomeOf}
@@ -116,7 +117,7 @@ module _ (s : State) where
   -- ---- every call
   decide-quiet : (c : Call) → Quiet (decide s c)
   unfolding decide
-  decide-quiet (append ps) = unless-quiet 3 (validChange ps) _ (unless-quiet 4 (ltb (length (s .log .entries)) 128) _ (unless-quiet 9 (ltb (last (s .log)) 65535) _ (λ x. absurd (x refl))))
+  decide-quiet (append ps) = unless-quiet 3 (validChange ps) _ (unless-quiet 4 (ltb (length (s .log .entries)) slots) _ (unless-quiet 9 (ltb (last (s .log)) highest) _ (λ x. absurd (x refl))))
   decide-quiet (calls.rollback i) = unless-quiet 5 (inLog s i) _ (unless-quiet 18 (isKept s i) _ (unless-quiet 6 (outside.mayRollBack (entryOf (s .log) i)) _ (λ x. absurd (x refl))))
   decide-quiet start = let a = outside.start (s .net .target) .answer in unless-quiet a (eqb a 0) _ (λ x. absurd (x refl))
   decide-quiet stop = let a = outside.stop (s .net .target) .answer in unless-quiet a (eqb a 0) _ (λ x. absurd (x refl))

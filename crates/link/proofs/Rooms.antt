@@ -55,6 +55,7 @@ use Rattle.machine.proofs.Entries.{set-all}
 use Rattle.machine.proofs.Cases.{and-left, and-right, or-cases}
 use Rattle.machine.specs.Calls as calls
 use Rattle.machine.specs.Calls.{Pair, Call, Outcome, append, start, stop, connect, disconnect, master, sync, work, foldTo, unless, validChange, valuesOk, pathOf, valueOf, appended, presentOne, present, planOf, commits, workOk, copyRow, decide}
+use Rattle.image.specs.Layout.{slots, highest, highestOrdinal}
 use Rattle.image.proofs.Sized.{Four, SizedEntry, SizedHead, SizedMastership, SizedTable, SizedConnections}
 use Rattle.image.proofs.Shown.{Fits, FitsAll, lastAfter, foldedAfter}
 use Rattle.link.proofs.Sizes.{Sizes, four}
@@ -106,7 +107,7 @@ module _ (d n : ℕ) where
   laid-still b Values t h = overlay-still b (t .paths) (t .values) (t .count) (h .values .small)
   laid-still b Kept t h = overlay-still b (t .paths) (t .kept) (t .count) (h .kept .small)
 
-  module _ (i : ℕ) (one : d < i) (last : i ≤ n) (few : n ≤ 65535) where
+  module _ (i : ℕ) (one : d < i) (last : i ≤ n) (few : n ≤ highest) where
     entry-still : (p : Plan) → Roomy p → Stills d n (entryRow p i)
     entry-still p r = more {e = entry i (p .entry)} (record { fits = (r .entry, (one, last)); fold = refl; last = refl }) none
 
@@ -142,7 +143,7 @@ next-small o h = go (isFull (o .0)) refl
   where
     go : (b : Bool) → isFull (o .0) ≡ b → ordinalUnless b (o .0) .0 < 4294967296
     go true e = h
-    go false e = omega (arith, leb-false 131070 (o .0) e)
+    go false e = omega (arith, leb-false highestOrdinal (o .0) e)
 
 module _ (t : Transaction) (h : Head) (i : ℕ) (f : SizedEntry t) (g : SizedHead h) (k : i < 65536) where
   changed : (x : Side) → x .ordinal .0 < 4294967296 → SizedEntry (withChange t x)
@@ -489,12 +490,12 @@ module _ (s : State) (f : Sizes s) where
 
   append-fits : (ps : List Pair) → FitsAll (s .log .folded .0) (last (s .log)) (decide s (append ps) .stores)
   unfolding decide
-  append-fits ps = go (validChange ps) refl (ltb (length (s .log .entries)) 128) refl (ltb (last (s .log)) 65535) refl
+  append-fits ps = go (validChange ps) refl (ltb (length (s .log .entries)) slots) refl (ltb (last (s .log)) highest) refl
     where
-      go : (a : Bool) → validChange ps ≡ a → (b : Bool) → ltb (length (s .log .entries)) 128 ≡ b → (c : Bool) → ltb (last (s .log)) 65535 ≡ c
+      go : (a : Bool) → validChange ps ≡ a → (b : Bool) → ltb (length (s .log .entries)) slots ≡ b → (c : Bool) → ltb (last (s .log)) highest ≡ c
           → FitsAll (s .log .folded .0) (last (s .log))
           (unless 3 a (unless 4 b (unless 9 c (record { reply = record { answer = 0; event = Rattle.kinds.specs.Events.numbered (last (s .log) + 1) }; stores = grow (appended ps) ∷ [] }))) .stores)
-      go true e true h true k = let x = ltb-true (length (s .log .entries)) 128 h in ((appended-sized ps e, (omega arith, ltb-true _ _ k)), tt)
+      go true e true h true k = let x = ltb-true (length (s .log .entries)) slots h in ((appended-sized ps e, (omega arith, ltb-true _ _ k)), tt)
       go true e true h false k = tt
       go true e false h c k = tt
       go false e b h c k = tt

@@ -17,7 +17,7 @@ use Rattle.image.specs.Formed.{formed}
 use Rattle.image.proofs.Scanned.{Room, view-last, view-folded, view-entry, formed-room}
 use Rattle.image.proofs.Sized.{Four, SizedEntry, SizedHead, SizedMastership, SizedTable, SizedConnections}
 
--- ---- a state of which each number has room, with at most 128 kept, numbered up to 65,535
+-- ---- a state of which each number has room, with at most as many kept as the ring has
 pub record Sizes (s : State) : Type 0 where
   pub room : Room (s .log .folded .0) (last (s .log))
   pub entries : (i : ℕ) → s .log .folded .0 < i → i ≤ last (s .log) → SizedEntry (entryOf (s .log) i)

@@ -21,7 +21,7 @@ use Rattle.machine.specs.Stores.{Table, ofCommitted, ofApplied, ofTarget, ofBas
 use Rattle.machine.specs.Calls as calls
 use Rattle.machine.specs.Calls.{Pair, Call, Outcome, append, foldTo, unless, accepted, validChange, appended, decide}
 use Rattle.machine.proofs.Kept as kept
-use Rattle.image.specs.Layout.{entryWidths, headWidths, tableWidths, configurationWidths, mastershipWidths, targetWidths, connectionsWidths, placeOf, lastAt, changeAt, committedAt, appliedAt, valuesAt, configurationAt, mastershipAt, targetAt, connectionsAt, foldedAt, imageLength}
+use Rattle.image.specs.Layout.{entryWidths, headWidths, tableWidths, configurationWidths, mastershipWidths, targetWidths, connectionsWidths, placeOf, lastAt, changeAt, committedAt, appliedAt, valuesAt, configurationAt, mastershipAt, targetAt, connectionsAt, foldedAt, imageLength, slots, highest, stride, valueSize, tableLength, numberSize}
 use Rattle.image.specs.Records.{toEntry, entryAt, entryNumbers, putEntryAt, lastOf, foldedOf, headNumbers, putHeadAt, configurationNumbers, putConfiguration, mastershipNumbers, putMastership, targetNumbers, putTarget, connectionsNumbers, eight, putConnections}
 use Rattle.image.specs.View.{upFrom, entriesOf, view, write, written}
 use Rattle.image.specs.Formed.{allKept, statusesOk, entryStatusesOk, flagsOk, codesOk, formed}
@@ -37,7 +37,7 @@ use Rattle.link.proofs.Rooms.{Still, Stills, none, more, isPlain, decid
 -- a byte in use, where b is the last fold and n the highest number: past the ring, or of the entry of a number kept
 pub data Used (b n j : ℕ) : Type 0 where
   past : lastAt ≤ j → Used b n j
-  slot : (k : ℕ) → b < k → k ≤ n → placeOf k ≤ j → j < placeOf k + 36 → Used b n j
+  slot : (k : ℕ) → b < k → k ≤ n → placeOf k ≤ j → j < placeOf k + stride → Used b n j
 
 -- images that agree in length and in every byte in use
 pub record Agree (l m : List ℕ) : Type 0 where
@@ -111,7 +111,7 @@ module _ (l m : List ℕ) (a : Agree l m) where
 
 -- ---- not changed: a byte of no entry kept
 abbrev pub Free : ℕ → ℕ → ℕ → Type 0
-Free b n j = (k : ℕ) → b < k → k ≤ n → (j < placeOf k) ⊎ (placeOf k + 36 ≤ j)
+Free b n j = (k : ℕ) → b < k → k ≤ n → (j < placeOf k) ⊎ (placeOf k + stride ≤ j)
 
 module _ (j : ℕ) (q : j < lastAt) where
   put-past : (l : List ℕ) (at w x : ℕ) → lastAt ≤ at → getD (putField l at w x) j 0 ≡ getD l j 0
@@ -120,11 +120,11 @@ module _ (j : ℕ) (q : j < lastAt) where
   puts-past : (l ws xs : List ℕ) (at : ℕ) → lastAt ≤ at → getD (putFields l at ws xs) j 0 ≡ getD l j 0
   puts-past l ws xs at h = puts-outside ws xs l at j (inl (omega arith))
 
-  value-past : (l : List ℕ) (x : Bool) (at v : ℕ) → lastAt ≤ at → getD (cond x (putField l at 2 v) l) j 0 ≡ getD l j 0
-  value-past l true at v h = put-past l at 2 v h
+  value-past : (l : List ℕ) (x : Bool) (at v : ℕ) → lastAt ≤ at → getD (cond x (putField l at valueSize v) l) j 0 ≡ getD l j 0
+  value-past l true at v h = put-past l at valueSize v h
   value-past l false at v h = refl
 
-  table-past : (t : Table) (p : ℕ) → lastAt ≤ valuesAt t + 2 * p
+  table-past : (t : Table) (p : ℕ) → lastAt ≤ valuesAt t + valueSize * p
   table-past ofCommitted p = omega arith
   table-past ofApplied p = omega arith
   table-past ofTarget p = omega arith
@@ -135,11 +135,11 @@ module _ (j : ℕ) (q : j < lastAt) where
     unfolding write putEntryAt putHeadAt putConfiguration putMastership putConnections putTarget
     write-unused l (grow t) h = absurd (omega (arith, h .last))
     write-unused l (entry i t) h = puts-outside entryWidths (entryNumbers t) l (placeOf i) j (free i (h .fits .1 .0) (h .fits .1 .1))
-    write-unused l (fold k) h = put-past l foldedAt 2 (k .0) (omega arith)
-    write-unused l (change k) h = put-past l changeAt 2 (k .0) (omega arith)
+    write-unused l (fold k) h = put-past l foldedAt numberSize (k .0) (omega arith)
+    write-unused l (change k) h = put-past l changeAt numberSize (k .0) (omega arith)
     write-unused l (committedHead k) h = puts-past l headWidths (headNumbers k) committedAt (omega arith)
     write-unused l (appliedHead k) h = puts-past l headWidths (headNumbers k) appliedAt (omega arith)
-    write-unused l (value t p v) h = value-past l (ltb p 32) (valuesAt t + 2 * p) v (table-past t p)
+    write-unused l (value t p v) h = value-past l (ltb p tableLength) (valuesAt t + valueSize * p) v (table-past t p)
     write-unused l (targetValues vs) h = puts-past l tableWidths vs (valuesAt ofTarget) (omega arith)
     write-unused l (configuration g) h = puts-past l configurationWidths (configurationNumbers g) configurationAt (omega arith)
     write-unused l (mastership x) h = puts-past l mastershipWidths (mastershipNumbers x) mastershipAt (omega arith)
@@ -180,7 +180,7 @@ module _ (l : List ℕ) (j : ℕ) (q : j < lastAt) where
         go : (x z : Bool) → getD (written l (unless 5 x (unless 17 z (accepted (baseRow (view l .log) b (live (view l)) ++ (fold (num b) ∷ [])))) .stores)) j 0 ≡ getD l j 0
         go true true =
             ap (λ (m : List ℕ). getD m j 0) (written-append l (baseRow (view l .log) b (live (view l))) (fold (num b) ∷ []))
-            ∙ put-past j q (written l (baseRow (view l .log) b (live (view l)))) foldedAt 2 b (omega arith)
+            ∙ put-past j q (written l (baseRow (view l .log) b (live (view l)))) foldedAt numberSize b (omega arith)
             ∙ written-unused j q (foldedOf l) (lastOf l) free (here (base-row-still (view l) (sizes l y w) (kept.formed (view l) (formed-state l w)) b)) l
         go true false = refl
         go false z = refl
@@ -206,18 +206,18 @@ module _ (l : List ℕ) (j : ℕ) (q : j < lastAt) where
       go true w = stays y w a c x
       go false w = refl
 
-  grow-keeps : (t : Transaction) → (j < placeOf (lastOf l + 1)) ⊎ (placeOf (lastOf l + 1) + 36 ≤ j) → getD (write l (grow t)) j 0 ≡ getD l j 0
+  grow-keeps : (t : Transaction) → (j < placeOf (lastOf l + 1)) ⊎ (placeOf (lastOf l + 1) + stride ≤ j) → getD (write l (grow t)) j 0 ≡ getD l j 0
   unfolding write putEntryAt
   grow-keeps t a =
       let m = putFields l (placeOf (lastOf l + 1)) entryWidths (entryNumbers t) in
-      put-outside 2 m lastAt (lastOf l + 1) j (inl (omega arith)) ∙ puts-outside entryWidths (entryNumbers t) l (placeOf (lastOf l + 1)) j a
+      put-outside numberSize m lastAt (lastOf l + 1) j (inl (omega arith)) ∙ puts-outside entryWidths (entryNumbers t) l (placeOf (lastOf l + 1)) j a
 
   -- append leaves every byte but the new entry's
-  pub append-unused : (ps : List Pair) (r : Reply) (m : List ℕ) → Claims l (append ps) r m → (j < placeOf (lastOf l + 1)) ⊎ (placeOf (lastOf l + 1) + 36 ≤ j)
+  pub append-unused : (ps : List Pair) (r : Reply) (m : List ℕ) → Claims l (append ps) r m → (j < placeOf (lastOf l + 1)) ⊎ (placeOf (lastOf l + 1) + stride ≤ j)
       → getD m j 0 ≡ getD l j 0
   unfolding outcomeOf decide written
   append-unused ps r m p a =
-      ap (λ (k : List ℕ). getD k j 0) (p .1) ∙ go (formed l) (validChange ps) (ltb (length (view l .log .entries)) 128) (ltb (last (view l .log)) 65535)
+      ap (λ (k : List ℕ). getD k j 0) (p .1) ∙ go (formed l) (validChange ps) (ltb (length (view l .log .entries)) slots) (ltb (last (view l .log)) highest)
     where
       go : (w v f h : Bool)
           → getD

@@ -1,3 +1,4 @@
+-- The laws of the machine: why its contracts and theorems hold. Assumes nothing.
 pub mod Next
 pub mod Cases
 pub mod Onward

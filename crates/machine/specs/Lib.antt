@@ -1,3 +1,4 @@
+-- The definitions of the machine: all that one has to believe of this crate. Assumes nothing.
 pub mod State
 pub mod Stores
 pub mod Rows

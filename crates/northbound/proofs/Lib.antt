@@ -1,2 +1,3 @@
+-- The laws of the exports: why its contracts and theorems hold. Assumes nothing.
 pub mod Packed
 pub mod Wider

@@ -90,6 +90,7 @@ pub extern "C" fn makowist_rollback(image: &mut [u8], number: u64) -> u64
     pack(controller::rollback(image, i))
 }
 
+// Starts the target.
 #[no_mangle]
 pub extern "C" fn makowist_start(image: &mut [u8]) -> u64
     ensures { λ r. ⌜ Claims (now (image .entry)) start r (now (image .exit)) ⌝ }
@@ -97,6 +98,7 @@ pub extern "C" fn makowist_start(image: &mut [u8]) -> u64
     pack(controller::start(image))
 }
 
+// Stops the target.
 #[no_mangle]
 pub extern "C" fn makowist_stop(image: &mut [u8]) -> u64
     ensures { λ r. ⌜ Claims (now (image .entry)) stop r (now (image .exit)) ⌝ }
@@ -104,6 +106,7 @@ pub extern "C" fn makowist_stop(image: &mut [u8]) -> u64
     pack(controller::stop(image))
 }
 
+// Connects a node.
 #[no_mangle]
 pub extern "C" fn makowist_connect(image: &mut [u8], node: u64) -> u64
     ensures { λ r. ⌜ Claims (now (image .entry)) (connect node) r (now (image .exit)) ⌝ }
@@ -112,6 +115,7 @@ pub extern "C" fn makowist_connect(image: &mut [u8], node: u64) -> u64
     pack(controller::connect(image, n))
 }
 
+// Disconnects a node.
 #[no_mangle]
 pub extern "C" fn makowist_disconnect(image: &mut [u8], node: u64) -> u64
     ensures { λ r. ⌜ Claims (now (image .entry)) (disconnect node) r (now (image .exit)) ⌝ }

@@ -1,3 +1,4 @@
+-- The definitions of the rules: all that one has to believe of this crate. Assumes nothing.
 pub mod Plans
 pub mod Sides
 pub mod Heads

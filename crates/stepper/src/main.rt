@@ -208,7 +208,7 @@ fn close(image: &[u8], out: &mut [u8], used: usize) {
 }
 
 fn main() {
-    let mut image = [0u8; 4949];
+    let mut image = [0u8; controller::IMAGE_LENGTH];
     controller::fresh(&mut image);
     let mut out = [0u8; 65536];
     let last = read_all(&mut image, &mut out);

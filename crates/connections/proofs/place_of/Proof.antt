@@ -6,23 +6,18 @@ use borrow.Author.Needs.{needs}
 use Rattle.connections.proofs.place_of.Statement.{statement}
 use Rattle.connections.proofs.place_of.Tie as tie
 
--- src/lib.rt:29:44
 sub-t7 : tie.Need-sub-t7
 sub-t7 c = node-low _ (c .if2 .taken)
 
--- src/lib.rt:29:43
 cast-t8 : tie.Need-cast-t8
 cast-t8 c = search needs
 
--- src/lib.rt:29:13
 returns : tie.Need-returns
 returns c = (simp (eq-eqb _ _ (c .before .if1 .taken), c .if2 .taken), λ _. omega (arith, node-low (c .before .before .args .n) (c .if2 .taken), node-high (c .before .before .args .n) (c .if2 .taken)))
 
--- src/lib.rt:31:9
 returns-2 : tie.Need-returns-2
 returns-2 c = (simp (eq-eqb _ _ (c .before .if1 .taken), c .if2 .left), λ e. omega (arith, e))
 
--- src/lib.rt:23:1
 returns-3 : tie.Need-returns-3
 returns-3 c = (simp (ne-eqb _ _ (c .if1 .left)), λ e. omega (arith, e))
 

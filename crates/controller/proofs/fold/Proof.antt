@@ -3,11 +3,6 @@ use Rattle.controller.proofs.Answered.{first, then, told}
 use borrow.Author.Needs.{needs}
 use Rattle.controller.proofs.fold.Statement.{statement}
 use Rattle.controller.proofs.fold.Tie as tie
-use Rattle.controller.proofs.fold.Reads as reads
-use Rattle.controller.proofs.fold.Lts as lts
-use Rattle.controller.proofs.folding.fold.Reads as fold-reads
-use Rattle.image.proofs.well_formed.Reads as well-formed-reads
-use Rattle.kinds.proofs.Reply.of.Reads as of-reads
 
 well-formed-requires : tie.Need-well-formed-requires
 well-formed-requires c κs = search needs

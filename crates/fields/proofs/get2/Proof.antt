@@ -1,41 +1,31 @@
+-- `get2` meets its contract. Assumes nothing.
 use native.Mathlib.Omega.{arith}
 use Rattle.fields.specs.Field.{field}
 use borrow.Author.Needs.{needs}
 use Rattle.fields.proofs.get2.Statement.{statement}
 use Rattle.fields.proofs.get2.Tie as tie
-use Rattle.fields.proofs.get2.Reads as reads
-use Rattle.fields.proofs.get2.Lts as lts
-use Rattle.fields.proofs.wide16.Reads as wide16-reads
 
--- src/lib.rt:30:13
 add-b : tie.Need-add-b
 add-b c = search needs
 
--- src/lib.rt:31:20
 shared-slice-read-wide16 : tie.Need-shared-slice-read-wide16
 shared-slice-read-wide16 c = search needs
 
--- src/lib.rt:31:9
 wide16-requires : tie.Need-wide16-requires
 wide16-requires c κs = search needs
 
--- src/lib.rt:32:20
 shared-slice-read-wide16-2 : tie.Need-shared-slice-read-wide16-2
 shared-slice-read-wide16-2 c = search needs
 
--- src/lib.rt:32:9
 wide16-requires-2 : tie.Need-wide16-requires-2
 wide16-requires-2 c κs = search needs
 
--- src/lib.rt:33:9
 mul-result : tie.Need-mul-result
 mul-result c = search needs
 
--- src/lib.rt:33:5
 add-result : tie.Need-add-result
 add-result c = search needs
 
--- src/lib.rt:26:1
 returns : tie.Need-returns
 unfolding field
 returns c = omega arith

@@ -1,81 +1,61 @@
+-- `get4` meets its contract. Assumes nothing.
 use native.Mathlib.Omega.{arith}
 use Rattle.fields.specs.Field.{field}
 use borrow.Author.Needs.{needs}
 use Rattle.fields.proofs.get4.Statement.{statement}
 use Rattle.fields.proofs.get4.Tie as tie
-use Rattle.fields.proofs.get4.Reads as reads
-use Rattle.fields.proofs.get4.Lts as lts
-use Rattle.fields.proofs.wide32.Reads as wide32-reads
 
--- src/lib.rt:40:13
 add-b : tie.Need-add-b
 add-b c = search needs
 
--- src/lib.rt:41:13
 add-c : tie.Need-add-c
 add-c c = search needs
 
--- src/lib.rt:42:13
 add-d : tie.Need-add-d
 add-d c = search needs
 
--- src/lib.rt:43:20
 shared-slice-read-wide32 : tie.Need-shared-slice-read-wide32
 shared-slice-read-wide32 c = search needs
 
--- src/lib.rt:43:9
 wide32-requires : tie.Need-wide32-requires
 wide32-requires c κs = search needs
 
--- src/lib.rt:44:20
 shared-slice-read-wide32-2 : tie.Need-shared-slice-read-wide32-2
 shared-slice-read-wide32-2 c = search needs
 
--- src/lib.rt:44:9
 wide32-requires-2 : tie.Need-wide32-requires-2
 wide32-requires-2 c κs = search needs
 
--- src/lib.rt:45:20
 shared-slice-read-wide32-3 : tie.Need-shared-slice-read-wide32-3
 shared-slice-read-wide32-3 c = search needs
 
--- src/lib.rt:45:9
 wide32-requires-3 : tie.Need-wide32-requires-3
 wide32-requires-3 c κs = search needs
 
--- src/lib.rt:46:20
 shared-slice-read-wide32-4 : tie.Need-shared-slice-read-wide32-4
 shared-slice-read-wide32-4 c = search needs
 
--- src/lib.rt:46:9
 wide32-requires-4 : tie.Need-wide32-requires-4
 wide32-requires-4 c κs = search needs
 
--- src/lib.rt:47:31
 mul-result : tie.Need-mul-result
 mul-result c = search needs
 
--- src/lib.rt:47:27
 add-result : tie.Need-add-result
 add-result c = search needs
 
--- src/lib.rt:47:20
 mul-result-2 : tie.Need-mul-result-2
 mul-result-2 c = search needs
 
--- src/lib.rt:47:16
 add-result-2 : tie.Need-add-result-2
 add-result-2 c = search needs
 
--- src/lib.rt:47:9
 mul-result-3 : tie.Need-mul-result-3
 mul-result-3 c = search needs
 
--- src/lib.rt:47:5
 add-result-3 : tie.Need-add-result-3
 add-result-3 c = search needs
 
--- src/lib.rt:36:1
 returns : tie.Need-returns
 unfolding field
 returns c = omega arith

@@ -1,41 +1,31 @@
+-- `get_ones` meets its contract. Assumes nothing.
 use native.Mathlib.Nat.{add-assoc}
 use Rattle.fields.specs.Field.{fieldsAt}
 use borrow.Author.Needs.{needs}
 use Rattle.fields.proofs.get_ones.Statement.{statement}
 use Rattle.fields.proofs.get_ones.Tie as tie
-use Rattle.fields.proofs.get_ones.Reads as reads
-use Rattle.fields.proofs.get_ones.Lts as lts
-use Rattle.fields.proofs.get1.Reads as get1-reads
 
--- src/lib.rt:87:6
 get1-requires : tie.Need-get1-requires
 get1-requires c κs = search needs
 
--- src/lib.rt:87:27
 add-get1 : tie.Need-add-get1
 add-get1 c = search needs
 
--- src/lib.rt:87:19
 get1-requires-2 : tie.Need-get1-requires-2
 get1-requires-2 c κs = search needs
 
--- src/lib.rt:87:44
 add-get1-2 : tie.Need-add-get1-2
 add-get1-2 c = search needs
 
--- src/lib.rt:87:36
 get1-requires-3 : tie.Need-get1-requires-3
 get1-requires-3 c κs = search needs
 
--- src/lib.rt:87:61
 add-get1-3 : tie.Need-add-get1-3
 add-get1-3 c = search needs
 
--- src/lib.rt:87:53
 get1-requires-4 : tie.Need-get1-requires-4
 get1-requires-4 c κs = search needs
 
--- src/lib.rt:83:1
 returns : tie.Need-returns
 unfolding fieldsAt
 returns c = simp add-assoc cc

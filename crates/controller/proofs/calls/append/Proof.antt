@@ -1,3 +1,4 @@
+-- `append` meets its contract. Assumes nothing.
 use Rattle.controller.proofs.Answered.{append-3, append-4, append-9, appended-to}
 use Rattle.controller.proofs.Decided.{size, fold-low}
 use mathlib.Core.Path.{sym, refl, _∙_}

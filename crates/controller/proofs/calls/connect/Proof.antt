@@ -1,54 +1,38 @@
+-- `connect` meets its contract. Assumes nothing.
 use Rattle.controller.proofs.Answered.{connect-refused, connected}
 use native.Mathlib.Omega.{arith}
 use Rattle.controller.proofs.Decided.{size}
 use borrow.Author.Needs.{needs}
 use Rattle.controller.proofs.calls.connect.Statement.{statement}
 use Rattle.controller.proofs.calls.connect.Tie as tie
-use Rattle.controller.proofs.calls.connect.Reads as reads
-use Rattle.controller.proofs.calls.connect.Lts as lts
-use Rattle.connections.proofs.connect_of.Reads as connect-of-reads
-use Rattle.image.proofs.load_connections.Reads as load-connections-reads
-use Rattle.image.proofs.load_target.Reads as load-target-reads
-use Rattle.image.proofs.store_connections.Reads as store-connections-reads
-use Rattle.kinds.proofs.Reply.of.Reads as of-reads
 
--- src/calls.rt:117:9
 load-target-requires : tie.Need-load-target-requires
 load-target-requires c κs = omega (arith, size _ (c .before .before .pre))
 
--- src/calls.rt:118:24
 load-connections-requires : tie.Need-load-connections-requires
 load-connections-requires c κs = omega (arith, size _ (c .before .before .before .before .pre))
 
--- src/calls.rt:118:9
 connect-of-requires : tie.Need-connect-of-requires
 connect-of-requires c κs = search needs
 
--- src/calls.rt:122:9
 store-connections-requires : tie.Need-store-connections-requires
 store-connections-requires c κs = omega (arith, size _ (c .before .before .before .before .before .before .before .before .before .pre))
 
--- src/calls.rt:123:9
 of-requires : tie.Need-of-requires
 of-requires c κs = search needs
 
--- src/calls.rt:123:9
 same-length : tie.Need-same-length
 same-length c = search needs
 
--- src/calls.rt:123:9
 returns : tie.Need-returns
 returns c = connected _ _ _ _ _ (c .before .before .before .before .before .before .before .before .load-connections .ensures) _ (c .before .before .before .before .before .before .before .before .before .before .load-target .ensures) (c .before .before .before .before .before .before .before .connect-of .ensures) _ (c .before .before .before .before .before .before .if1 .taken) (c .of .ensures) (c .before .before .before .store-connections .ensures)
 
--- src/calls.rt:125:5
 of-requires-2 : tie.Need-of-requires-2
 of-requires-2 c κs = search needs
 
--- src/calls.rt:113:1
 same-length-2 : tie.Need-same-length-2
 same-length-2 c = search needs
 
--- src/calls.rt:113:1
 returns-2 : tie.Need-returns-2
 returns-2 c = connect-refused _ _ _ _ _ (c .before .before .before .load-connections .ensures) _ (c .before .before .before .before .before .load-target .ensures) (c .before .before .connect-of .ensures) (c .before .if1 .left) (c .of2 .ensures)
 

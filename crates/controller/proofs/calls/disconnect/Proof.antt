@@ -1,49 +1,35 @@
+-- `disconnect` meets its contract. Assumes nothing.
 use Rattle.controller.proofs.Answered.{disconnect-refused, disconnected}
 use native.Mathlib.Omega.{arith}
 use Rattle.controller.proofs.Decided.{size}
 use borrow.Author.Needs.{needs}
 use Rattle.controller.proofs.calls.disconnect.Statement.{statement}
 use Rattle.controller.proofs.calls.disconnect.Tie as tie
-use Rattle.controller.proofs.calls.disconnect.Reads as reads
-use Rattle.controller.proofs.calls.disconnect.Lts as lts
-use Rattle.connections.proofs.disconnect_of.Reads as disconnect-of-reads
-use Rattle.image.proofs.load_connections.Reads as load-connections-reads
-use Rattle.image.proofs.store_connections.Reads as store-connections-reads
-use Rattle.kinds.proofs.Reply.of.Reads as of-reads
 
--- src/calls.rt:132:27
 load-connections-requires : tie.Need-load-connections-requires
 load-connections-requires c κs = omega (arith, size _ (c .before .before .pre))
 
--- src/calls.rt:132:9
 disconnect-of-requires : tie.Need-disconnect-of-requires
 disconnect-of-requires c κs = search needs
 
--- src/calls.rt:136:9
 store-connections-requires : tie.Need-store-connections-requires
 store-connections-requires c κs = omega (arith, size _ (c .before .before .before .before .before .before .before .pre))
 
--- src/calls.rt:137:9
 of-requires : tie.Need-of-requires
 of-requires c κs = search needs
 
--- src/calls.rt:137:9
 same-length : tie.Need-same-length
 same-length c = search needs
 
--- src/calls.rt:137:9
 returns : tie.Need-returns
 returns c = disconnected _ _ _ _ _ (c .before .before .before .before .before .before .before .before .load-connections .ensures) (c .before .before .before .before .before .before .before .disconnect-of .ensures) _ (c .before .before .before .before .before .before .if1 .taken) (c .of .ensures) (c .before .before .before .store-connections .ensures)
 
--- src/calls.rt:139:5
 of-requires-2 : tie.Need-of-requires-2
 of-requires-2 c κs = search needs
 
--- src/calls.rt:128:1
 same-length-2 : tie.Need-same-length-2
 same-length-2 c = search needs
 
--- src/calls.rt:128:1
 returns-2 : tie.Need-returns-2
 returns-2 c = disconnect-refused _ _ _ _ _ (c .before .before .before .load-connections .ensures) (c .before .before .disconnect-of .ensures) (c .before .if1 .left) (c .of2 .ensures)
 

@@ -1,14 +1,11 @@
+-- `of_commit` meets its contract. Assumes nothing.
 use borrow.Author.Tests.{eq-eqb, ne-eqb}
 use Rattle.controller.proofs.calls.of_commit.Statement.{statement}
 use Rattle.controller.proofs.calls.of_commit.Tie as tie
-use Rattle.controller.proofs.calls.of_commit.Reads as reads
-use Rattle.controller.proofs.calls.of_commit.Lts as lts
 
--- src/calls.rt:197:9
 returns : tie.Need-returns
 returns c = simp (eq-eqb _ _ (c .if1 .taken))
 
--- src/calls.rt:193:1
 returns-2 : tie.Need-returns-2
 returns-2 c = simp (ne-eqb _ _ (c .if1 .left))
 

@@ -1,3 +1,4 @@
+-- `rollback` meets its contract. Assumes nothing.
 use Rattle.controller.proofs.Answered.{this-one, rollback-5, rollback-18, rollback-6, rolled-back}
 use Rattle.controller.proofs.Decided.{size, entry-here}
 use native.Mathlib.Omega.{arith}

@@ -1,49 +1,35 @@
+-- `start` meets its contract. Assumes nothing.
 use Rattle.controller.proofs.Answered.{start-refused, started}
 use native.Mathlib.Omega.{arith}
 use Rattle.controller.proofs.Decided.{size}
 use borrow.Author.Needs.{needs}
 use Rattle.controller.proofs.calls.start.Statement.{statement}
 use Rattle.controller.proofs.calls.start.Tie as tie
-use Rattle.controller.proofs.calls.start.Reads as reads
-use Rattle.controller.proofs.calls.start.Lts as lts
-use Rattle.image.proofs.load_target.Reads as load-target-reads
-use Rattle.image.proofs.store_target.Reads as store-target-reads
-use Rattle.kinds.proofs.Reply.of.Reads as of-reads
-use Rattle.rules.proofs.start.Reads as start-reads
 
--- src/calls.rt:86:26
 load-target-requires : tie.Need-load-target-requires
 load-target-requires c κs = omega (arith, size _ (c .before .before .pre))
 
--- src/calls.rt:86:9
 start-requires : tie.Need-start-requires
 start-requires c κs = search needs
 
--- src/calls.rt:90:9
 store-target-requires : tie.Need-store-target-requires
 store-target-requires c κs = omega (arith, size _ (c .before .before .before .before .before .before .before .pre))
 
--- src/calls.rt:91:9
 of-requires : tie.Need-of-requires
 of-requires c κs = search needs
 
--- src/calls.rt:91:9
 same-length : tie.Need-same-length
 same-length c = search needs
 
--- src/calls.rt:91:9
 returns : tie.Need-returns
 returns c = started _ _ _ _ (c .before .before .before .before .before .before .before .before .load-target .ensures) (c .before .before .before .before .before .before .before .start .ensures) _ (c .before .before .before .before .before .before .if1 .taken) (c .of .ensures) (c .before .before .before .store-target .ensures)
 
--- src/calls.rt:93:5
 of-requires-2 : tie.Need-of-requires-2
 of-requires-2 c κs = search needs
 
--- src/calls.rt:82:1
 same-length-2 : tie.Need-same-length-2
 same-length-2 c = search needs
 
--- src/calls.rt:82:1
 returns-2 : tie.Need-returns-2
 returns-2 c = start-refused _ _ _ _ (c .before .before .before .load-target .ensures) (c .before .before .start .ensures) (c .before .if1 .left) (c .of2 .ensures)
 

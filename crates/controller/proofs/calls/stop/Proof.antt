@@ -1,69 +1,47 @@
+-- `stop` meets its contract. Assumes nothing.
 use Rattle.controller.proofs.Answered.{stop-refused, stopped}
 use native.Mathlib.Omega.{arith}
 use Rattle.controller.proofs.Decided.{size}
 use borrow.Author.Needs.{needs}
 use Rattle.controller.proofs.calls.stop.Statement.{statement}
 use Rattle.controller.proofs.calls.stop.Tie as tie
-use Rattle.controller.proofs.calls.stop.Reads as reads
-use Rattle.controller.proofs.calls.stop.Lts as lts
-use Rattle.connections.proofs.stop_of.Reads as stop-of-reads
-use Rattle.image.proofs.clear_target.Reads as clear-target-reads
-use Rattle.image.proofs.load_connections.Reads as load-connections-reads
-use Rattle.image.proofs.load_target.Reads as load-target-reads
-use Rattle.image.proofs.store_connections.Reads as store-connections-reads
-use Rattle.image.proofs.store_target.Reads as store-target-reads
-use Rattle.kinds.proofs.Reply.of.Reads as of-reads
-use Rattle.rules.proofs.stop.Reads as stop-reads
 
--- src/calls.rt:100:25
 load-target-requires : tie.Need-load-target-requires
 load-target-requires c κs = omega (arith, size _ (c .before .before .pre))
 
--- src/calls.rt:100:9
 stop-requires : tie.Need-stop-requires
 stop-requires c κs = search needs
 
--- src/calls.rt:104:29
 load-connections-requires : tie.Need-load-connections-requires
 load-connections-requires c κs = omega (arith, size _ (c .before .before .before .before .before .before .before .pre))
 
--- src/calls.rt:104:13
 stop-of-requires : tie.Need-stop-of-requires
 stop-of-requires c κs = search needs
 
--- src/calls.rt:105:9
 store-target-requires : tie.Need-store-target-requires
 store-target-requires c κs = omega (arith, size _ (c .before .before .before .before .before .before .before .before .before .before .pre))
 
--- src/calls.rt:106:9
 clear-target-requires : tie.Need-clear-target-requires
 clear-target-requires c κs = omega (arith, size _ (c .before .before .before .before .before .before .before .before .before .before .before .before .before .before .pre))
 
--- src/calls.rt:107:9
 store-connections-requires : tie.Need-store-connections-requires
 store-connections-requires c κs = omega (arith, size _ (c .before .before .before .before .before .before .before .before .before .before .before .before .before .before .before .before .before .before .pre))
 
--- src/calls.rt:108:9
 of-requires : tie.Need-of-requires
 of-requires c κs = search needs
 
--- src/calls.rt:108:9
 same-length : tie.Need-same-length
 same-length c = search needs
 
--- src/calls.rt:108:9
 returns : tie.Need-returns
 returns c = stopped _ _ _ _ (c .before .before .before .before .before .before .before .before .before .before .before .before .before .before .before .before .before .before .before .load-target .ensures) (c .before .before .before .before .before .before .before .before .before .before .before .before .before .before .before .before .before .before .stop .ensures) _ _ _ _ _ (c .before .before .before .before .before .before .before .before .before .before .before .before .before .before .load-connections .ensures) (c .before .before .before .before .before .before .before .before .before .before .before .before .before .stop-of .ensures) (c .before .before .before .before .before .before .before .before .before .before .before .before .before .before .before .before .before .if1 .taken) (c .of .ensures) (c .before .before .before .before .before .before .before .before .before .before .before .store-target .ensures) (c .before .before .before .before .before .before .before .clear-target .ensures) (c .before .before .before .store-connections .ensures)
 
--- src/calls.rt:110:5
 of-requires-2 : tie.Need-of-requires-2
 of-requires-2 c κs = search needs
 
--- src/calls.rt:96:1
 same-length-2 : tie.Need-same-length-2
 same-length-2 c = search needs
 
--- src/calls.rt:96:1
 returns-2 : tie.Need-returns-2
 returns-2 c = stop-refused _ _ _ _ (c .before .before .before .load-target .ensures) (c .before .before .stop .ensures) (c .before .if1 .left) (c .of2 .ensures)
 

@@ -1,103 +1,71 @@
+-- `sync` meets its contract. Assumes nothing.
 use Rattle.controller.proofs.Answered.{node-is, no-sync, sync-refused, syncing, synced}
 use native.Mathlib.Omega.{arith}
 use Rattle.controller.proofs.Decided.{size}
 use borrow.Author.Needs.{needs}
 use Rattle.controller.proofs.calls.sync.Statement.{statement}
 use Rattle.controller.proofs.calls.sync.Tie as tie
-use Rattle.controller.proofs.calls.sync.Reads as reads
-use Rattle.controller.proofs.calls.sync.Lts as lts
-use Rattle.controller.proofs.calls.is_node.Reads as is-node-reads
-use Rattle.image.proofs.copy_target.Reads as copy-target-reads
-use Rattle.image.proofs.load_configuration.Reads as load-configuration-reads
-use Rattle.image.proofs.load_connection.Reads as load-connection-reads
-use Rattle.image.proofs.load_mastership.Reads as load-mastership-reads
-use Rattle.image.proofs.load_target.Reads as load-target-reads
-use Rattle.image.proofs.store_configuration.Reads as store-configuration-reads
-use Rattle.kinds.proofs.Reply.of.Reads as of-reads
-use Rattle.rules.proofs.reaches.Reads as reaches-reads
-use Rattle.rules.proofs.synchronise.Reads as synchronise-reads
 
--- src/calls.rt:165:8
 is-node-requires : tie.Need-is-node-requires
 is-node-requires c κs = search needs
 
--- src/calls.rt:166:17
 cast-n : tie.Need-cast-n
 cast-n c = omega (arith, node-is (c .before .before .before .args .node) _ (c .before .is-node .ensures) (c .if1 .taken) .0, node-is (c .before .before .before .args .node) _ (c .before .is-node .ensures) (c .if1 .taken) .1)
 
--- src/calls.rt:167:13
 load-mastership-requires : tie.Need-load-mastership-requires
 load-mastership-requires c κs = omega (arith, size _ (c .before .before .before .before .pre))
 
--- src/calls.rt:168:31
 load-connection-requires : tie.Need-load-connection-requires
 load-connection-requires c κs = (node-is (c .before .before .before .before .before .before .args .node) _ (c .before .before .before .before .is-node .ensures) (c .before .before .before .if1 .taken) .0, (node-is (c .before .before .before .before .before .before .args .node) _ (c .before .before .before .before .is-node .ensures) (c .before .before .before .if1 .taken) .1, size _ (c .before .before .before .before .before .before .pre)))
 
--- src/calls.rt:168:57
 load-target-requires : tie.Need-load-target-requires
 load-target-requires c κs = omega (arith, size _ (c .before .before .before .before .before .before .before .before .pre))
 
--- src/calls.rt:168:13
 reaches-requires : tie.Need-reaches-requires
 reaches-requires c κs = search needs
 
--- src/calls.rt:170:29
 load-configuration-requires : tie.Need-load-configuration-requires
 load-configuration-requires c κs = omega (arith, size _ (c .before .before .before .before .before .before .before .before .before .before .before .before .pre))
 
--- src/calls.rt:170:13
 synchronise-requires : tie.Need-synchronise-requires
 synchronise-requires c κs = search needs
 
--- src/calls.rt:174:13
 store-configuration-requires : tie.Need-store-configuration-requires
 store-configuration-requires c κs = omega (arith, size _ (c .before .before .before .before .before .before .before .before .before .before .before .before .before .before .before .before .before .before .pre))
 
--- src/calls.rt:176:17
 copy-target-requires : tie.Need-copy-target-requires
 copy-target-requires c κs = omega (arith, size _ (c .before .before .before .before .before .before .before .before .before .before .before .before .before .before .before .before .before .before .before .before .before .before .before .pre))
 
--- src/calls.rt:177:17
 of-requires : tie.Need-of-requires
 of-requires c κs = search needs
 
--- src/calls.rt:177:17
 same-length : tie.Need-same-length
 same-length c = search needs
 
--- src/calls.rt:177:17
 returns : tie.Need-returns
 returns c = synced _ _ _ _ (c .before .before .before .before .before .before .before .before .before .before .before .before .before .before .before .before .before .before .before .before .before .before .before .before .before .is-node .ensures) (c .before .before .before .before .before .before .before .before .before .before .before .before .before .before .before .before .before .before .before .before .before .before .before .before .if1 .taken) _ _ (c .before .before .before .before .before .before .before .before .before .before .before .before .before .before .before .before .before .before .before .before .before .before .load-mastership .ensures) (c .before .before .before .before .before .before .before .before .before .before .before .before .before .before .before .before .before .before .before .before .load-connection .ensures) _ _ _ _ (c .before .before .before .before .before .before .before .before .before .before .before .before .before .before .before .before .before .before .load-target .ensures) (c .before .before .before .before .before .before .before .before .before .before .before .before .before .before .load-configuration .ensures) (c .before .before .before .before .before .before .before .before .before .before .before .before .before .before .before .before .before .reaches .ensures) (c .before .before .before .before .before .before .before .before .before .before .before .before .synchronise .ensures) _ _ (c .before .before .before .before .before .before .before .before .before .before .before .before .before .before .before .before .before .before .before .before .before .before .before .before .before .before .before .pre) (c .before .before .before .before .before .before .before .before .before .before .before .if2 .taken) (c .before .before .before .before .before .if3 .taken) (c .of .ensures) (c .before .before .before .before .before .before .before .before .store-configuration .ensures) (c .before .before .before .copy-target .ensures)
 
--- src/calls.rt:179:13
 of-requires-2 : tie.Need-of-requires-2
 of-requires-2 c κs = search needs
 
--- src/calls.rt:179:13
 same-length-2 : tie.Need-same-length-2
 same-length-2 c = search needs
 
--- src/calls.rt:179:13
 returns-2 : tie.Need-returns-2
 returns-2 c = syncing _ _ _ _ (c .before .before .before .before .before .before .before .before .before .before .before .before .before .before .before .before .before .before .before .before .before .is-node .ensures) (c .before .before .before .before .before .before .before .before .before .before .before .before .before .before .before .before .before .before .before .before .if1 .taken) _ _ (c .before .before .before .before .before .before .before .before .before .before .before .before .before .before .before .before .before .before .load-mastership .ensures) (c .before .before .before .before .before .before .before .before .before .before .before .before .before .before .before .before .load-connection .ensures) _ _ _ _ (c .before .before .before .before .before .before .before .before .before .before .before .before .before .before .load-target .ensures) (c .before .before .before .before .before .before .before .before .before .before .load-configuration .ensures) (c .before .before .before .before .before .before .before .before .before .before .before .before .before .reaches .ensures) (c .before .before .before .before .before .before .before .before .synchronise .ensures) _ (c .before .before .before .before .before .before .before .if2 .taken) (c .before .if3 .left) (c .of2 .ensures) (c .before .before .before .before .store-configuration .ensures)
 
--- src/calls.rt:181:9
 of-requires-3 : tie.Need-of-requires-3
 of-requires-3 c κs = search needs
 
--- src/calls.rt:181:9
 same-length-3 : tie.Need-same-length-3
 same-length-3 c = search needs
 
--- src/calls.rt:181:9
 returns-3 : tie.Need-returns-3
 returns-3 c = sync-refused _ _ _ _ (c .before .before .before .before .before .before .before .before .before .before .before .before .before .before .before .is-node .ensures) (c .before .before .before .before .before .before .before .before .before .before .before .before .before .before .if1 .taken) _ _ (c .before .before .before .before .before .before .before .before .before .before .before .before .load-mastership .ensures) (c .before .before .before .before .before .before .before .before .before .before .load-connection .ensures) _ _ _ _ (c .before .before .before .before .before .before .before .before .load-target .ensures) (c .before .before .before .before .load-configuration .ensures) (c .before .before .before .before .before .before .before .reaches .ensures) (c .before .before .synchronise .ensures) (c .before .if2 .left) (c .of3 .ensures)
 
--- src/calls.rt:183:5
 of-requires-4 : tie.Need-of-requires-4
 of-requires-4 c κs = search needs
 
--- src/calls.rt:161:1
 returns-4 : tie.Need-returns-4
 returns-4 c = no-sync _ _ _ _ (c .before .before .is-node .ensures) (c .before .if1 .left) (c .of4 .ensures)
 

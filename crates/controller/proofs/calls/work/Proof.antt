@@ -1,3 +1,4 @@
+-- `work` meets its contract. Assumes nothing.
 use Rattle.controller.proofs.Answered.{this-one, node-in, work-2, work-5, work-18, work-10, worked}
 use Rattle.controller.proofs.Decided.{size, entry-here}
 use mathlib.Core.Path.{refl}

@@ -4,11 +4,8 @@ use borrow.Author.Needs.{needs}
 use Rattle.controller.proofs.clearing.fresh.Statement.{statement}
 use Rattle.controller.proofs.clearing.fresh.Tie as tie
 
-clear-requires : tie.Need-clear-requires
-clear-requires c κs = search needs
-
-put1-requires : tie.Need-put1-requires
-put1-requires c κs = search needs
+make-fresh-requires : tie.Need-make-fresh-requires
+make-fresh-requires c κs = search needs
 
 of-requires : tie.Need-of-requires
 of-requires c κs = search needs
@@ -17,7 +14,7 @@ same-length : tie.Need-same-length
 same-length c = search needs
 
 returns : tie.Need-returns
-returns c = freshened (c .before .before .before .before .before .before .before .before .before .before .before .args .s .now) _ _ _ (c .before .before .before .before .before .before .before .before .before .if1 .taken) (c .before .before .before .before .before .before .before .clear .ensures) (c .before .before .before .put1 .ensures) (c .of .ensures)
+returns c = freshened (c .before .before .before .before .before .before .before .args .s .now) _ _ (c .before .before .before .before .before .if1 .taken) (c .before .before .before .make-fresh .ensures) (c .of .ensures)
 
 of-requires-2 : tie.Need-of-requires-2
 of-requires-2 c κs = search needs
@@ -28,4 +25,4 @@ returns-2 c = not-freshened (c .before .before .before .args .s .now) _ (c .befo
 pub fresh-spec : {M : Type 1} → statement M
 fresh-spec =
     tie.close
-    (tie.spec clear-requires put1-requires of-requires same-length returns of-requires-2 returns-2)
+    (tie.spec make-fresh-requires of-requires same-length returns of-requires-2 returns-2)

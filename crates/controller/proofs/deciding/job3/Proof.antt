@@ -1,37 +1,25 @@
+-- `job3` meets its contract. Assumes nothing.
 use native.Mathlib.Omega.{arith}
 use Rattle.controller.proofs.Decided.{entry-size, entry-here, job3-shown}
 use borrow.Author.Needs.{needs}
 use Rattle.controller.proofs.deciding.job3.Statement.{statement}
 use Rattle.controller.proofs.deciding.job3.Tie as tie
-use Rattle.controller.proofs.deciding.job3.Reads as reads
-use Rattle.controller.proofs.deciding.job3.Lts as lts
-use Rattle.controller.proofs.deciding.rest.Reads as rest-reads
-use Rattle.image.proofs.load_entry.Reads as load-entry-reads
-use Rattle.image.proofs.load_head.Reads as load-head-reads
-use Rattle.kinds.proofs.Number.of.Reads as of-reads
-use Rattle.rules.proofs.commit_rollback.Reads as commit-rollback-reads
 
--- src/deciding.rt:164:9
 load-entry-requires : tie.Need-load-entry-requires
 load-entry-requires c κs = entry-here _ _ (c .before .pre)
 
--- src/deciding.rt:165:9
 load-head-requires : tie.Need-load-head-requires
 load-head-requires c κs = let h = entry-size _ _ (c .before .before .pre) in omega arith
 
--- src/deciding.rt:166:9
 rest-requires : tie.Need-rest-requires
 rest-requires c κs = search needs
 
--- src/deciding.rt:167:34
 of-requires : tie.Need-of-requires
 of-requires c κs = search needs
 
--- src/deciding.rt:167:5
 commit-rollback-requires : tie.Need-commit-rollback-requires
 commit-rollback-requires c κs = search needs
 
--- src/deciding.rt:160:1
 returns : tie.Need-returns
 returns c = job3-shown _ _ (c .before .before .before .before .before .before .pre) _ (c .before .before .before .before .load-entry .ensures) _ _ (c .before .of .ensures) _ _ (c .before .before .before .load-head .ensures) (c .before .before .rest .ensures) (c .commit-rollback .ensures)
 

@@ -1,37 +1,25 @@
+-- `line` meets its contract. Assumes nothing.
 use native.Mathlib.Omega.{arith}
 use Rattle.controller.proofs.Decided.{size, line-shown}
 use borrow.Author.Needs.{needs}
 use Rattle.controller.proofs.deciding.line.Statement.{statement}
 use Rattle.controller.proofs.deciding.line.Tie as tie
-use Rattle.controller.proofs.deciding.line.Reads as reads
-use Rattle.controller.proofs.deciding.line.Lts as lts
-use Rattle.image.proofs.load_configuration.Reads as load-configuration-reads
-use Rattle.image.proofs.load_connection.Reads as load-connection-reads
-use Rattle.image.proofs.load_mastership.Reads as load-mastership-reads
-use Rattle.image.proofs.load_target.Reads as load-target-reads
-use Rattle.rules.proofs.line_open.Reads as line-open-reads
 
--- src/deciding.rt:128:9
 load-connection-requires : tie.Need-load-connection-requires
 load-connection-requires c κs = let h = size _ (c .before .pre .0) in omega arith
 
--- src/deciding.rt:129:9
 load-mastership-requires : tie.Need-load-mastership-requires
 load-mastership-requires c κs = let h = size _ (c .before .before .pre .0) in omega arith
 
--- src/deciding.rt:130:9
 load-target-requires : tie.Need-load-target-requires
 load-target-requires c κs = let h = size _ (c .before .before .before .pre .0) in omega arith
 
--- src/deciding.rt:131:9
 load-configuration-requires : tie.Need-load-configuration-requires
 load-configuration-requires c κs = let h = size _ (c .before .before .before .before .pre .0) in omega arith
 
--- src/deciding.rt:132:5
 line-open-requires : tie.Need-line-open-requires
 line-open-requires c κs = search needs
 
--- src/deciding.rt:124:1
 returns : tie.Need-returns
 returns c = line-shown _ _ _ _ _ _ _ (c .before .before .before .before .load-connection .ensures) (c .before .before .before .load-mastership .ensures) (c .before .before .load-target .ensures) (c .before .load-configuration .ensures) (c .line-open .ensures)
 

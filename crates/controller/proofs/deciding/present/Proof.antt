@@ -1,44 +1,33 @@
+-- `present` meets its contract. Assumes nothing.
 use Rattle.controller.proofs.Decided.{present-all}
 use borrow.Author.Needs.{needs}
 use Rattle.controller.proofs.deciding.present.Statement.{statement}
 use Rattle.controller.proofs.deciding.present.Tie as tie
-use Rattle.controller.proofs.deciding.present.Reads as reads
-use Rattle.controller.proofs.deciding.present.Lts as lts
-use Rattle.controller.proofs.deciding.present_one.Reads as present-one-reads
 
--- src/deciding.rt:66:35
 array-read-present-one : tie.Need-array-read-present-one
 array-read-present-one c = search needs
 
--- src/deciding.rt:66:9
 present-one-requires : tie.Need-present-one-requires
 present-one-requires c κs = search needs
 
--- src/deciding.rt:67:35
 array-read-present-one-2 : tie.Need-array-read-present-one-2
 array-read-present-one-2 c = search needs
 
--- src/deciding.rt:67:9
 present-one-requires-2 : tie.Need-present-one-requires-2
 present-one-requires-2 c κs = search needs
 
--- src/deciding.rt:68:35
 array-read-present-one-3 : tie.Need-array-read-present-one-3
 array-read-present-one-3 c = search needs
 
--- src/deciding.rt:68:9
 present-one-requires-3 : tie.Need-present-one-requires-3
 present-one-requires-3 c κs = search needs
 
--- src/deciding.rt:69:35
 array-read-present-one-4 : tie.Need-array-read-present-one-4
 array-read-present-one-4 c = search needs
 
--- src/deciding.rt:69:9
 present-one-requires-4 : tie.Need-present-one-requires-4
 present-one-requires-4 c κs = search needs
 
--- src/deciding.rt:60:1
 returns : tie.Need-returns
 returns c = present-all _ _ _ _ _ _ (c .before .before .before .present-one .ensures) (c .before .before .present-one2 .ensures) (c .before .present-one3 .ensures) (c .present-one4 .ensures)
 

@@ -1,3 +1,4 @@
+-- `rest` meets its contract. Assumes nothing.
 use Rattle.controller.proofs.Decided.{size, rest-folded, rest-some}
 use native.Mathlib.Omega.{arith}
 use borrow.Author.Needs.{needs}

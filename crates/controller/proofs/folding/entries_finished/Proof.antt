@@ -11,10 +11,6 @@ use Rattle.controller.specs.Claims.{finishedAt}
 use Rattle.controller.proofs.Folded.{finishedAt-of}
 use Rattle.controller.proofs.folding.entries_finished.Statement.{statement}
 use Rattle.controller.proofs.folding.entries_finished.Tie as tie
-use Rattle.controller.proofs.folding.entries_finished.Reads as reads
-use Rattle.controller.proofs.folding.entries_finished.Lts as lts
-use Rattle.controller.proofs.folding.entry_finished.Reads as entry-finished-reads
-use Rattle.image.proofs.load_entry.Reads as load-entry-reads
 
 abbrev Inv-loop : tie.InvT-loop
 Inv-loop s b n i₀ i = (b ≤ i) × ((i ≤ n) × (allKept (finishedAt s) b i ≡ true))

@@ -1,28 +1,22 @@
+-- `pairs_ok` meets its contract. Assumes nothing.
 use Rattle.machine.specs.WellFormed.{pairsOk}
 use mathlib.Core.Path.{refl}
 use borrow.Author.Needs.{needs}
 use Rattle.controller.proofs.pairs.pairs_ok.Statement.{statement}
 use Rattle.controller.proofs.pairs.pairs_ok.Tie as tie
-use Rattle.controller.proofs.pairs.pairs_ok.Reads as reads
-use Rattle.controller.proofs.pairs.pairs_ok.Lts as lts
 
--- src/pairs.rt:41:13
 array-read-a : tie.Need-array-read-a
 array-read-a c = search needs
 
--- src/pairs.rt:42:13
 array-read-b : tie.Need-array-read-b
 array-read-b c = search needs
 
--- src/pairs.rt:43:13
 array-read-c : tie.Need-array-read-c
 array-read-c c = search needs
 
--- src/pairs.rt:44:13
 array-read-d : tie.Need-array-read-d
 array-read-d c = search needs
 
--- src/pairs.rt:38:1
 returns : tie.Need-returns
 unfolding pairsOk
 returns c = refl

@@ -1,30 +1,21 @@
+-- `commit_row` meets its contract. Assumes nothing.
 use Rattle.controller.proofs.Performed.{commit-row}
 use borrow.Author.Needs.{needs}
 use Rattle.controller.proofs.perform.commit_row.Statement.{statement}
 use Rattle.controller.proofs.perform.commit_row.Tie as tie
-use Rattle.controller.proofs.perform.commit_row.Reads as reads
-use Rattle.controller.proofs.perform.commit_row.Lts as lts
-use Rattle.controller.proofs.perform.lay_by.Reads as lay-by-reads
-use Rattle.controller.proofs.perform.store_change_if.Reads as store-change-if-reads
-use Rattle.image.proofs.store_head.Reads as store-head-reads
 
--- src/perform.rt:77:5
 store-head-requires : tie.Need-store-head-requires
 store-head-requires c κs = search needs
 
--- src/perform.rt:78:5
 store-change-if-requires : tie.Need-store-change-if-requires
 store-change-if-requires c κs = search needs
 
--- src/perform.rt:79:5
 lay-by-requires : tie.Need-lay-by-requires
 lay-by-requires c κs = search needs
 
--- src/perform.rt:70:1
 same-length : tie.Need-same-length
 same-length c = search needs
 
--- src/perform.rt:70:1
 returns : tie.Need-returns
 returns c = commit-row _ _ _ _ (c .before .before .before .before .before .before .before .before .before .before .before .before .before .before .before .args .i) (c .before .before .before .before .before .before .before .before .before .before .before .before .before .before .before .args .p) (c .before .before .before .before .before .before .before .before .before .before .store-head .ensures) (c .before .before .before .before .before .before .store-change-if .ensures) (c .before .before .lay-by .ensures)
 

@@ -1,20 +1,15 @@
+-- `entry_row` meets its contract. Assumes nothing.
 use Rattle.image.specs.View.{written, write}
 use borrow.Author.Needs.{needs}
 use Rattle.controller.proofs.perform.entry_row.Statement.{statement}
 use Rattle.controller.proofs.perform.entry_row.Tie as tie
-use Rattle.controller.proofs.perform.entry_row.Reads as reads
-use Rattle.controller.proofs.perform.entry_row.Lts as lts
-use Rattle.image.proofs.store_entry.Reads as store-entry-reads
 
--- src/perform.rt:111:5
 store-entry-requires : tie.Need-store-entry-requires
 store-entry-requires c κs = search needs
 
--- src/perform.rt:106:1
 same-length : tie.Need-same-length
 same-length c = search needs
 
--- src/perform.rt:106:1
 returns : tie.Need-returns
 unfolding written write
 returns c = c .before .before .store-entry .ensures

@@ -1,33 +1,24 @@
+-- `head_row` meets its contract. Assumes nothing.
 use Rattle.controller.proofs.Performed.{row-if}
 use borrow.Author.Needs.{needs}
 use Rattle.controller.proofs.perform.head_row.Statement.{statement}
 use Rattle.controller.proofs.perform.head_row.Tie as tie
-use Rattle.controller.proofs.perform.head_row.Reads as reads
-use Rattle.controller.proofs.perform.head_row.Lts as lts
-use Rattle.controller.proofs.perform.apply_row.Reads as apply-row-reads
-use Rattle.controller.proofs.perform.commit_row.Reads as commit-row-reads
 
--- src/perform.rt:100:9
 commit-row-requires : tie.Need-commit-row-requires
 commit-row-requires c κs = search needs
 
--- src/perform.rt:101:9
 same-length : tie.Need-same-length
 same-length c = search needs
 
--- src/perform.rt:101:9
 returns : tie.Need-returns
 returns c = row-if _ _ _ _ _ _ (c .before .before .before .before .if1 .taken) (c .before .before .commit-row .ensures)
 
--- src/perform.rt:103:5
 apply-row-requires : tie.Need-apply-row-requires
 apply-row-requires c κs = search needs
 
--- src/perform.rt:95:1
 same-length-2 : tie.Need-same-length-2
 same-length-2 c = search needs
 
--- src/perform.rt:95:1
 returns-2 : tie.Need-returns-2
 returns-2 c = row-if _ _ _ _ _ _ (c .before .before .before .before .if1 .left) (c .before .before .apply-row .ensures)
 

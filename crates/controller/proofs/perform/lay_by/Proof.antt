@@ -1,48 +1,36 @@
+-- `lay_by` meets its contract. Assumes nothing.
 use Rattle.controller.proofs.Performed.{laid-none, laid-by}
 use borrow.Author.Needs.{needs}
 use Rattle.controller.proofs.perform.lay_by.Statement.{statement}
 use Rattle.controller.proofs.perform.lay_by.Tie as tie
-use Rattle.controller.proofs.perform.lay_by.Reads as reads
-use Rattle.controller.proofs.perform.lay_by.Lts as lts
-use Rattle.controller.proofs.perform.lay.Reads as lay-reads
 
--- src/perform.rt:44:13
 enum-told : tie.Need-enum-told
 enum-told c = search needs
 
--- src/perform.rt:44:13
 returns : tie.Need-returns
 returns c = laid-none _ _ _ _ (c .enum-told .given .1)
 
--- src/perform.rt:47:17
 enum-told-2 : tie.Need-enum-told-2
 enum-told-2 c = search needs
 
--- src/perform.rt:48:13
 lay-requires : tie.Need-lay-requires
 lay-requires c κs = search needs
 
--- src/perform.rt:49:13
 same-length : tie.Need-same-length
 same-length c = search needs
 
--- src/perform.rt:49:13
 returns-2 : tie.Need-returns-2
 returns-2 c = laid-by _ _ _ _ _ _ (c .before .before .before .before .before .enum-told2 .given .1) (c .before .before .lay .ensures)
 
--- src/perform.rt:52:17
 enum-told-3 : tie.Need-enum-told-3
 enum-told-3 c = search needs
 
--- src/perform.rt:53:13
 lay-requires-2 : tie.Need-lay-requires-2
 lay-requires-2 c κs = search needs
 
--- src/perform.rt:54:13
 same-length-2 : tie.Need-same-length-2
 same-length-2 c = search needs
 
--- src/perform.rt:54:13
 returns-3 : tie.Need-returns-3
 returns-3 c = laid-by _ _ _ _ _ _ (c .before .before .before .before .before .enum-told3 .given .1) (c .before .before .lay2 .ensures)
 

@@ -1,29 +1,21 @@
+-- `store_change_if` meets its contract. Assumes nothing.
 use Rattle.controller.proofs.Performed.{change-moved, change-still}
 use borrow.Author.Needs.{needs}
 use Rattle.controller.proofs.perform.store_change_if.Statement.{statement}
 use Rattle.controller.proofs.perform.store_change_if.Tie as tie
-use Rattle.controller.proofs.perform.store_change_if.Reads as reads
-use Rattle.controller.proofs.perform.store_change_if.Lts as lts
-use Rattle.image.proofs.store_change.Reads as store-change-reads
-use Rattle.kinds.proofs.Number.of.Reads as of-reads
 
--- src/perform.rt:64:25
 of-requires : tie.Need-of-requires
 of-requires c κs = search needs
 
--- src/perform.rt:64:9
 store-change-requires : tie.Need-store-change-requires
 store-change-requires c κs = search needs
 
--- src/perform.rt:65:9
 same-length : tie.Need-same-length
 same-length c = search needs
 
--- src/perform.rt:65:9
 returns : tie.Need-returns
 returns c = change-moved _ _ _ _ _ (c .before .before .before .before .before .if1 .taken) (c .before .before .before .of .ensures) (c .before .before .store-change .ensures)
 
--- src/perform.rt:59:1
 returns-2 : tie.Need-returns-2
 returns-2 c = change-still _ _ _ (c .if1 .left)
 

@@ -1,5 +1,6 @@
 -- `value` meets its contract. Assumes nothing.
-use Rattle.controller.proofs.Shows.{unread, shows-by, refuses-by, table-room, path-low, no-value, value-is}
+use Rattle.controller.proofs.Shows.{unread, shows-by, refuses-by, path-low, no-value, value-is}
+use Rattle.image.proofs.Tables.{table-room}
 use Rattle.controller.proofs.Answered.{told}
 use native.Mathlib.Omega.{arith}
 use Rattle.controller.proofs.Decided.{size}

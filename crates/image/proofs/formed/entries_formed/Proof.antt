@@ -1,41 +1,31 @@
+-- `entries_formed` meets its contract. Assumes nothing.
 use native.Mathlib.Omega.{arith}
 use Rattle.image.proofs.UpTo.{two-runs, first-falls}
 use borrow.Author.Needs.{needs}
 use Rattle.image.proofs.formed.entries_formed.Statement.{statement}
 use Rattle.image.proofs.formed.entries_formed.Tie as tie
-use Rattle.image.proofs.formed.entries_formed.Reads as reads
-use Rattle.image.proofs.formed.entries_formed.Lts as lts
-use Rattle.image.proofs.formed.run_formed.Reads as run-formed-reads
 
--- src/formed.rt:140:20
 sub-end : tie.Need-sub-end
 sub-end c = search needs
 
--- src/formed.rt:140:15
 add-end : tie.Need-add-end
 add-end c = search needs
 
--- src/formed.rt:142:9
 run-formed-requires : tie.Need-run-formed-requires
 run-formed-requires c κs = search needs
 
--- src/formed.rt:142:9
 returns : tie.Need-returns
 returns c = search needs
 
--- src/formed.rt:144:8
 run-formed-requires-2 : tie.Need-run-formed-requires-2
 run-formed-requires-2 c κs = search needs
 
--- src/formed.rt:145:9
 run-formed-requires-3 : tie.Need-run-formed-requires-3
 run-formed-requires-3 c κs = search needs
 
--- src/formed.rt:145:9
 returns-2 : tie.Need-returns-2
 returns-2 c = two-runs _ _ _ _ _ _ (c .before .before .run-formed2 .ensures) (c .before .if2 .taken) (c .run-formed3 .ensures) (omega arith) (omega (arith, c .before .before .before .if1 .left))
 
--- src/formed.rt:136:1
 returns-3 : tie.Need-returns-3
 returns-3 c = first-falls _ _ _ _ _ (c .before .run-formed2 .ensures) (c .if2 .left) (omega arith) (omega (arith, c .before .before .if1 .left))
 

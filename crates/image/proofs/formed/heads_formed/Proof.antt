@@ -1,36 +1,26 @@
+-- `heads_formed` meets its contract. Assumes nothing.
 use Rattle.fields.specs.Field.{fieldsAt}
 use Rattle.image.specs.Records.{headAt, changeOf, mastershipOf}
 use Rattle.image.specs.View.{view}
 use borrow.Author.Needs.{needs}
 use Rattle.image.proofs.formed.heads_formed.Statement.{statement}
 use Rattle.image.proofs.formed.heads_formed.Tie as tie
-use Rattle.image.proofs.formed.heads_formed.Reads as reads
-use Rattle.image.proofs.formed.heads_formed.Lts as lts
-use Rattle.fields.proofs.get1.Reads as get1-reads
-use Rattle.fields.proofs.get2.Reads as get2-reads
-use Rattle.image.proofs.formed.head_formed.Reads as head-formed-reads
 
--- src/formed.rt:147:9
 head-formed-requires : tie.Need-head-formed-requires
 head-formed-requires c κs = search needs
 
--- src/formed.rt:148:9
 head-formed-requires-2 : tie.Need-head-formed-requires-2
 head-formed-requires-2 c κs = search needs
 
--- src/formed.rt:149:9
 get2-requires : tie.Need-get2-requires
 get2-requires c κs = search needs
 
--- src/formed.rt:150:9
 get2-requires-2 : tie.Need-get2-requires-2
 get2-requires-2 c κs = search needs
 
--- src/formed.rt:151:9
 get1-requires : tie.Need-get1-requires
 get1-requires c κs = search needs
 
--- src/formed.rt:143:1
 returns : tie.Need-returns
 unfolding view headAt changeOf mastershipOf fieldsAt
 returns c = simp (c .before .before .before .before .head-formed .ensures, c .before .before .before .head-formed2 .ensures, c .before .before .get2 .ensures, c .before .get22 .ensures, c .get1 .ensures)

@@ -1,72 +1,54 @@
+-- `marks_formed` meets its contract. Assumes nothing.
 use Rattle.image.proofs.Scanned.{last-mark}
 use borrow.Author.Tests.{lt-leb, le-leb, lt-ltb, le-ltb}
 use Rattle.image.specs.Formed.{marksOk}
 use borrow.Author.Needs.{needs}
 use Rattle.image.proofs.formed.marks_formed.Statement.{statement}
 use Rattle.image.proofs.formed.marks_formed.Tie as tie
-use Rattle.image.proofs.formed.marks_formed.Reads as reads
-use Rattle.image.proofs.formed.marks_formed.Lts as lts
-use Rattle.fields.proofs.get1.Reads as get1-reads
-use Rattle.fields.proofs.get2.Reads as get2-reads
-use Rattle.fields.proofs.get4.Reads as get4-reads
 
--- src/formed.rt:38:25
 add-get1 : tie.Need-add-get1
 add-get1 c = search needs
 
--- src/formed.rt:38:9
 get1-requires : tie.Need-get1-requires
 get1-requires c κs = search needs
 
--- src/formed.rt:40:9
 returns : tie.Need-returns
 unfolding marksOk
 returns c = simp (← c .before .get1 .ensures, lt-leb _ _ (c .if1 .taken))
 
--- src/formed.rt:43:9
 returns-2 : tie.Need-returns-2
 unfolding marksOk
 returns-2 c = simp (← c .before .before .get1 .ensures, le-leb _ _ (c .before .if1 .left), lt-leb _ _ (c .if2 .taken))
 
--- src/formed.rt:45:25
 add-get2 : tie.Need-add-get2
 add-get2 c = search needs
 
--- src/formed.rt:45:17
 get2-requires : tie.Need-get2-requires
 get2-requires c κs = search needs
 
--- src/formed.rt:45:17
 cast-index : tie.Need-cast-index
 cast-index c = search needs
 
--- src/formed.rt:47:9
 returns-3 : tie.Need-returns-3
 unfolding marksOk
 returns-3 c = simp (← c .before .before .before .before .get1 .ensures, ← c .before .get2 .ensures, le-leb _ _ (c .before .before .before .if1 .left), le-leb _ _ (c .before .before .if2 .left), le-ltb _ _ (c .if3 .taken))
 
--- src/formed.rt:49:22
 add-get4 : tie.Need-add-get4
 add-get4 c = search needs
 
--- src/formed.rt:49:14
 get4-requires : tie.Need-get4-requires
 get4-requires c κs = search needs
 
--- src/formed.rt:50:9
 returns-4 : tie.Need-returns-4
 unfolding marksOk
 returns-4 c = simp (← c .before .before .before .before .before .before .get1 .ensures, ← c .before .before .before .get2 .ensures, ← c .before .get4 .ensures, le-leb _ _ (c .before .before .before .before .before .if1 .left), le-leb _ _ (c .before .before .before .before .if2 .left), lt-ltb _ _ (c .before .before .if3 .left), lt-leb _ _ (c .if4 .taken))
 
--- src/formed.rt:52:13
 add-get4-2 : tie.Need-add-get4-2
 add-get4-2 c = search needs
 
--- src/formed.rt:52:5
 get4-requires-2 : tie.Need-get4-requires-2
 get4-requires-2 c κs = search needs
 
--- src/formed.rt:34:1
 returns-5 : tie.Need-returns-5
 returns-5 c = last-mark _ _ _ _ _ _ _ (c .before .before .before .before .before .before .before .get1 .ensures) (c .before .before .before .before .get2 .ensures) (c .before .before .get4 .ensures) (c .get42 .ensures) (c .before .before .before .before .before .before .if1 .left) (c .before .before .before .before .before .if2 .left) (c .before .before .before .if3 .left) (c .before .if4 .left)
 

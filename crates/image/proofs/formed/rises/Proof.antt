@@ -1,28 +1,21 @@
+-- `rises` meets its contract. Assumes nothing.
 use borrow.Author.Tests.{lt-ltb, le-ltb}
 use borrow.Author.Needs.{needs}
 use Rattle.image.proofs.formed.rises.Statement.{statement}
 use Rattle.image.proofs.formed.rises.Tie as tie
-use Rattle.image.proofs.formed.rises.Reads as reads
-use Rattle.image.proofs.formed.rises.Lts as lts
-use Rattle.fields.proofs.get1.Reads as get1-reads
 
--- src/formed.rt:60:9
 get1-requires : tie.Need-get1-requires
 get1-requires c κs = search needs
 
--- src/formed.rt:61:21
 add-get1 : tie.Need-add-get1
 add-get1 c = search needs
 
--- src/formed.rt:61:9
 get1-requires-2 : tie.Need-get1-requires-2
 get1-requires-2 c κs = search needs
 
--- src/formed.rt:63:9
 returns : tie.Need-returns
 returns c = simp (← c .before .before .get1 .ensures, ← c .before .get12 .ensures, le-ltb _ _ (c .if1 .taken))
 
--- src/formed.rt:56:1
 returns-2 : tie.Need-returns-2
 returns-2 c = simp (← c .before .before .get1 .ensures, ← c .before .get12 .ensures, lt-ltb _ _ (c .if1 .left))
 

@@ -1,3 +1,5 @@
+-- `run_formed` meets its contract: the entries before i are formed, and `at` is the place of the next. Assumes nothing.
+use Rattle.image.specs.Layout.{slots, stride}
 use Prim.Native.Nat.{_+_, _*_, _%_, _≤_, _-_}
 use mathlib.Core.Path.{_≡_, sym, _∙_}
 use mathlib.Core.Bool.{true}
@@ -8,53 +10,43 @@ use Rattle.image.specs.Formed.{allKept, entryFormed}
 use Rattle.image.proofs.UpTo.{kept-none, kept-more, kept-not, kept-done}
 use Rattle.image.proofs.formed.run_formed.Statement.{statement}
 use Rattle.image.proofs.formed.run_formed.Tie as tie
-use Rattle.image.proofs.formed.run_formed.Reads as reads
-use Rattle.image.proofs.formed.run_formed.Lts as lts
-use Rattle.image.proofs.formed.entry_formed.Reads as entry-formed-reads
 
 abbrev Inv-loop : tie.InvT-loop
-Inv-loop s b n at₀ i₀ at i = (at ≡ 36 * (b % 128) + 36 * (i - b)) × ((b ≤ i) × ((i ≤ n) × (allKept (entryFormed s) b i ≡ true)))
+Inv-loop s b n at₀ i₀ at i = (at ≡ stride * (b % slots) + stride * (i - b)) × ((b ≤ i) × ((i ≤ n) × (allKept (entryFormed s) b i ≡ true)))
 
 abbrev μ-loop : tie.MeasureT-loop
 μ-loop s b n at₀ i₀ at i = n - i
 
--- src/formed.rt:123:18
-mul-at : tie.Need-mul-at Inv-loop μ-loop
-mul-at c = search needs
+add-place-of : tie.Need-add-place-of Inv-loop μ-loop
+add-place-of c = search needs
 
--- src/formed.rt:125:5
+place-of-requires : tie.Need-place-of-requires Inv-loop μ-loop
+place-of-requires c κs = search needs
+
 loop-holds : tie.Need-loop-holds Inv-loop μ-loop
-loop-holds c = (omega arith, (search needs, (search needs, kept-none _ _)))
+loop-holds c = (omega (arith, c .place-of .ensures), (search needs, (search needs, kept-none _ _)))
 
--- src/formed.rt:126:33
 add-entry-formed : tie.Need-add-entry-formed Inv-loop μ-loop
 add-entry-formed c = search needs
 
--- src/formed.rt:126:13
 entry-formed-requires : tie.Need-entry-formed-requires Inv-loop μ-loop
-entry-formed-requires c κs = (omega (arith, c .before .loop .inv .0, c .before .loop .inv .1 .0, c .loop-test .taken, c .before .before .before .pre .1 .0), c .before .before .before .pre .1 .1)
+entry-formed-requires c κs = (omega (arith, c .before .loop .inv .0, c .before .loop .inv .1 .0, c .loop-test .taken, c .before .before .before .before .pre .1 .0), c .before .before .before .before .pre .1 .1 .1)
 
--- src/formed.rt:127:13
 returns : tie.Need-returns Inv-loop μ-loop
 returns c = sym (kept-not _ _ _ _ (omega (arith, c .before .before .before .loop .inv .1 .0)) (omega (arith, c .before .before .loop-test .taken)) (sym (c .before .entry-formed .ensures) ∙ not-true _ (c .if1 .taken)))
 
--- src/formed.rt:129:9
 add-at : tie.Need-add-at Inv-loop μ-loop
-add-at c = omega (arith, c .before .before .before .loop .inv .0, c .before .before .before .loop .inv .1 .0, c .before .before .loop-test .taken, c .before .before .before .before .before .pre .1 .0)
+add-at c = omega (arith, c .before .before .before .loop .inv .0, c .before .before .before .loop .inv .1 .0, c .before .before .loop-test .taken, c .before .before .before .before .before .before .pre .1 .0)
 
--- src/formed.rt:130:9
 add-i : tie.Need-add-i Inv-loop μ-loop
 add-i c = search needs
 
--- src/formed.rt:125:5
 loop-less : tie.Need-loop-less Inv-loop μ-loop
 loop-less c = search needs
 
--- src/formed.rt:125:5
 loop-again : tie.Need-loop-again Inv-loop μ-loop
 loop-again c = (omega (arith, c .before .before .before .loop .inv .0, c .before .before .before .loop .inv .1 .0), (omega (arith, c .before .before .before .loop .inv .1 .0), (search needs, kept-more _ _ _ (c .before .before .before .loop .inv .1 .0) (c .before .before .before .loop .inv .1 .1 .1) (sym (c .before .entry-formed .ensures) ∙ not-false _ (c .if1 .left)))))
 
--- src/formed.rt:119:1
 returns-2 : tie.Need-returns-2 Inv-loop μ-loop
 returns-2 c = kept-done _ _ _ _ (c .before .loop .inv .1 .1 .0) (c .loop-test .left) (c .before .loop .inv .1 .1 .1)
 
@@ -64,7 +56,8 @@ run-formed-spec =
     (tie.spec
     Inv-loop
     μ-loop
-    mul-at
+    add-place-of
+    place-of-requires
     loop-holds
     add-entry-formed
     entry-formed-requires

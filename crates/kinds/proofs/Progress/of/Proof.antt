@@ -1,21 +1,17 @@
+-- `of` meets its contract. Assumes nothing.
 use borrow.Author.Tests.{ne-eqb}
 use Rattle.kinds.specs.Statuses.{progressOf}
 use Rattle.kinds.proofs.Progress.of.Statement.{statement}
 use Rattle.kinds.proofs.Progress.of.Tie as tie
-use Rattle.kinds.proofs.Progress.of.Reads as reads
-use Rattle.kinds.proofs.Progress.of.Lts as lts
 
--- src/lib.rt:231:5
 returns : tie.Need-returns
 unfolding progressOf
 returns c = rw (c .match .keys1)
 
--- src/lib.rt:231:5
 returns-2 : tie.Need-returns-2
 unfolding progressOf
 returns-2 c = rw (c .match .keys2)
 
--- src/lib.rt:231:5
 returns-3 : tie.Need-returns-3
 unfolding progressOf
 returns-3 c = simp (ne-eqb _ _ (c .match .rest .1), ne-eqb _ _ (c .match .rest .0 .1))

@@ -1,41 +1,33 @@
+-- `of` meets its contract. Assumes nothing.
 use borrow.Author.Tests.{ne-eqb}
 use Rattle.kinds.specs.Statuses.{statusOf}
 use Rattle.kinds.proofs.Status.of.Statement.{statement}
 use Rattle.kinds.proofs.Status.of.Tie as tie
-use Rattle.kinds.proofs.Status.of.Reads as reads
-use Rattle.kinds.proofs.Status.of.Lts as lts
 
--- src/lib.rt:169:5
 returns : tie.Need-returns
 unfolding statusOf
 returns c = rw (c .match .keys1)
 
--- src/lib.rt:169:5
 returns-2 : tie.Need-returns-2
 unfolding statusOf
 returns-2 c = rw (c .match .keys2)
 
--- src/lib.rt:169:5
 returns-3 : tie.Need-returns-3
 unfolding statusOf
 returns-3 c = rw (c .match .keys3)
 
--- src/lib.rt:169:5
 returns-4 : tie.Need-returns-4
 unfolding statusOf
 returns-4 c = rw (c .match .keys4)
 
--- src/lib.rt:169:5
 returns-5 : tie.Need-returns-5
 unfolding statusOf
 returns-5 c = rw (c .match .keys5)
 
--- src/lib.rt:169:5
 returns-6 : tie.Need-returns-6
 unfolding statusOf
 returns-6 c = rw (c .match .keys6)
 
--- src/lib.rt:169:5
 returns-7 : tie.Need-returns-7
 unfolding statusOf
 returns-7 c = simp (ne-eqb _ _ (c .match .rest .1), ne-eqb _ _ (c .match .rest .0 .1), ne-eqb _ _ (c .match .rest .0 .0 .1), ne-eqb _ _ (c .match .rest .0 .0 .0 .1), ne-eqb _ _ (c .match .rest .0 .0 .0 .0 .1), ne-eqb _ _ (c .match .rest .0 .0 .0 .0 .0 .1))

@@ -1,0 +1,56 @@
+-- `store_marks` meets its contract. Assumes nothing.
+use native.Mathlib.Nat.{add-assoc}
+use Rattle.fields.specs.Field.{putFields}
+use borrow.Author.Needs.{needs}
+use Rattle.image.proofs.entry.store_marks.Statement.{statement}
+use Rattle.image.proofs.entry.store_marks.Tie as tie
+
+add-put2 : tie.Need-add-put2
+add-put2 c = search needs
+
+get-requires : tie.Need-get-requires
+get-requires c κs = search needs
+
+put2-requires : tie.Need-put2-requires
+put2-requires c κs = search needs
+
+add-put4 : tie.Need-add-put4
+add-put4 c = search needs
+
+get-requires-2 : tie.Need-get-requires-2
+get-requires-2 c κs = search needs
+
+put4-requires : tie.Need-put4-requires
+put4-requires c κs = search needs
+
+add-put4-2 : tie.Need-add-put4-2
+add-put4-2 c = search needs
+
+get-requires-3 : tie.Need-get-requires-3
+get-requires-3 c κs = search needs
+
+put4-requires-2 : tie.Need-put4-requires-2
+put4-requires-2 c κs = search needs
+
+same-length : tie.Need-same-length
+same-length c = search needs
+
+returns : tie.Need-returns
+unfolding putFields
+returns c = simp add-assoc cc
+
+pub store-marks-spec : {M : Type 1} → statement M
+store-marks-spec =
+    tie.close
+    (tie.spec
+    add-put2
+    get-requires
+    put2-requires
+    add-put4
+    get-requires-2
+    put4-requires
+    add-put4-2
+    get-requires-3
+    put4-requires-2
+    same-length
+    returns)

@@ -1,0 +1,30 @@
+-- `store_node` meets its contract. Assumes nothing.
+use Rattle.fields.specs.Field.{putFields}
+use Rattle.image.specs.Records.{putNodeAt}
+use borrow.Author.Needs.{needs}
+use Rattle.image.proofs.nodes.store_node.Statement.{statement}
+use Rattle.image.proofs.nodes.store_node.Tie as tie
+
+put4-requires : tie.Need-put4-requires
+put4-requires c κs = search needs
+
+add-put1 : tie.Need-add-put1
+add-put1 c = search needs
+
+flag-code-requires : tie.Need-flag-code-requires
+flag-code-requires c κs = search needs
+
+put1-requires : tie.Need-put1-requires
+put1-requires c κs = search needs
+
+same-length : tie.Need-same-length
+same-length c = search needs
+
+returns : tie.Need-returns
+unfolding putNodeAt putFields
+returns c = cc
+
+pub store-node-spec : {M : Type 1} → statement M
+store-node-spec =
+    tie.close
+    (tie.spec put4-requires add-put1 flag-code-requires put1-requires same-length returns)
