@@ -57,8 +57,8 @@ pub struct Node(u8);
 
 impl Node {
     /// The node of that number, from 1 to 8.
-    pub fn new(number: u16) -> Option<Node> {
-        (1..=NODES as u16).contains(&number).then_some(Node(number as u8))
+    pub fn new(number: u64) -> Option<Node> {
+        (1..=NODES as u64).contains(&number).then_some(Node(number as u8))
     }
 
     pub fn number(self) -> u8 {
@@ -431,8 +431,8 @@ impl State {
     }
 
     /// Asks for the rollback of a committed change.
-    pub fn rollback(&mut self, number: u16) -> Result<(), Refusal> {
-        let place = self.place(Number(number))?;
+    pub fn rollback(&mut self, number: u64) -> Result<(), Refusal> {
+        let place = self.place(self.given(number)?)?;
         let transaction = &mut self.log[place];
         if transaction.phase != Phase::Change || transaction.c.commit != Status::Complete {
             return Err(Refusal::NoRollback);
@@ -464,7 +464,7 @@ impl State {
         Ok(())
     }
 
-    pub fn connect(&mut self, node: u16) -> Result<(), Refusal> {
+    pub fn connect(&mut self, node: u64) -> Result<(), Refusal> {
         let node = Node::new(node).ok_or(Refusal::OutOfRange)?;
         let connection = &mut self.connections[node.place()];
         if connection.connected {
@@ -478,7 +478,7 @@ impl State {
         Ok(())
     }
 
-    pub fn disconnect(&mut self, node: u16) -> Result<(), Refusal> {
+    pub fn disconnect(&mut self, node: u64) -> Result<(), Refusal> {
         let node = Node::new(node).ok_or(Refusal::OutOfRange)?;
         let connection = &mut self.connections[node.place()];
         if !connection.connected {
@@ -490,7 +490,7 @@ impl State {
 
     /// Makes a connected node the master where there is none; frees the mastership of a master that is not connected, or
     /// that has reconnected.
-    pub fn master(&mut self, node: u16) -> Result<(), Refusal> {
+    pub fn master(&mut self, node: u64) -> Result<(), Refusal> {
         let node = Node::new(node).ok_or(Refusal::OutOfRange)?;
         let connection = self.connection(node);
         match self.mastership.master {
@@ -515,7 +515,7 @@ impl State {
     }
 
     /// Begins, or ends, the synchronising of the target with the applied values in a new term.
-    pub fn sync(&mut self, node: u16) -> Result<(), Refusal> {
+    pub fn sync(&mut self, node: u64) -> Result<(), Refusal> {
         let node = Node::new(node).ok_or(Refusal::OutOfRange)?;
         if self.mastership.master != Some(node) {
             return Err(Refusal::NotMaster);
@@ -536,13 +536,13 @@ impl State {
     }
 
     /// One step of one of the four jobs, by a node, on a transaction.
-    pub fn work(&mut self, node: u16, job: u16, number: u16, outcome: u16, cut: u16) -> Worked {
+    pub fn work(&mut self, node: u64, job: u64, number: u64, outcome: u64, cut: u64) -> Worked {
         let (node, job, outcome, cut) = match jobs::ranged(node, job, outcome, cut) {
             Some(ranged) => ranged,
             None => return Worked::refused(Refusal::OutOfRange),
         };
-        let place = match self.place(Number(number)) {
-            Ok(place) => place,
+        let (number, place) = match self.given(number).and_then(|number| Ok((number, self.place(number)?))) {
+            Ok(found) => found,
             Err(refusal) => return Worked::refused(refusal),
         };
         if self.mastership.master != Some(node) {
@@ -553,7 +553,7 @@ impl State {
         let mut transaction = self.log[place];
         let worked = Work {
             job,
-            number: Number(number),
+            number,
             outcome,
             cut,
             transaction: &mut transaction,
@@ -567,9 +567,9 @@ impl State {
     }
 
     /// Folds the front of the log away, up to that number.
-    pub fn fold(&mut self, number: u16) -> Result<(), Refusal> {
-        let number = Number(number);
-        if number <= self.folded || number > self.highest() {
+    pub fn fold(&mut self, number: u64) -> Result<(), Refusal> {
+        let number = self.given(number)?;
+        if number <= self.folded {
             return Err(Refusal::NoSuchNumber);
         }
         if Hindrance::ALL.iter().any(|hindrance| self.is_hindered(number, *hindrance)) {
@@ -614,6 +614,12 @@ impl State {
     pub fn live(&self) -> impl Iterator<Item = Number> + '_ {
         let kept = |number: Number| (number > self.folded).then_some(number);
         std::iter::successors(kept(self.committed.revision), move |number| kept(self.transaction(*number)?.r_index))
+    }
+
+    /// The number as a transaction's, where it is one that was given. It is compared in all its bits.
+    pub fn given(&self, number: u64) -> Result<Number, Refusal> {
+        let was_given = (1..=u64::from(self.highest().0)).contains(&number);
+        was_given.then_some(Number(number as u16)).ok_or(Refusal::NoSuchNumber)
     }
 
     /// The transaction of that number, where it is kept.

@@ -1,5 +1,6 @@
 //! Wrong copies of one rule, to show that the comparison finds them. Only the comparison asks for one.
 
+use crate::arguments::{Argument, Numbers};
 use crate::controller::{
     overlay, ConfigurationState, Event, Hindrance, Number, Phase, Refusal, Stage, State, Status, Term, Values, LOG_LIMIT,
 };
@@ -68,6 +69,10 @@ pub enum Fault {
     MasterBefore18,
     /// Number 0 is refused by 18 before 5.
     FoldedBefore5,
+    /// Of a number of that meaning only so many bits are looked at.
+    Narrowed(Argument, u32),
+    /// A room of an odd length is taken for one byte longer.
+    OddRoomTakenAsMore,
 }
 
 impl Fault {
@@ -85,6 +90,8 @@ impl Fault {
         all.extend([Fault::FoldedMarkNotDone, Fault::LivePastTheFold, Fault::FullByHighest]);
         all.extend([Fault::LastNumberForgotten, Fault::LastBeforeFull, Fault::RollbackWithout18]);
         all.extend([Fault::WorkWithout18, Fault::ReadWithout18, Fault::MasterBefore18, Fault::FoldedBefore5]);
+        all.extend(Argument::ALL.iter().flat_map(|argument| [16, 32].map(|bits| Fault::Narrowed(*argument, bits))));
+        all.push(Fault::OddRoomTakenAsMore);
         all
     }
 
@@ -95,6 +102,16 @@ impl Fault {
 
     /// As `northbound::act`, with this fault in it.
     pub fn act(self, state: &mut State, request: &Request) -> Served {
+        if let Fault::Narrowed(argument, bits) = self {
+            let mut narrowed = request.clone();
+            narrow(narrowed.numbers(), argument, bits);
+            return act(state, &narrowed);
+        }
+        self.acted(state, request)
+    }
+
+    /// The faults of the rules.
+    fn acted(self, state: &mut State, request: &Request) -> Served {
         let before = state.clone();
         let served = act(state, request);
         match self {
@@ -137,7 +154,7 @@ impl Fault {
     fn folded(self, before: State, state: &mut State, request: &Request, served: Served) -> Served {
         match (self, request, served.reply) {
             (Fault::FoldDespite(hindrance), Request::Fold(number), Err(Refusal::NotFinished)) => {
-                return folded_despite(state, Number(*number), hindrance, served);
+                return folded_despite(state, *number, hindrance, served);
             }
             (Fault::BaseNotLaid, Request::Fold(_), Ok(_)) => state.base = before.base,
             (Fault::BaseNewestFirst, Request::Fold(_), Ok(_)) => {
@@ -161,7 +178,7 @@ impl Fault {
     /// What is answered, with this fault, in place of a call's reply to the state before it; nothing is changed then.
     fn answered(self, before: &State, request: &Request, served: Served) -> Option<Result<Answer, Refusal>> {
         let is_folded = |number: Number| number != Number::NONE && number <= before.folded;
-        let not_master = |node: u16| before.mastership.master.map(|master| u16::from(master.number())) != Some(node);
+        let not_master = |node: u64| before.mastership.master.map(|master| u64::from(master.number())) != Some(node);
         let opened = matches!(served.rule, Some(Rule::CommitChangeOpen | Rule::CommitRollbackOpen));
         let refusal = match (self, request, served.reply) {
             (Fault::FoldedMarkNotDone, _, Ok(_)) if opened && is_folded(before.committed.index) => Refusal::NoRule,
@@ -199,17 +216,24 @@ impl Fault {
     }
 
     /// As `northbound::live_of`, with this fault in it.
-    pub fn live_of(self, state: Option<&State>, room: &mut [u16]) -> u64 {
+    pub fn live_of(self, state: Option<&State>, room: &mut [u8]) -> u64 {
         match state {
             Some(state) if self == Fault::LivePastTheFold => northbound::listed(&live_past_the_fold(state), room),
+            Some(state) if self == Fault::OddRoomTakenAsMore => live_in_even_room(state, room),
             _ => northbound::live_of(state, room),
         }
     }
 
     /// The query that is answered in place of this one, with this fault.
     pub fn misread(self, state: Option<&State>, query: Query) -> Query {
-        let is_folded = |number: u16| state.is_some_and(|state| state.place(Number(number)) == Err(Refusal::Folded));
+        let is_folded = |number: u64| {
+            state.is_some_and(|state| state.given(number).and_then(|number| state.place(number)) == Err(Refusal::Folded))
+        };
         match (self, query) {
+            (Fault::Narrowed(argument, bits), mut query) => {
+                narrow(query.numbers(), argument, bits);
+                query
+            }
             (Fault::ReadWithout18, Query::Transaction { number, field }) if is_folded(number) => {
                 Query::Transaction { number: 0, field }
             }
@@ -222,7 +246,14 @@ impl Fault {
     }
 }
 
-fn with_cut(request: &Request, cut: u16) -> Request {
+/// Leaves the numbers of that meaning only their lowest bits.
+fn narrow(numbers: Numbers, argument: Argument, bits: u32) {
+    for (_, number) in numbers.into_iter().filter(|(each, _)| *each == argument) {
+        *number &= (1 << bits) - 1;
+    }
+}
+
+fn with_cut(request: &Request, cut: u64) -> Request {
     match *request {
         Request::Work { node, job, number, outcome, .. } => Request::Work { node, job, number, outcome, cut },
         ref other => other.clone(),
@@ -242,7 +273,9 @@ fn opened_in_flight(state: &mut State, request: &Request, served: Served) -> Ser
     let Request::Work { job: 1, number, cut, .. } = *request else {
         return served;
     };
-    let number = Number(number);
+    let Ok(number) = state.given(number) else {
+        return served;
+    };
     let returned = state.transaction(state.committed.index).is_some_and(|last| last.r.commit.is_done());
     let waits = state.committed.change == number.before()
         && state.transaction(number).is_some_and(|transaction| transaction.c.commit == Status::Pending);
@@ -269,7 +302,7 @@ fn pushed_on_stale_term(state: &mut State, request: &Request) -> Served {
 
 fn freed_at_conn(state: &mut State, request: &Request, served: Served) -> Served {
     match (request, state.mastership.master) {
-        (Request::Master(node), Some(master)) if *node == u16::from(master.number()) => {
+        (Request::Master(node), Some(master)) if *node == u64::from(master.number()) => {
             state.mastership.master = None;
             Served { reply: Ok(Answer::Nothing), rule: None }
         }
@@ -278,7 +311,8 @@ fn freed_at_conn(state: &mut State, request: &Request, served: Served) -> Served
 }
 
 /// Folds where that is all that hinders it.
-fn folded_despite(state: &mut State, number: Number, despite: Hindrance, served: Served) -> Served {
+fn folded_despite(state: &mut State, number: u64, despite: Hindrance, served: Served) -> Served {
+    let number = state.given(number).expect("a number that only 17 refuses was given");
     let hinders = |hindrance: &Hindrance| *hindrance != despite && state.is_hindered(number, *hindrance);
     if Hindrance::ALL.iter().any(hinders) {
         return served;
@@ -294,6 +328,15 @@ fn laid(state: &State, numbers: impl Iterator<Item = Number>) -> Values {
         overlay(&mut base, transaction.change.pairs());
     }
     base
+}
+
+/// The live list as far as the room goes, where a byte more would be enough for it.
+fn live_in_even_room(state: &State, room: &mut [u8]) -> u64 {
+    let mut more = room.to_vec();
+    more.resize(room.len().next_multiple_of(2), 0);
+    let answer = northbound::live_of(Some(state), &mut more);
+    room.copy_from_slice(&more[..room.len()]);
+    answer
 }
 
 /// The live list and one hop more.

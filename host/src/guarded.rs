@@ -45,12 +45,6 @@ impl Guarded {
         unsafe { slice::from_raw_parts_mut(self.place(length, edge), length) }
     }
 
-    /// As `bytes`, in numbers of two bytes.
-    pub fn numbers(&mut self, length: usize, edge: Edge) -> &mut [u16] {
-        // SAFETY: as above; both edges are aligned to a page.
-        unsafe { slice::from_raw_parts_mut(self.place(2 * length, edge).cast(), length) }
-    }
-
     fn place(&self, bytes: usize, edge: Edge) -> *mut u8 {
         assert!(bytes <= PAGE);
         match edge {

@@ -182,7 +182,7 @@ pub fn decode_configuration(image: &[u8]) -> Option<Configuration> {
 pub fn decode_mastership(image: &[u8]) -> Option<Mastership> {
     let master = match image[at::MASTERSHIP] {
         0 => None,
-        node => Some(Node::new(u16::from(node))?),
+        node => Some(Node::new(u64::from(node))?),
     };
     Some(Mastership {
         master,

@@ -20,7 +20,7 @@ pub enum Outcome {
 }
 
 /// The operands of a job where every one is in range: node, job, outcome, and whether what follows "then" is left out.
-pub fn ranged(node: u16, job: u16, outcome: u16, cut: u16) -> Option<(Node, Job, Outcome, bool)> {
+pub fn ranged(node: u64, job: u64, outcome: u64, cut: u64) -> Option<(Node, Job, Outcome, bool)> {
     let node = Node::new(node)?;
     let job = match job {
         1 => Job::CommitChange,

@@ -26,14 +26,14 @@ impl Kept {
         usize::from(self.highest) - usize::from(self.folded)
     }
 
-    fn number(self, number: u16) -> Result<Number, Refusal> {
-        if number == 0 || number > self.highest {
+    fn number(self, number: u64) -> Result<Number, Refusal> {
+        if number == 0 || number > self.highest.into() {
             return Err(Refusal::NoSuchNumber);
         }
-        if number <= self.folded {
+        if number <= self.folded.into() {
             return Err(Refusal::Folded);
         }
-        Ok(Number(number))
+        Ok(Number(number as u16))
     }
 }
 
@@ -153,7 +153,7 @@ pub fn append(image: &mut [u8], pairs: &[u8]) -> u64 {
 }
 
 #[inline(never)]
-pub fn rollback(image: &mut [u8], number: u16) -> u64 {
+pub fn rollback(image: &mut [u8], number: u64) -> u64 {
     on(image, |image, kept| {
         let bytes = image::entry_at_mut(image, kept.number(number)?);
         let committed = bytes[entry::C_COMMIT] == Status::Complete.code();
@@ -194,7 +194,7 @@ pub fn stop(image: &mut [u8]) -> u64 {
     })
 }
 
-fn node_of(node: u16) -> Result<Node, Refusal> {
+fn node_of(node: u64) -> Result<Node, Refusal> {
     Node::new(node).ok_or(Refusal::OutOfRange)
 }
 
@@ -208,7 +208,7 @@ fn connection_of(image: &Image, node: Node) -> Connection {
 }
 
 #[inline(never)]
-pub fn connect(image: &mut [u8], node: u16) -> u64 {
+pub fn connect(image: &mut [u8], node: u64) -> u64 {
     on(image, |image, _| {
         let node = node_of(node)?;
         let connection = connection_of(image, node);
@@ -225,7 +225,7 @@ pub fn connect(image: &mut [u8], node: u16) -> u64 {
 }
 
 #[inline(never)]
-pub fn disconnect(image: &mut [u8], node: u16) -> u64 {
+pub fn disconnect(image: &mut [u8], node: u64) -> u64 {
     on(image, |image, _| {
         let node = node_of(node)?;
         if !connection_of(image, node).connected {
@@ -237,7 +237,7 @@ pub fn disconnect(image: &mut [u8], node: u16) -> u64 {
 }
 
 #[inline(never)]
-pub fn master(image: &mut [u8], node: u16) -> u64 {
+pub fn master(image: &mut [u8], node: u64) -> u64 {
     on(image, |image, _| {
         let node = node_of(node)?;
         let connection = connection_of(image, node);
@@ -265,7 +265,7 @@ fn reaches_target(image: &Image, node: Node) -> bool {
 }
 
 #[inline(never)]
-pub fn sync(image: &mut [u8], node: u16) -> u64 {
+pub fn sync(image: &mut [u8], node: u64) -> u64 {
     on(image, |image, _| {
         let node = node_of(node)?;
         if image[at::MASTERSHIP] != node.number() {
@@ -312,12 +312,13 @@ fn is_done(code: u8) -> bool {
 
 /// Whether the commit side is at rest.
 fn at_rest(image: &Image, kept: Kept, committed: &Committed) -> bool {
-    let at_index = kept.number(committed.index.0).ok().and_then(|index| image::decode_entry(image::entry_at(image, index)));
+    let index = kept.number(committed.index.0.into()).ok();
+    let at_index = index.and_then(|index| image::decode_entry(image::entry_at(image, index)));
     committed.at_rest(at_index.as_ref())
 }
 
 #[inline(never)]
-pub fn work(image: &mut [u8], node: u16, job: u16, number: u16, outcome: u16, cut: u16) -> u64 {
+pub fn work(image: &mut [u8], node: u64, job: u64, number: u64, outcome: u64, cut: u64) -> u64 {
     on(image, |image, kept| {
         let (node, job, outcome, cut) = ranged(node, job, outcome, cut).ok_or(Refusal::OutOfRange)?;
         let number = kept.number(number)?;
@@ -353,12 +354,12 @@ pub fn work(image: &mut [u8], node: u16, job: u16, number: u16, outcome: u16, cu
 }
 
 #[inline(never)]
-pub fn fold(image: &mut [u8], number: u16) -> u64 {
+pub fn fold(image: &mut [u8], number: u64) -> u64 {
     on(image, |image, kept| {
-        if number <= kept.folded || number > kept.highest {
+        if number <= kept.folded.into() || number > kept.highest.into() {
             return Err(Refusal::NoSuchNumber);
         }
-        let dropped = Kept { highest: number, ..kept };
+        let dropped = Kept { highest: number as u16, ..kept };
         let allowed = at_rest(image, kept, &image::decode_committed(image))
             && settled(image, kept, Ordinal(u32_at(image, at::APPLIED + 6)))
             && next_waits(image, kept)
@@ -367,7 +368,7 @@ pub fn fold(image: &mut [u8], number: u16) -> u64 {
             return Err(Refusal::NotFinished);
         }
         lay_base(image, dropped);
-        put_u16(image, at::FOLDED, number);
+        put_u16(image, at::FOLDED, dropped.highest);
         Ok(Answer::Nothing)
     })
 }
@@ -415,7 +416,7 @@ pub fn is_well_formed(image: &[u8]) -> bool {
 }
 
 #[inline(never)]
-pub fn live(image: &[u8], room: &mut [u16]) -> u64 {
+pub fn live(image: &[u8], room: &mut [u8]) -> u64 {
     let Some((image, kept)) = <&Image>::try_from(image).ok().and_then(|image| Some((image, checked(image)?))) else {
         return u64::from(Refusal::NotWellFormed.number());
     };
@@ -426,10 +427,10 @@ pub fn live(image: &[u8], room: &mut [u16]) -> u64 {
         })
     };
     let hops = list().count();
-    if hops > room.len() {
+    if 2 * hops > room.len() {
         return u64::from(Refusal::NoRoom.number());
     }
-    room.iter_mut().zip(list()).for_each(|(place, number)| *place = number);
+    room.chunks_exact_mut(2).zip(list()).for_each(|(place, number)| place.copy_from_slice(&number.to_le_bytes()));
     (hops as u64) << 32
 }
 
@@ -497,16 +498,16 @@ pub fn read(image: &[u8], query: Query) -> u64 {
 }
 
 #[inline(never)]
-pub fn value(image: &[u8], table: u16, path: u16) -> u64 {
+pub fn value(image: &[u8], table: u64, path: u64) -> u64 {
     shown(image, |_| {
         let tables = [(at::COMMITTED_VALUES, 2), (at::APPLIED_VALUES, 2), (at::TARGET_VALUES, 2), (at::BASE, 2)];
         let (values, width) = one_of(&tables, table)?;
-        (path < 32).then(|| (values + 2 * usize::from(path), width)).ok_or(Refusal::OutOfRange)
+        (path < 32).then(|| (values + 2 * path as usize, width)).ok_or(Refusal::OutOfRange)
     })
 }
 
 #[inline(never)]
-pub fn transaction(image: &[u8], number: u16, field: u16) -> u64 {
+pub fn transaction(image: &[u8], number: u64, field: u64) -> u64 {
     shown(image, |kept| {
         let (at, width) = one_of(&IN_ENTRY, field)?;
         Ok((ENTRY * image::slot(kept.number(number)?) + at, width))
@@ -514,12 +515,12 @@ pub fn transaction(image: &[u8], number: u16, field: u16) -> u64 {
 }
 
 #[inline(never)]
-pub fn record(image: &[u8], field: u16) -> u64 {
+pub fn record(image: &[u8], field: u64) -> u64 {
     shown(image, |_| one_of(&ONCE, field))
 }
 
 #[inline(never)]
-pub fn connection(image: &[u8], node: u16, field: u16) -> u64 {
+pub fn connection(image: &[u8], node: u64, field: u64) -> u64 {
     shown(image, |_| {
         let node = node_of(node)?;
         let (at, width) = one_of(&IN_CONNECTION, field)?;
@@ -527,8 +528,11 @@ pub fn connection(image: &[u8], node: u16, field: u16) -> u64 {
     })
 }
 
-fn one_of(fields: &[Field], field: u16) -> Result<Field, Refusal> {
-    usize::from(field).checked_sub(1).and_then(|place| fields.get(place)).copied().ok_or(Refusal::OutOfRange)
+fn one_of(fields: &[Field], field: u64) -> Result<Field, Refusal> {
+    if field == 0 || field > fields.len() as u64 {
+        return Err(Refusal::OutOfRange);
+    }
+    Ok(fields[field as usize - 1])
 }
 
 /// The number at the place that is found in a well-formed image, whose log keeps what is given.

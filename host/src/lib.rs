@@ -5,6 +5,7 @@
 //! `northbound` offers the C interface's calls over them, so that the two can be compared call by call and byte by byte.
 //! `lean` does the same work as fast as ordinary Rust does it, for the benchmark.
 
+pub mod arguments;
 pub mod controller;
 pub mod fault;
 pub mod guarded;

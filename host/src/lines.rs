@@ -27,11 +27,11 @@ pub fn read(line: &[u8]) -> Option<Request> {
 }
 
 /// The numbers of exactly these keys, in this order, one blank between them.
-fn numbers<const N: usize>(operands: &str, keys: [&str; N]) -> Option<[u16; N]> {
+fn numbers<const N: usize>(operands: &str, keys: [&str; N]) -> Option<[u64; N]> {
     let mut found = [0; N];
     let mut fields = operands.split(' ');
     for (number, key) in found.iter_mut().zip(keys) {
-        *number = read_number(fields.next()?.strip_prefix(key)?.strip_prefix('=')?)?;
+        *number = read_number(fields.next()?.strip_prefix(key)?.strip_prefix('=')?)?.into();
     }
     fields.next().is_none().then_some(found)
 }
@@ -58,8 +58,11 @@ fn read_number(text: &str) -> Option<u16> {
     })
 }
 
-/// The line that asks for a call. None asks for a fresh image, or for pairs that are not whole.
+/// The line that asks for a call. None asks for a fresh image, for pairs that are not whole, or with a number past 65,535.
 pub fn asking(request: &Request) -> Option<String> {
+    if request.clone().numbers().iter().any(|(_, number)| **number > u16::MAX.into()) {
+        return None;
+    }
     Some(match *request {
         Request::Fresh => return None,
         Request::Append(ref bytes) => {

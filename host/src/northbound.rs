@@ -4,21 +4,21 @@ use crate::controller::{Event, Node, Number, Refusal, State};
 use crate::image;
 use crate::jobs::Rule;
 
-/// A call of the C interface that changes an image.
+/// A call of the C interface that changes an image, its numbers as wide as they are there.
 #[derive(Clone, PartialEq, Eq, Hash, Debug)]
 pub enum Request {
     Fresh,
     /// The pairs as they are lent: four bytes a pair, path and value.
     Append(Vec<u8>),
-    Rollback(u16),
+    Rollback(u64),
     Start,
     Stop,
-    Connect(u16),
-    Disconnect(u16),
-    Master(u16),
-    Sync(u16),
-    Work { node: u16, job: u16, number: u16, outcome: u16, cut: u16 },
-    Fold(u16),
+    Connect(u64),
+    Disconnect(u64),
+    Master(u64),
+    Sync(u64),
+    Work { node: u64, job: u64, number: u64, outcome: u64, cut: u64 },
+    Fold(u64),
 }
 
 impl Request {
@@ -126,23 +126,24 @@ pub fn serve(image: &mut [u8], request: &Request) -> Served {
 }
 
 /// Writes an image's live list into the room and answers its length, packed; room past the list stays.
-pub fn live(image: &[u8], room: &mut [u16]) -> u64 {
+pub fn live(image: &[u8], room: &mut [u8]) -> u64 {
     live_of(image::decode(image).as_ref(), room)
 }
 
 /// As `live`, of what an image decodes to.
-pub fn live_of(state: Option<&State>, room: &mut [u16]) -> u64 {
+pub fn live_of(state: Option<&State>, room: &mut [u8]) -> u64 {
     let Some(state) = state else {
         return u64::from(Refusal::NotWellFormed.number());
     };
     listed(&state.live().collect::<Vec<_>>(), room)
 }
 
-/// Writes a list into the room and answers its length, packed.
-pub fn listed(list: &[Number], room: &mut [u16]) -> u64 {
-    if list.len() > room.len() {
+/// Writes a list into the room, two bytes a number, and answers its length, packed.
+pub fn listed(list: &[Number], room: &mut [u8]) -> u64 {
+    let bytes: Vec<u8> = list.iter().flat_map(|number| number.0.to_le_bytes()).collect();
+    if bytes.len() > room.len() {
         return u64::from(Refusal::NoRoom.number());
     }
-    room.iter_mut().zip(list).for_each(|(place, number)| *place = number.0);
+    room[..bytes.len()].copy_from_slice(&bytes);
     (list.len() as u64) << 32
 }

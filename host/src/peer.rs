@@ -7,29 +7,29 @@ mod exported {
     extern "C" {
         pub fn makowist_fresh(image: *mut u8, length: usize) -> u64;
         pub fn makowist_append(image: *mut u8, length: usize, pairs: *const u8, pairs_length: usize) -> u64;
-        pub fn makowist_rollback(image: *mut u8, length: usize, number: u16) -> u64;
+        pub fn makowist_rollback(image: *mut u8, length: usize, number: u64) -> u64;
         pub fn makowist_start(image: *mut u8, length: usize) -> u64;
         pub fn makowist_stop(image: *mut u8, length: usize) -> u64;
-        pub fn makowist_connect(image: *mut u8, length: usize, node: u16) -> u64;
-        pub fn makowist_disconnect(image: *mut u8, length: usize, node: u16) -> u64;
-        pub fn makowist_master(image: *mut u8, length: usize, node: u16) -> u64;
-        pub fn makowist_sync(image: *mut u8, length: usize, node: u16) -> u64;
+        pub fn makowist_connect(image: *mut u8, length: usize, node: u64) -> u64;
+        pub fn makowist_disconnect(image: *mut u8, length: usize, node: u64) -> u64;
+        pub fn makowist_master(image: *mut u8, length: usize, node: u64) -> u64;
+        pub fn makowist_sync(image: *mut u8, length: usize, node: u64) -> u64;
         pub fn makowist_work(
             image: *mut u8,
             length: usize,
-            node: u16,
-            job: u16,
-            number: u16,
-            outcome: u16,
-            cut: u16,
+            node: u64,
+            job: u64,
+            number: u64,
+            outcome: u64,
+            cut: u64,
         ) -> u64;
-        pub fn makowist_fold(image: *mut u8, length: usize, number: u16) -> u64;
-        pub fn makowist_live(image: *const u8, length: usize, room: *mut u16, room_length: usize) -> u64;
+        pub fn makowist_fold(image: *mut u8, length: usize, number: u64) -> u64;
+        pub fn makowist_live(image: *const u8, length: usize, room: *mut u8, room_length: usize) -> u64;
         pub fn makowist_well_formed(image: *const u8, length: usize) -> u64;
-        pub fn makowist_value(image: *const u8, length: usize, table: u16, path: u16) -> u64;
-        pub fn makowist_transaction(image: *const u8, length: usize, number: u16, field: u16) -> u64;
-        pub fn makowist_record(image: *const u8, length: usize, field: u16) -> u64;
-        pub fn makowist_connection(image: *const u8, length: usize, node: u16, field: u16) -> u64;
+        pub fn makowist_value(image: *const u8, length: usize, table: u64, path: u64) -> u64;
+        pub fn makowist_transaction(image: *const u8, length: usize, number: u64, field: u64) -> u64;
+        pub fn makowist_record(image: *const u8, length: usize, field: u64) -> u64;
+        pub fn makowist_connection(image: *const u8, length: usize, node: u64, field: u64) -> u64;
     }
 }
 
@@ -61,9 +61,9 @@ pub fn serve(image: &mut [u8], request: &Request, pairs: &[u8]) -> u64 {
     }
 }
 
-/// Writes the live list into the room and answers its length, packed.
+/// Writes the live list into the room, two bytes a number, and answers its length, packed.
 #[inline]
-pub fn live(image: &[u8], room: &mut [u16]) -> u64 {
+pub fn live(image: &[u8], room: &mut [u8]) -> u64 {
     // SAFETY: as in `serve`.
     unsafe { exported::makowist_live(image.as_ptr(), image.len(), room.as_mut_ptr(), room.len()) }
 }

@@ -1,41 +1,49 @@
 //! The C interface's reads over the independent controller: one number of the state at a time.
 
-use crate::controller::{Connection, Node, Number, Progress, Refusal, State, Transaction, PATHS};
+use crate::controller::{Connection, Node, Progress, Refusal, State, Transaction, PATHS};
 use crate::image::{configuration_code, entry, entry_at, u16_at};
 use crate::random::Random;
-use crate::requests::{any_number, numbers};
+use crate::requests::{any_number, numbers, widen};
 
-/// What is asked of an image.
+/// What is asked of an image, its numbers as wide as in the C interface.
 #[derive(Clone, Copy, PartialEq, Eq, Hash, Debug)]
 pub enum Query {
-    Value { table: u16, path: u16 },
-    Transaction { number: u16, field: u16 },
-    Record { field: u16 },
-    Connection { node: u16, field: u16 },
+    Value { table: u64, path: u64 },
+    Transaction { number: u64, field: u64 },
+    Record { field: u64 },
+    Connection { node: u64, field: u64 },
 }
 
 /// How many tables there are, and fields of each record; each counted from 1.
-pub const TABLES: u16 = 4;
-pub const TRANSACTION_FIELDS: u16 = 21;
-pub const RECORD_FIELDS: u16 = 18;
-pub const CONNECTION_FIELDS: u16 = 2;
+pub const TABLES: u64 = 4;
+pub const TRANSACTION_FIELDS: u64 = 21;
+pub const RECORD_FIELDS: u64 = 18;
+pub const CONNECTION_FIELDS: u64 = 2;
 
 /// The transaction's fields that hold its pairs: paths, values and r.values, four places each.
-const PATH_FIELD: u16 = 10;
-const VALUE_FIELD: u16 = 14;
-const R_VALUE_FIELD: u16 = 18;
+const PATH_FIELD: u64 = 10;
+const VALUE_FIELD: u64 = 14;
+const R_VALUE_FIELD: u64 = 18;
 
 impl Query {
-    /// A query at random, now and then out of range, folded or past the log's end.
+    /// A query at random, now and then out of range, folded or past the log's end, or with more than 16 bits.
     pub fn any(state: &State, random: &mut Random) -> Query {
-        let field = |fields: u16, random: &mut Random| match random.once_in(12) {
+        let mut query = Query::narrow(state, random);
+        if random.once_in(12) {
+            widen(query.numbers(), random);
+        }
+        query
+    }
+
+    fn narrow(state: &State, random: &mut Random) -> Query {
+        let field = |fields: u64, random: &mut Random| match random.once_in(12) {
             true => random.one_of(&[0, fields + 1, 255, 256, 257, 65535]),
-            false => random.between(1, fields.into()) as u16,
+            false => random.between(1, fields as usize) as u64,
         };
         match random.below(7) {
             0 | 1 => {
                 let table = field(TABLES, random);
-                Query::Value { table, path: field(PATHS as u16, random).wrapping_sub(1) }
+                Query::Value { table, path: field(PATHS as u64, random).wrapping_sub(1) }
             }
             2 | 3 => Query::Record { field: field(RECORD_FIELDS, random) },
             4 => {
@@ -53,7 +61,7 @@ impl Query {
     pub fn all(state: &State) -> Vec<Query> {
         let mut all = Vec::new();
         for table in 0..=TABLES + 1 {
-            all.extend((0..=PATHS as u16).map(|path| Query::Value { table, path }));
+            all.extend((0..=PATHS as u64).map(|path| Query::Value { table, path }));
         }
         for number in numbers(state) {
             all.extend((0..=TRANSACTION_FIELDS + 1).map(|field| Query::Transaction { number, field }));
@@ -77,12 +85,13 @@ impl Query {
                     4 => &state.base,
                     _ => return Err(Refusal::OutOfRange),
                 };
-                values.get(usize::from(path)).map(|value| u32::from(*value)).ok_or(Refusal::OutOfRange)
+                (path < PATHS as u64).then(|| values[path as usize].into()).ok_or(Refusal::OutOfRange)
             }
             Query::Transaction { number, field } => {
                 ranged(field, TRANSACTION_FIELDS)?;
-                let transaction = &state.log[state.place(Number(number))?];
-                Ok(of_transaction(transaction, entry_at(image, Number(number)), field))
+                let number = state.given(number)?;
+                let transaction = &state.log[state.place(number)?];
+                Ok(of_transaction(transaction, entry_at(image, number), field))
             }
             Query::Record { field } => {
                 ranged(field, RECORD_FIELDS)?;
@@ -106,13 +115,14 @@ impl Query {
     }
 }
 
-fn ranged(field: u16, fields: u16) -> Result<(), Refusal> {
+fn ranged(field: u64, fields: u64) -> Result<(), Refusal> {
     (1..=fields).contains(&field).then_some(()).ok_or(Refusal::OutOfRange)
 }
 
-fn of_transaction(transaction: &Transaction, bytes: &[u8], field: u16) -> u32 {
+fn of_transaction(transaction: &Transaction, bytes: &[u8], field: u64) -> u32 {
     let pairs = transaction.change.pairs();
-    let used = |from: u16| Some(usize::from(field - from)).filter(|place| *place < pairs.len());
+    let place = |from: u64| (field - from) as usize;
+    let used = |from: u64| Some(place(from)).filter(|place| *place < pairs.len());
     match field {
         1 => transaction.phase as u32,
         2..=4 => of_progress(&transaction.c, field - 2),
@@ -120,20 +130,20 @@ fn of_transaction(transaction: &Transaction, bytes: &[u8], field: u16) -> u32 {
         8 => transaction.r_index.0.into(),
         9 => pairs.len() as u32,
         PATH_FIELD..=13 => used(PATH_FIELD)
-            .map_or(bytes[entry::PATHS + usize::from(field - PATH_FIELD)], |place| pairs[place].path)
+            .map_or(bytes[entry::PATHS + place(PATH_FIELD)], |place| pairs[place].path)
             .into(),
         VALUE_FIELD..=17 => used(VALUE_FIELD)
-            .map_or(u16_at(bytes, entry::VALUES + 2 * usize::from(field - VALUE_FIELD)), |place| pairs[place].value)
+            .map_or(u16_at(bytes, entry::VALUES + 2 * place(VALUE_FIELD)), |place| pairs[place].value)
             .into(),
         _ => used(R_VALUE_FIELD)
-            .map_or(u16_at(bytes, entry::R_VALUES + 2 * usize::from(field - R_VALUE_FIELD)), |place| {
+            .map_or(u16_at(bytes, entry::R_VALUES + 2 * place(R_VALUE_FIELD)), |place| {
                 transaction.r_values[place]
             })
             .into(),
     }
 }
 
-fn of_progress(progress: &Progress, field: u16) -> u32 {
+fn of_progress(progress: &Progress, field: u64) -> u32 {
     match field {
         0 => progress.commit.code().into(),
         1 => progress.apply.code().into(),
@@ -141,7 +151,7 @@ fn of_progress(progress: &Progress, field: u16) -> u32 {
     }
 }
 
-fn of_record(state: &State, field: u16) -> u32 {
+fn of_record(state: &State, field: u64) -> u32 {
     let (committed, applied) = (&state.committed, &state.applied);
     match field {
         1 => state.highest().0.into(),

@@ -1,5 +1,6 @@
 //! Random calls: those that a host would make from a state, and any whatever.
 
+use crate::arguments::{Numbers, Wide};
 use crate::controller::{Number, Ordinal, State, Status, Term};
 use crate::northbound::{bytes_of, Request};
 use crate::random::Random;
@@ -28,16 +29,16 @@ fn value(random: &mut Random) -> u16 {
 }
 
 /// Every number that a call from the state may name: 0, a few that are folded, those kept, and one past the end.
-pub fn numbers(state: &State) -> impl Iterator<Item = u16> {
+pub fn numbers(state: &State) -> impl Iterator<Item = u64> {
     let lowest = state.folded.0.saturating_sub(2).max(1);
-    std::iter::once(0).chain(lowest..=state.highest().0.saturating_add(1))
+    std::iter::once(0).chain(lowest.into()..=u64::from(state.highest().0) + 1)
 }
 
 /// One of them, or any that is folded.
-pub fn any_number(state: &State, random: &mut Random) -> u16 {
+pub fn any_number(state: &State, random: &mut Random) -> u64 {
     match random.below(8) {
-        0 => random.below(usize::from(state.folded.0) + 1) as u16,
-        _ => state.folded.0.saturating_add(random.below(state.log.len() + 2) as u16),
+        0 => random.below(usize::from(state.folded.0) + 1) as u64,
+        _ => u64::from(state.folded.0) + random.below(state.log.len() + 2) as u64,
     }
 }
 
@@ -65,15 +66,16 @@ pub fn sensible(state: &State, log_limit: usize, random: &mut Random) -> Request
 /// The next call that opens the line, where it is not open.
 fn line(state: &State, random: &mut Random) -> Option<Request> {
     let Some(master) = state.mastership.master else {
-        let node = random.between(1, 8) as u16;
-        return Some(match (state.target.running, state.connections[usize::from(node) - 1].connected) {
+        let place = random.below(state.connections.len());
+        let node = place as u64 + 1;
+        return Some(match (state.target.running, state.connections[place].connected) {
             (false, _) => Request::Start,
             (true, false) => Request::Connect(node),
             (true, true) => Request::Master(node),
         });
     };
     let connection = state.connections[usize::from(master.number()) - 1];
-    let node = u16::from(master.number());
+    let node = u64::from(master.number());
     if !connection.connected {
         let early = state.target.running && random.once_in(3);
         return Some(if early { Request::Connect(node) } else { Request::Master(node) });
@@ -87,7 +89,7 @@ fn line(state: &State, random: &mut Random) -> Option<Request> {
 fn disturbing(state: &State, random: &mut Random) -> Request {
     let node = match state.mastership.master {
         Some(master) if random.once_in(2) => master.number().into(),
-        _ => random.between(1, 8) as u16,
+        _ => random.between(1, 8) as u64,
     };
     match random.below(6) {
         0 => Request::Stop,
@@ -99,20 +101,21 @@ fn disturbing(state: &State, random: &mut Random) -> Request {
     }
 }
 
-fn to_roll_back(state: &State, random: &mut Random) -> u16 {
+fn to_roll_back(state: &State, random: &mut Random) -> u64 {
     match random.below(3) {
         0 => any_number(state, random),
-        _ => state.committed.revision.0,
+        _ => state.committed.revision.0.into(),
     }
 }
 
 /// Mostly one of the finished front's, or the first that is not finished; whether the moment is a lucky one is not asked.
-fn to_fold(state: &State, random: &mut Random) -> u16 {
+fn to_fold(state: &State, random: &mut Random) -> u64 {
+    let folded = u64::from(state.folded.0);
     let finished = state.log.iter().take_while(|transaction| transaction.is_finished()).count();
     match random.below(8) {
         0 => any_number(state, random),
-        1..=3 => state.folded.0.saturating_add(finished as u16),
-        _ => state.folded.0.saturating_add(random.between(1, finished + 1) as u16),
+        1..=3 => folded + finished as u64,
+        _ => folded + random.between(1, finished + 1) as u64,
     }
 }
 
@@ -121,51 +124,69 @@ fn job(state: &State, random: &mut Random) -> Request {
     let (job, number) = match random.below(8) {
         0..=2 => on_commit_side(state, random),
         3..=6 => on_apply_side(state, random),
-        _ => (random.between(1, 4) as u16, any_number(state, random)),
+        _ => (random.between(1, 4) as u64, any_number(state, random)),
     };
     let outcome = random.once_in(7).into();
     let cut = random.once_in(3).into();
     Request::Work { node, job, number, outcome, cut }
 }
 
-fn on_commit_side(state: &State, random: &mut Random) -> (u16, u16) {
+fn on_commit_side(state: &State, random: &mut Random) -> (u64, u64) {
     let committed = &state.committed;
     let begun = |number: Number| state.transaction(number).is_some_and(|it| it.r.commit == Status::InProgress);
     if begun(committed.index) {
-        return (3, committed.index.0);
+        return (3, committed.index.0.into());
     }
     let rolled_back =
         state.transaction(committed.revision).is_some_and(|it| matches!(it.r.commit, Status::Pending | Status::InProgress));
     let finishes = state.transaction(committed.change).is_some_and(|it| it.c.commit == Status::InProgress);
     match random.below(4) {
-        0 | 1 if finishes => (1, committed.change.0),
-        1 | 2 if rolled_back => (3, committed.revision.0),
+        0 | 1 if finishes => (1, committed.change.0.into()),
+        1 | 2 if rolled_back => (3, committed.revision.0.into()),
         _ if committed.change == state.highest() => on_apply_side(state, random),
-        _ => (1, committed.change.0 + 1),
+        _ => (1, u64::from(committed.change.0) + 1),
     }
 }
 
 /// A job on what carries the next ordinal, or the present one.
-fn on_apply_side(state: &State, random: &mut Random) -> (u16, u16) {
+fn on_apply_side(state: &State, random: &mut Random) -> (u64, u64) {
     let present = state.applied.ordinal;
     let wanted = if random.once_in(4) { present } else { Ordinal(present.0 + 1) };
     let carried = |ordinal: Ordinal| ordinal == wanted && ordinal != Ordinal::NONE;
     for (number, transaction) in state.kept() {
         if carried(transaction.c.ordinal) {
-            return (2, number.0);
+            return (2, number.0.into());
         }
         if carried(transaction.r.ordinal) {
-            return (4, number.0);
+            return (4, number.0.into());
         }
     }
     (random.one_of(&[2, 4]), any_number(state, random))
 }
 
-/// Any call at all, its operands mostly near the ends of their ranges.
+/// Any call at all, its operands mostly near the ends of their ranges, now and then one with more than 16 bits.
 pub fn wild(state: &State, random: &mut Random) -> Request {
+    let mut request = any(state, random);
+    if random.once_in(12) {
+        widen(request.numbers(), random);
+    }
+    request
+}
+
+/// Makes one of the numbers, if there is any, a wide one.
+pub fn widen(mut numbers: Numbers, random: &mut Random) {
+    if !numbers.is_empty() {
+        let place = random.below(numbers.len());
+        let number = &mut *numbers[place].1;
+        *number = random.one_of(&Wide::ALL).of(*number & 0xffff);
+    }
+}
+
+/// Any call whose operands have 16 bits, or hardly more.
+fn any(state: &State, random: &mut Random) -> Request {
     let node = |random: &mut Random| match random.below(6) {
         0 => random.one_of(&[0, 9, 255, 256, 257, 65535]),
-        _ => random.between(1, 8) as u16,
+        _ => random.between(1, 8) as u64,
     };
     let number = |random: &mut Random| match random.below(6) {
         0 => random.one_of(&[0, 127, 128, 129, 256, 257, 32768, 65535]),
@@ -184,9 +205,9 @@ pub fn wild(state: &State, random: &mut Random) -> Request {
         9 => Request::Sync(node(random)),
         10 if random.once_in(40) => Request::Fresh,
         _ => {
-            let job = if random.once_in(9) { random.one_of(&[0, 5, 256, 257, 65535]) } else { random.between(1, 4) as u16 };
-            let outcome = if random.once_in(20) { random.one_of(&[2, 256, 65535]) } else { random.below(2) as u16 };
-            let cut = if random.once_in(20) { random.one_of(&[2, 256, 65535]) } else { random.below(2) as u16 };
+            let job = if random.once_in(9) { random.one_of(&[0, 5, 256, 257, 65535]) } else { random.between(1, 4) as u64 };
+            let outcome = if random.once_in(20) { random.one_of(&[2, 256, 65535]) } else { random.below(2) as u64 };
+            let cut = if random.once_in(20) { random.one_of(&[2, 256, 65535]) } else { random.below(2) as u64 };
             Request::Work { node: node(random), job, number: number(random), outcome, cut }
         }
     }

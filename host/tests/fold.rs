@@ -9,20 +9,20 @@ use makowist_host::lines::stepped;
 use makowist_host::reads::Query;
 
 /// Appends a change, commits it, and applies it.
-fn apply(state: &mut State, pairs: &[(u16, u16)]) -> u16 {
-    let number = state.append(pairs).unwrap().0;
+fn apply(state: &mut State, pairs: &[(u16, u16)]) -> u64 {
+    let number = state.append(pairs).unwrap().0.into();
     commit(state, number);
     assert_eq!(told(state, 2, number, ACCEPTED), (vec![Status::InProgress, Status::Complete], Refusal::NoRule));
     number
 }
 
 /// Applies the rollback of a change whose rollback has been committed.
-fn apply_rollback(state: &mut State, number: u16) {
+fn apply_rollback(state: &mut State, number: u64) {
     assert_eq!(told(state, 4, number, ACCEPTED), (vec![Status::InProgress, Status::Complete], Refusal::NoRule));
 }
 
 /// One step of a job by node 1, cut after its first store.
-fn cut(state: &mut State, job: u16, number: u16) {
+fn cut(state: &mut State, job: u64, number: u64) {
     assert!(state.work(1, job, number, ACCEPTED, 1).reply.is_ok());
 }
 
@@ -31,8 +31,9 @@ fn live(state: &State) -> Vec<u16> {
 }
 
 /// The fold is refused by 17, by this alone, and nothing has changed.
-fn refused_for(state: &State, number: u16, hindrance: Hindrance) {
-    let found = Hindrance::ALL.into_iter().filter(|each| state.is_hindered(Number(number), *each));
+fn refused_for(state: &State, number: u64, hindrance: Hindrance) {
+    let given = state.given(number).unwrap();
+    let found = Hindrance::ALL.into_iter().filter(|each| state.is_hindered(given, *each));
     assert_eq!(found.collect::<Vec<_>>(), [hindrance]);
     let mut after = state.clone();
     assert_eq!(after.fold(number), Err(Refusal::NotFinished));
@@ -43,14 +44,14 @@ fn refused_for(state: &State, number: u16, hindrance: Hindrance) {
 fn the_room_of_the_folded_serves_again() {
     let mut state = with_open_line();
     for number in 1..=LOG_LIMIT as u16 {
-        assert_eq!(apply(&mut state, &[(number % 32, number)]), number);
+        assert_eq!(apply(&mut state, &[(number % 32, number)]), number.into());
     }
     assert_eq!(state.append(&[(3, 7)]), Err(Refusal::LogFull));
     assert_eq!(state.fold(100), Ok(()));
     assert_eq!((state.folded, state.highest(), state.log.len()), (Number(100), Number(128), 28));
     assert_eq!((state.base[4], state.base[5], state.base[31]), (100, 69, 95));
     for number in 129..=228 {
-        assert_eq!(apply(&mut state, &[(3, number)]), number);
+        assert_eq!(apply(&mut state, &[(3, number)]), number.into());
     }
     assert_eq!(state.append(&[(3, 7)]), Err(Refusal::LogFull));
     assert_eq!(live(&state), (101..=228).rev().collect::<Vec<_>>());

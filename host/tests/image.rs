@@ -1,5 +1,6 @@
 //! The codec: a state's way through the image and back, and which bytes a call leaves alone.
 
+use makowist_host::arguments::Wide;
 use makowist_host::controller::{Number, State, LOG_LIMIT, PATHS};
 use makowist_host::image::{self, at, entry, ENTRY, LENGTH};
 use makowist_host::northbound::{self, bytes_of, Request};
@@ -19,7 +20,7 @@ fn serve(bytes: &mut [u8], request: Request) -> u64 {
     northbound::serve(bytes, &request).packed()
 }
 
-fn work(job: u16, number: u16) -> Request {
+fn work(job: u64, number: u64) -> Request {
     Request::Work { node: 1, job, number, outcome: 0, cut: 0 }
 }
 
@@ -80,7 +81,7 @@ fn wrapped() -> Vec<u8> {
         assert_eq!(serve(&mut bytes, request) & 0xff, 0);
     }
     for number in 3..=160 {
-        let append = Request::Append(bytes_of(&[(number % 32, number)]));
+        let append = Request::Append(bytes_of(&[(number as u16 % 32, number as u16)]));
         for request in [append, work(1, number), work(1, number), work(2, number), work(2, number)] {
             assert_eq!(serve(&mut bytes, request) & 0xff, 0);
         }
@@ -131,6 +132,39 @@ fn the_lean_calls_lead_to_the_same_bytes() {
             folded = folded.max(state.folded);
         }
         assert!(folded > Number(128));
+    }
+}
+
+#[test]
+fn the_lean_reads_show_the_same() {
+    let mut random = Random::new(8);
+    let bytes = wrapped();
+    let state = image::decode(&bytes).unwrap();
+    for _ in 0..20_000 {
+        let query = Query::any(&state, &mut random);
+        assert_eq!(lean::read(&bytes, query), query.packed(Some(&state), &bytes), "{query:?}");
+    }
+    for length in 0..=2 * state.live().count() + 3 {
+        let (mut typed, mut lean) = (vec![0xab; length], vec![0xab; length]);
+        assert_eq!(lean::live(&bytes, &mut lean), northbound::live(&bytes, &mut typed));
+        assert_eq!(lean, typed);
+    }
+}
+
+#[test]
+fn a_number_is_never_cut() {
+    let bytes = some();
+    for wide in Wide::ALL {
+        for (request, answer) in [
+            (Request::Connect(wide.of(2)), 2),
+            (Request::Rollback(wide.of(1)), 5),
+            (Request::Work { node: 1, job: wide.of(1), number: wide.of(2), outcome: 0, cut: 0 }, 2),
+            (work(1, wide.of(2)), 5),
+        ] {
+            let mut after = bytes.clone();
+            assert_eq!(serve(&mut after, request.clone()), answer, "{request:?}");
+            assert_eq!(after, bytes);
+        }
     }
 }
 

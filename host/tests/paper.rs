@@ -162,7 +162,7 @@ fn the_live_list_hops_to_r_index() {
     let mut state = with_open_line();
     for value in 1..=3 {
         state.append(&[(3, value)]).unwrap();
-        commit(&mut state, value);
+        commit(&mut state, value.into());
     }
     assert_eq!(state.live().collect::<Vec<_>>(), [Number(3), Number(2), Number(1)]);
     commit_rollback(&mut state, 3);

@@ -155,7 +155,7 @@ impl Kept {
             return None;
         };
         let mut archive = self.archive.clone();
-        let dropped = self.state.kept().take_while(|(number, _)| number.0 <= last);
+        let dropped = self.state.kept().take_while(|(number, _)| u64::from(number.0) <= last);
         dropped.for_each(|(number, transaction)| archive.add(number, transaction));
         Some(archive)
     }
@@ -190,7 +190,7 @@ fn calls(kept: &Kept, random: &mut Random) -> Vec<Call> {
 /// A sensible call, and where a fold is accepted, more often that.
 fn onward(state: &State, limit: usize, random: &mut Random) -> Request {
     let finished = state.log.iter().take_while(|transaction| transaction.is_finished()).count();
-    let fold = Request::Fold(state.folded.0 + random.between(1, finished.max(1)) as u16);
+    let fold = Request::Fold(u64::from(state.folded.0) + random.between(1, finished.max(1)) as u64);
     match random.once_in(8) && act(&mut state.clone(), &fold).reply.is_ok() {
         true => fold,
         false => sensible(state, limit, random),

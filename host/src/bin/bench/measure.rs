@@ -1,6 +1,7 @@
 //! Times, and marks for an instruction counter.
 
 use crate::scenes::{Scene, Side};
+use makowist_host::controller::LOG_LIMIT;
 use std::ffi::{c_int, c_long};
 use std::hint::black_box;
 
@@ -53,7 +54,7 @@ fn mark() {
 /// Nanoseconds for one call by each side: the least of alternating rounds, less what the measuring itself takes.
 pub fn times(scene: &Scene, rounds: usize) -> Vec<Figure> {
     let mut image = scene.image.clone();
-    let mut room = [0; 128];
+    let mut room = [0; 2 * LOG_LIMIT];
     let mut calls = |side: Side, count: usize| {
         let began = clock();
         for _ in 0..count {
@@ -75,7 +76,7 @@ pub fn times(scene: &Scene, rounds: usize) -> Vec<Figure> {
 /// Makes each side's call once between two marks. The counter's notes, two for each side, are read by `counted`.
 pub fn marked(scene: &Scene) {
     let mut image = scene.image.clone();
-    let mut room = [0; 128];
+    let mut room = [0; 2 * LOG_LIMIT];
     for side in Side::ALL {
         for marks in [false, true] {
             if marks {

@@ -1,6 +1,6 @@
 //! The calls that are measured, each with the image that it is made on.
 
-use makowist_host::controller::State;
+use makowist_host::controller::{State, LOG_LIMIT};
 use makowist_host::image::{self, at, ENTRY, LENGTH};
 use makowist_host::lean;
 use makowist_host::northbound::{self, act, bytes_of, Request};
@@ -56,7 +56,7 @@ impl Scene {
         image::encode(state, &mut image);
         let mut scene = Scene { name, length, image, call, written: 0..0 };
         let mut after = scene.image.clone();
-        scene.run(Side::Typed, &mut after, &mut [0; 128]);
+        scene.run(Side::Typed, &mut after, &mut [0; 2 * LOG_LIMIT]);
         let differs: Vec<usize> = (0..at::HIGHEST).filter(|place| after[*place] != scene.image[*place]).collect();
         if let (Some(first), Some(last)) = (differs.first(), differs.last()) {
             scene.written = first / ENTRY * ENTRY..(last / ENTRY + 1) * ENTRY;
@@ -65,7 +65,7 @@ impl Scene {
     }
 
     /// Makes the call on the image and answers its reply.
-    pub fn run(&self, side: Side, image: &mut [u8], room: &mut [u16]) -> u64 {
+    pub fn run(&self, side: Side, image: &mut [u8], room: &mut [u8]) -> u64 {
         let pairs = match &self.call {
             Call::Request(Request::Append(pairs)) => pairs.as_slice(),
             _ => &[],
@@ -99,7 +99,7 @@ impl Scene {
     /// The three that do the work must agree on it before they are measured.
     pub fn check(&self) -> u64 {
         let answers = [Side::Proved, Side::Independent, Side::Typed].map(|side| {
-            let (mut image, mut room) = (self.image.clone(), vec![0; 128]);
+            let (mut image, mut room) = (self.image.clone(), vec![0; 2 * LOG_LIMIT]);
             (self.run(side, &mut image, &mut room), image, room)
         });
         assert!(answers[0] == answers[2] && answers[1] == answers[2], "{} at {}: the sides differ", self.name, self.length);
@@ -122,8 +122,8 @@ fn sum_of_words(bytes: &[u8]) -> u64 {
     bytes.chunks_exact(8).map(word).fold(0, u64::wrapping_add)
 }
 
-fn work(job: u16, number: usize) -> Request {
-    Request::Work { node: 1, job, number: number as u16, outcome: 0, cut: 0 }
+fn work(job: u64, number: usize) -> Request {
+    Request::Work { node: 1, job, number: number as u64, outcome: 0, cut: 0 }
 }
 
 fn append(number: usize) -> Request {
@@ -147,7 +147,7 @@ fn applied_after(folded: usize, length: usize) -> State {
     for number in 1..=folded + length {
         state = led(state, &[append(number), work(1, number), work(1, number), work(2, number), work(2, number)]);
         if number == folded {
-            state = led(state, &[Request::Fold(number as u16)]);
+            state = led(state, &[Request::Fold(number as u64)]);
         }
     }
     state
@@ -180,7 +180,7 @@ fn calls(length: usize, base: &State, before_last: &State) -> Vec<Scene> {
     [
         ("fresh", base, Request::Fresh),
         ("append", if length == 128 { before_last } else { base }, append(length.min(127) + 1)),
-        ("rollback", base, Request::Rollback(length as u16)),
+        ("rollback", base, Request::Rollback(length as u64)),
         ("stop", base, Request::Stop),
         ("start", &stopped, Request::Start),
         ("connect", base, Request::Connect(2)),
@@ -203,7 +203,7 @@ fn jobs(length: usize, base: &State, before_last: State) -> Vec<Scene> {
         scenes.push(requested(name, length, &state, work(job, length)));
         state = led(state, &[work(job, length)]);
     }
-    state = led(state, &[Request::Rollback(length as u16)]);
+    state = led(state, &[Request::Rollback(length as u64)]);
     for (name, job) in [("job 3 open", 3), ("job 3 return", 3), ("job 4 open", 4), ("job 4 push", 4)] {
         scenes.push(requested(name, length, &state, work(job, length)));
         state = led(state, &[work(job, length)]);
@@ -214,7 +214,7 @@ fn jobs(length: usize, base: &State, before_last: State) -> Vec<Scene> {
 fn reads(length: usize, base: &State) -> Vec<Scene> {
     [
         ("read a value", Call::Read(Query::Value { table: 2, path: 9 })),
-        ("read a transaction", Call::Read(Query::Transaction { number: length as u16, field: 4 })),
+        ("read a transaction", Call::Read(Query::Transaction { number: length as u64, field: 4 })),
         ("read a record", Call::Read(Query::Record { field: 9 })),
         ("read a connection", Call::Read(Query::Connection { node: 8, field: 1 })),
         ("live list", Call::Live),
@@ -230,10 +230,10 @@ fn folds(length: usize, base: State) -> Vec<Scene> {
     let mut scenes: Vec<Scene> = dropped
         .into_iter()
         .filter(|(_, dropped)| *dropped <= length)
-        .map(|(name, dropped)| requested(name, length, &base, Request::Fold(dropped as u16)))
+        .map(|(name, dropped)| requested(name, length, &base, Request::Fold(dropped as u64)))
         .collect();
-    let asked = if length == 0 { base } else { led(base, &[Request::Rollback(length as u16)]) };
-    scenes.push(requested("fold refused", length, &asked, Request::Fold(length.max(1) as u16)));
+    let asked = if length == 0 { base } else { led(base, &[Request::Rollback(length as u64)]) };
+    scenes.push(requested("fold refused", length, &asked, Request::Fold(length.max(1) as u64)));
     scenes
 }
 

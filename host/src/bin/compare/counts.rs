@@ -1,7 +1,8 @@
 //! What a comparison has seen: calls, replies, and rules taken, whole and cut. Something not seen is a failure.
 
-use crate::folds::Seen;
-use makowist_host::controller::Refusal;
+use crate::folds;
+use crate::wide;
+use makowist_host::controller::{Refusal, State};
 use makowist_host::jobs::Rule;
 use makowist_host::northbound::{Request, Served};
 use makowist_host::reads::{Query, CONNECTION_FIELDS, RECORD_FIELDS, TABLES, TRANSACTION_FIELDS};
@@ -21,7 +22,9 @@ pub struct Counts {
     /// Logs led to the last number.
     pub migrations: u64,
     /// What order 10 brings.
-    pub folds: Seen,
+    pub folds: folds::Seen,
+    /// Numbers of more than 16 bits, and rooms by the byte.
+    pub wide: wide::Seen,
     /// By what is read: how often each table or field was shown.
     shown: [[u64; TRANSACTION_FIELDS as usize]; KINDS.len()],
     /// By what is read: how often each refusal was answered.
@@ -32,7 +35,7 @@ pub struct Counts {
 const ANSWERS: usize = Refusal::Folded as usize + 1;
 
 /// What is read, how many tables or fields it has, and the refusals that it can answer.
-const KINDS: [(&str, u16, &[usize]); 4] = [
+const KINDS: [(&str, u64, &[usize]); 4] = [
     ("value", TABLES, &[1, 2]),
     ("transaction", TRANSACTION_FIELDS, &[1, 2, 5, 18]),
     ("record", RECORD_FIELDS, &[1, 2]),
@@ -44,7 +47,7 @@ impl Counts {
         self.calls += 1;
         self.answers[served.reply.map_or_else(|refusal| refusal.number().into(), |_| 0)] += 1;
         if let (Some(rule), Request::Work { cut, .. }) = (served.rule, request) {
-            self.rules[rule as usize][usize::from(*cut)] += 1;
+            self.rules[rule as usize][usize::from(*cut == 1)] += 1;
         }
     }
 
@@ -53,7 +56,7 @@ impl Counts {
         self.answers[(packed & 0xff) as usize] += 1;
     }
 
-    pub fn queried(&mut self, query: Query, packed: u64) {
+    pub fn queried(&mut self, state: Option<&State>, query: Query, packed: u64) {
         let (kind, field) = match query {
             Query::Value { table, .. } => (0, table),
             Query::Transaction { field, .. } => (1, field),
@@ -62,8 +65,11 @@ impl Counts {
         };
         self.read(packed);
         match packed & 0xff {
-            0 => self.shown[kind][usize::from(field) - 1] += 1,
+            0 => self.shown[kind].get_mut(field as usize - 1).into_iter().for_each(|shown| *shown += 1),
             refusal => self.refused[kind][refusal as usize] += 1,
+        }
+        if let Some(state) = state {
+            self.wide.queried(state, query, packed & 0xff);
         }
     }
 
@@ -71,7 +77,7 @@ impl Counts {
     fn told_reads(&self) -> usize {
         let mut unseen = 0;
         for (place, (kind, fields, refusals)) in KINDS.into_iter().enumerate() {
-            let shown = &self.shown[place][..fields.into()];
+            let shown = &self.shown[place][..fields as usize];
             let refused: Vec<u64> = refusals.iter().map(|refusal| self.refused[place][*refusal]).collect();
             let least = shown.iter().min().unwrap_or(&0);
             println!(
@@ -95,6 +101,7 @@ impl Counts {
         println!("{:>12}  masters that had reconnected freed", self.freed);
         println!("{:>12}  logs led to the last number", self.migrations);
         let unseen_folds = self.folds.told();
+        let unseen_wide = self.wide.told();
         let unseen_reads = self.told_reads();
         println!("{:>12}  {:>12}  rule", "whole", "cut");
         for (rule, [whole, cut]) in Rule::ALL.iter().zip(&self.rules) {
@@ -106,6 +113,6 @@ impl Counts {
         let rules = self.rules.iter().filter(|[whole, cut]| whole + cut > 0).count();
         println!("rules seen: {rules} of {}; refusals seen: {refusals} of {}", Rule::ALL.len(), Refusal::ALL.len());
         let unseen = [self.states, self.freed, self.migrations].iter().filter(|count| **count == 0).count();
-        unseen + unseen_answers + unseen_rules + unseen_reads + unseen_folds
+        unseen + unseen_answers + unseen_rules + unseen_reads + unseen_folds + unseen_wide
     }
 }

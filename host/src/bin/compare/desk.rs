@@ -2,7 +2,7 @@
 
 use crate::counts::Counts;
 use crate::watch::Watch;
-use makowist_host::controller::State;
+use makowist_host::controller::{State, LOG_LIMIT};
 use makowist_host::fault::Fault;
 use makowist_host::guarded::{Edge, Guarded};
 use makowist_host::image;
@@ -23,10 +23,10 @@ impl fmt::Display for Difference {
 pub type Compared<T> = Result<T, Difference>;
 
 /// What lies in room before the live list is written there.
-const UNWRITTEN: u16 = 0xabcd;
+const UNWRITTEN: u8 = 0xab;
 
-/// The most room that a live list is lent, past the longest list.
-pub const MOST_ROOM: usize = 130;
+/// The most bytes of room that a live list is lent, past the longest list.
+pub const MOST_ROOM: usize = 2 * LOG_LIMIT + 5;
 
 pub struct Desk {
     lent: Guarded,
@@ -102,6 +102,7 @@ impl Desk {
         };
         self.counts.freed += u64::from(reconnected && served.reply.is_ok());
         self.counts.folds.called(rested_at, state, request, &served);
+        self.counts.wide.called(state, request, served.packed() & 0xff);
         served
     }
 
@@ -158,7 +159,7 @@ impl Desk {
         let expected = self.fault.map_or(query, |fault| fault.misread(state, query)).packed(state, bytes);
         let lent = self.lent.bytes(bytes.len(), self.edge);
         let reply = peer::read(lent, query);
-        self.counts.queried(query, expected);
+        self.counts.queried(state, query, expected);
         if reply != expected {
             return Err(Difference(format!(
                 "{query:?}\n  independent {expected:#x}\n  proved {reply:#x}\n{}",
@@ -168,22 +169,25 @@ impl Desk {
         same_bytes(bytes, lent)
     }
 
-    /// Compares whether lent bytes are well-formed, and their live list in that room.
+    /// Compares whether lent bytes are well-formed, and their live list in room of so many bytes.
     pub fn read(&mut self, state: Option<&State>, bytes: &[u8], room: usize) -> Compared<()> {
         let mut expected_room = [UNWRITTEN; MOST_ROOM];
         let expected = match self.fault {
             None => northbound::live_of(state, &mut expected_room[..room]),
             Some(fault) => fault.live_of(state, &mut expected_room[..room]),
         };
-        let lent_room = self.lent_room.numbers(room, self.edge);
+        let lent_room = self.lent_room.bytes(room, self.edge);
         lent_room.fill(UNWRITTEN);
         let lent = self.lent.bytes(bytes.len(), self.edge);
         let reply = peer::live(lent, lent_room);
         let formed = peer::well_formed(lent);
         self.counts.read(expected);
+        if let Some(state) = state {
+            self.counts.wide.listed(state.live().count(), room);
+        }
         if reply != expected || lent_room != &expected_room[..room] {
             return Err(Difference(format!(
-                "live list in room of {room}\n  independent {expected:#x} {:?}\n  proved {reply:#x} {lent_room:?}\n{}",
+                "live list in room of {room} bytes\n  independent {expected:#x} {:?}\n  proved {reply:#x} {lent_room:?}\n{}",
                 &expected_room[..room],
                 shown(bytes)
             )));

@@ -3,6 +3,7 @@
 
 use crate::desk::{Compared, Desk};
 use crate::sessions::opened;
+use makowist_host::arguments::Wide;
 use makowist_host::controller::{Number, State};
 use makowist_host::guarded::Edge;
 use makowist_host::northbound::{bytes_of, Request};
@@ -50,7 +51,7 @@ fn walk(desk: &mut Desk, folded: Number, transactions: usize) -> Compared<bool> 
                 let reached = desk.call_from(state, bytes, &request)?;
                 next.extend(reached.filter(|(after, _)| walks && seen.insert(after.clone())));
             }
-            for room in 0..=transactions {
+            for room in 0..=2 * transactions + 1 {
                 desk.read(Some(state), bytes, room)?;
             }
             if place % READ_ONE_IN == 0 {
@@ -91,15 +92,19 @@ fn requests(state: &State, appended: usize, transactions: usize) -> Vec<(Request
             all.push((Request::Work { node: 2, job, number, outcome: 0, cut: 0 }, false));
         }
     }
+    let number = u64::from(state.highest().0);
     for [node, job, outcome, cut] in [[0, 1, 0, 0], [9, 1, 0, 0], [1, 0, 0, 0], [1, 5, 0, 0], [1, 1, 2, 0], [1, 1, 0, 2]] {
-        all.push((Request::Work { node, job, number: state.highest().0, outcome, cut }, false));
+        all.push((Request::Work { node, job, number, outcome, cut }, false));
     }
+    let number = Wide::Above16.of(number);
+    all.extend([Request::Rollback(number), Request::Fold(number)].map(|request| (request, false)));
+    all.extend((1..=4).map(|job| (Request::Work { node: 1, job, number, outcome: 0, cut: 0 }, false)));
     all
 }
 
 /// Every read of what differs between these states: the log, the heads, and the values of the paths that are changed.
 fn queries(state: &State) -> impl Iterator<Item = Query> {
-    let changed = |path: u16| CHANGES.iter().any(|change| change.iter().any(|(changed, _)| *changed == path));
+    let changed = |path: u64| CHANGES.iter().any(|change| change.iter().any(|(changed, _)| u64::from(*changed) == path));
     Query::all(state).into_iter().filter(move |query| match query {
         Query::Value { path, .. } => changed(*path),
         Query::Connection { .. } => false,

@@ -72,11 +72,11 @@ impl Seen {
     pub fn called(&mut self, rested_at: Number, state: &State, request: &Request, served: &Served) {
         let kind = match (request, served.reply) {
             (Request::Fold(_), Ok(_)) => Some(Kind::FoldAccepted),
-            (Request::Fold(number), Err(refusal)) => refused_fold(state, Number(*number), refusal),
+            (Request::Fold(number), Err(refusal)) => refused_fold(state, *number, refusal),
             (Request::Rollback(_), Err(Refusal::Folded)) => Some(Kind::RollbackOfFolded),
             (Request::Work { node, .. }, Err(Refusal::Folded)) => Some(work_on_folded(state, *node)),
             (Request::Append(_), reply) => appended(state, reply),
-            (Request::Work { number, .. }, Ok(_)) => worked(rested_at, state, Number(*number), served.rule),
+            (Request::Work { number, .. }, Ok(_)) => worked(rested_at, state, *number, served.rule),
             _ => None,
         };
         kind.into_iter().for_each(|kind| self.saw(kind));
@@ -115,12 +115,13 @@ impl Seen {
     }
 }
 
-fn refused_fold(state: &State, number: Number, refusal: Refusal) -> Option<Kind> {
+fn refused_fold(state: &State, number: u64, refusal: Refusal) -> Option<Kind> {
     match refusal {
-        Refusal::NoSuchNumber if number == Number::NONE => Some(Kind::FoldOfNone),
-        Refusal::NoSuchNumber if number <= state.folded => Some(Kind::FoldOfFolded),
+        Refusal::NoSuchNumber if number == 0 => Some(Kind::FoldOfNone),
+        Refusal::NoSuchNumber if number <= state.folded.0.into() => Some(Kind::FoldOfFolded),
         Refusal::NoSuchNumber => Some(Kind::FoldPastTheEnd),
         Refusal::NotFinished => {
+            let number = state.given(number).ok()?;
             let mut found = Hindrance::ALL.into_iter().filter(|hindrance| state.is_hindered(number, *hindrance));
             found.next().filter(|_| found.next().is_none()).map(Kind::FoldRefusedOnlyFor)
         }
@@ -128,8 +129,8 @@ fn refused_fold(state: &State, number: Number, refusal: Refusal) -> Option<Kind>
     }
 }
 
-fn work_on_folded(state: &State, node: u16) -> Kind {
-    let is_master = state.mastership.master.is_some_and(|master| u16::from(master.number()) == node);
+fn work_on_folded(state: &State, node: u64) -> Kind {
+    let is_master = state.mastership.master.is_some_and(|master| u64::from(master.number()) == node);
     if is_master { Kind::WorkOnFolded } else { Kind::WorkOnFoldedByAnother }
 }
 
@@ -142,11 +143,11 @@ fn appended(state: &State, reply: Result<Answer, Refusal>) -> Option<Kind> {
     }
 }
 
-fn worked(rested_at: Number, state: &State, number: Number, rule: Option<Rule>) -> Option<Kind> {
+fn worked(rested_at: Number, state: &State, number: u64, rule: Option<Rule>) -> Option<Kind> {
     let is_folded = |number: Number| number != Number::NONE && number <= state.folded;
     match rule? {
         Rule::CommitChangeOpen | Rule::CommitRollbackOpen if is_folded(rested_at) => Some(Kind::OpenedFromFoldedMark),
-        Rule::CommitRollbackReturn if is_folded(state.transaction(number)?.r_index) => Some(Kind::ReturnedToFolded),
+        Rule::CommitRollbackReturn if is_folded(state.transaction(state.given(number).ok()?)?.r_index) => Some(Kind::ReturnedToFolded),
         _ => None,
     }
 }

@@ -21,7 +21,7 @@ pub fn run(desk: &mut Desk, rolled_back_one_in: usize, random: &mut Random) -> C
     let (state, bytes) = opened(desk, Number::NONE)?;
     let mut migration = Migration { desk, state, bytes };
     while migration.state.highest() < Number::LIMIT && !migration.desk.is_over() {
-        let number = migration.state.highest().0 + 1;
+        let number = u64::from(migration.state.highest().0) + 1;
         migration.call(&Request::Append(change(random)))?;
         migration.jobs([1, 1, 2, 2], number)?;
         if random.once_in(rolled_back_one_in) {
@@ -44,7 +44,7 @@ impl Migration<'_> {
         self.desk.call(&mut self.state, &mut self.bytes, request).map(|_| ())
     }
 
-    fn jobs(&mut self, jobs: [u16; 4], number: u16) -> Compared<()> {
+    fn jobs(&mut self, jobs: [u64; 4], number: u64) -> Compared<()> {
         jobs.iter().try_for_each(|job| self.call(&Request::Work { node: 1, job: *job, number, outcome: 0, cut: 0 }))
     }
 
@@ -57,7 +57,7 @@ impl Migration<'_> {
             _ if kept < LOG_LIMIT && !random.once_in(40) => return Ok(()),
             _ => random.between(1, kept),
         };
-        self.call(&Request::Fold(self.state.folded.0 + count as u16))
+        self.call(&Request::Fold(u64::from(self.state.folded.0) + count as u64))
     }
 
     fn read(&mut self, random: &mut Random) -> Compared<()> {
@@ -72,7 +72,7 @@ impl Migration<'_> {
         for query in Query::all(&self.state) {
             self.desk.query(Some(&self.state), &self.bytes, query)?;
         }
-        for number in [self.state.folded.0 + 1, Number::LIMIT.0] {
+        for number in [self.state.folded.0 + 1, Number::LIMIT.0].map(u64::from) {
             self.call(&Request::Fold(number))?;
             self.call(&append)?;
         }

@@ -10,7 +10,8 @@
 //! - `fault=all`: try every fault, and end with 1 where one is not found
 //! - `overrun=End`, `overrun=Begin`: write the byte outside that edge of a lent slice, which must end the program
 //!
-//! Ends with 0 where there is no difference and no count is 0: every answer, every rule, whole and cut, every read.
+//! Ends with 0 where there is no difference and no count is 0: every answer, every rule, whole and cut, every read, every
+//! argument too great in every way.
 
 mod counts;
 mod desk;
@@ -20,6 +21,7 @@ mod long;
 mod sessions;
 mod states;
 mod watch;
+mod wide;
 
 use desk::{Compared, Desk};
 use makowist_host::controller::Number;
@@ -90,8 +92,10 @@ fn compare(desk: &mut Desk, sizes: &Sizes, seed: u64, tells: bool) -> Compared<(
     }
     for edge in [Edge::End, Edge::Begin] {
         desk.edge = edge;
+        wide::run(desk)?;
+        told("numbers of more than 16 bits in every argument", desk);
         FOLDED.into_iter().try_for_each(|folded| sessions::rooms(desk, folded))?;
-        told("live lists of every length in rooms of every length", desk);
+        told("live lists of every length in rooms of every length in bytes", desk);
         sessions::run(desk, sizes.sessions / 2, &mut random)?;
         told("random sessions", desk);
     }

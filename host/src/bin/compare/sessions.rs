@@ -88,10 +88,10 @@ fn session(desk: &mut Desk, random: &mut Random) -> Compared<()> {
     Ok(())
 }
 
-/// Compares the live list in rooms of every length, for lists of every length that follow on a last fold.
+/// Compares the live list in rooms of every length in bytes, for lists of every length that follow on a last fold.
 pub fn rooms(desk: &mut Desk, folded: Number) -> Compared<()> {
     let (mut state, mut bytes) = opened(desk, folded)?;
-    for number in folded.0 + 1..=folded.0 + 129 {
+    for number in u64::from(folded.0) + 1..=u64::from(folded.0) + 129 {
         for room in 0..=MOST_ROOM {
             desk.read(Some(&state), &bytes, room)?;
         }

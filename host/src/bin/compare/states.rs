@@ -185,36 +185,32 @@ impl Focus {
     fn request(&self, state: &State, random: &mut Random) -> Request {
         let near = |random: &mut Random| match random.below(8) {
             0 => any_number(state, random),
-            _ => self.number,
+            _ => self.number.into(),
         };
         if self.folds && random.once_in(2) {
-            let below = if random.once_in(2) { 0 } else { random.below(state.log.len() + 1) as u16 };
+            let below = if random.once_in(2) { 0 } else { random.below(state.log.len() + 1) as u64 };
             return Request::Fold(near(random).saturating_sub(below));
         }
+        let master = u64::from(self.master);
         match random.below(14) {
             0 => Request::Rollback(near(random)),
             1 => Request::Append(change(random)),
             2 => random.one_of(&[Request::Start, Request::Stop].each_ref()).clone(),
-            3 => Request::Master(self.master),
-            4 => Request::Sync(self.master),
-            5 => Request::Connect(self.master),
+            3 => Request::Master(master),
+            4 => Request::Sync(master),
+            5 => Request::Connect(master),
             6 | 7 => Request::Fold(near(random)),
             _ => {
                 let job = match random.below(3) {
-                    0 => random.between(1, 4) as u16,
+                    0 => random.between(1, 4) as u64,
                     _ if state.transaction(Number(self.number)).is_some_and(|it| it.phase == Phase::Rollback) => {
                         random.one_of(&[3, 4, 4])
                     }
                     _ => random.one_of(&[1, 2, 2]),
                 };
                 let number = near(random);
-                Request::Work {
-                    node: self.master,
-                    job,
-                    number,
-                    outcome: random.below(2) as u16,
-                    cut: random.below(2) as u16,
-                }
+                let (outcome, cut) = (random.below(2) as u64, random.below(2) as u64);
+                Request::Work { node: master, job, number, outcome, cut }
             }
         }
     }
@@ -252,7 +248,7 @@ impl Focus {
                 term: Term(random.one_of(&[term, term, term.saturating_sub(1), term.saturating_add(1), 0])),
             },
             mastership: Mastership {
-                master: Node::new(random.one_of(&[self.master, self.master, self.master, self.master, 0])),
+                master: Node::new(random.one_of(&[self.master, self.master, self.master, self.master, 0]).into()),
                 term: Term(term),
                 conn,
             },
