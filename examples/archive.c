@@ -40,16 +40,15 @@ static uint64_t summed(uint64_t sum, const char *text, size_t length) {
 }
 
 static unsigned field_of(const uint8_t *image, unsigned number, unsigned field) {
-    return makowist_reply_value(makowist_transaction(image, MAKOWIST_IMAGE_LENGTH, (uint16_t)number, (uint16_t)field));
+    return makowist_reply_value(makowist_transaction(image, MAKOWIST_IMAGE_LENGTH, number, field));
 }
 
 static unsigned record_of(const uint8_t *image, unsigned field) {
-    return makowist_reply_value(makowist_record(image, MAKOWIST_IMAGE_LENGTH, (uint16_t)field));
+    return makowist_reply_value(makowist_record(image, MAKOWIST_IMAGE_LENGTH, field));
 }
 
 /* The entry, which the image still holds, as far as the sum. */
 static void add_entry(struct line *line, const uint8_t *image, unsigned number) {
-    static const char *const statuses[] = {"None", "Pending", "InProgress", "Complete", "Aborted", "Canceled", "Failed"};
     unsigned pairs = field_of(image, number, MAKOWIST_TRANSACTION_PAIRS);
     unsigned phase = field_of(image, number, MAKOWIST_TRANSACTION_PHASE);
     unsigned c_commit = field_of(image, number, MAKOWIST_TRANSACTION_C_COMMIT);
@@ -63,9 +62,9 @@ static void add_entry(struct line *line, const uint8_t *image, unsigned number) 
     add(line, " valid=%d taken=%d undone=%d", c_commit == MAKOWIST_STATUS_COMPLETE, c_apply == MAKOWIST_STATUS_COMPLETE,
         r_apply == MAKOWIST_STATUS_COMPLETE || r_apply == MAKOWIST_STATUS_CANCELED);
     add(line, " phase=%s", phase == MAKOWIST_PHASE_CHANGE ? "Change" : "Rollback");
-    add(line, " c_commit=%s c_apply=%s c_ordinal=%u", statuses[c_commit], statuses[c_apply],
+    add(line, " c_commit=%s c_apply=%s c_ordinal=%u", makowist_status_name(c_commit), makowist_status_name(c_apply),
         field_of(image, number, MAKOWIST_TRANSACTION_C_ORDINAL));
-    add(line, " r_commit=%s r_apply=%s r_ordinal=%u", statuses[r_commit], statuses[r_apply],
+    add(line, " r_commit=%s r_apply=%s r_ordinal=%u", makowist_status_name(r_commit), makowist_status_name(r_apply),
         field_of(image, number, MAKOWIST_TRANSACTION_R_ORDINAL));
     add(line, " r_index=%u r_values=", field_of(image, number, MAKOWIST_TRANSACTION_R_INDEX));
     for (unsigned k = 0; k < pairs; ++k)

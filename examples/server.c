@@ -120,7 +120,7 @@ static struct archive opened(const struct place *place) {
 /* ---- The lines. */
 
 /* Takes a decimal to 65,535 from the text, leading zeros too. */
-static int takes_number(const char **at, const char *end, uint16_t *number) {
+static int takes_number(const char **at, const char *end, unsigned *number) {
     const char *first = *at;
     unsigned value = 0;
     for (; *at < end && **at >= '0' && **at <= '9'; ++*at) {
@@ -128,12 +128,12 @@ static int takes_number(const char **at, const char *end, uint16_t *number) {
         if (value > UINT16_MAX)
             return 0;
     }
-    *number = (uint16_t)value;
+    *number = value;
     return *at > first;
 }
 
 /* Takes the form from the text; each # in it stands for a number. */
-static int takes(const char **at, const char *end, const char *form, uint16_t *numbers) {
+static int takes(const char **at, const char *end, const char *form, unsigned *numbers) {
     for (; *form; ++form) {
         if (*form == '#') {
             if (!takes_number(at, end, numbers++))
@@ -145,7 +145,7 @@ static int takes(const char **at, const char *end, const char *form, uint16_t *n
     return 1;
 }
 
-static int is(const char *line, const char *end, const char *form, uint16_t *numbers) {
+static int is(const char *line, const char *end, const char *form, unsigned *numbers) {
     return takes(&line, end, form, numbers) && line == end;
 }
 
@@ -154,7 +154,7 @@ static uint64_t append(const char *at, const char *end) {
     uint8_t pairs[(MAKOWIST_PAIR_LIMIT + 1) * MAKOWIST_PAIR_LENGTH] = {0};
     size_t length = 0;
     while (at < end || length > 0) {
-        uint16_t pair[2];
+        unsigned pair[2];
         if (!takes(&at, end, "#:#", pair))
             return MAKOWIST_OUT_OF_RANGE;
         if (length < sizeof pairs) {
@@ -170,7 +170,7 @@ static uint64_t append(const char *at, const char *end) {
 }
 
 /* A fold. What it drops is archived before the image without it is kept; a copy shows whether it is accepted. */
-static uint64_t fold(struct archive *archive, uint16_t number) {
+static uint64_t fold(struct archive *archive, unsigned number) {
     uint8_t folded[MAKOWIST_IMAGE_LENGTH];
     memcpy(folded, image, sizeof folded);
     uint64_t reply = makowist_fold(folded, sizeof folded, number);
@@ -184,7 +184,7 @@ static uint64_t fold(struct archive *archive, uint16_t number) {
 /* The reply to a line. One that is no call is refused as out of range. */
 static uint64_t reply_to(struct archive *archive, const char *line, const char *end) {
     const char *after = line;
-    uint16_t n[5];
+    unsigned n[5];
     if (takes(&after, end, "call=append pairs=", n))
         return append(after, end);
     if (is(line, end, "call=rollback number=#", n))
@@ -215,7 +215,7 @@ static void answer(uint64_t reply) {
         fail("standard output", strerror(errno));
 }
 
-static unsigned shown(uint16_t field) { return makowist_reply_value(makowist_record(image, sizeof image, field)); }
+static unsigned shown(unsigned field) { return makowist_reply_value(makowist_record(image, sizeof image, field)); }
 
 int main(int count, char **words) {
     if (count != 2) {
