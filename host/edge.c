@@ -1,0 +1,281 @@
+/* edge.c: what makowist.h promises at its edges, held from C: nothing lent, numbers of more than 16 bits in every argument,
+ * names, pairs that have no 16 bits, and the list in bytes.
+ *
+ * What is lent is from the heap and as long as is said, so that the tools that watch memory see a byte too many. Ends with 1
+ * at the first promise that does not hold. */
+#include <inttypes.h>
+#include <stdio.h>
+#include <stdlib.h>
+#include <string.h>
+
+#include "makowist.h"
+
+enum { LENGTH = MAKOWIST_IMAGE_LENGTH, MOST_NUMBERS = 5 };
+
+static unsigned checks;
+
+static void hold(int holds, const char *what, const char *where, uint64_t found) {
+    ++checks;
+    if (holds)
+        return;
+    fprintf(stderr, "edge: %s: %s: %" PRIu64 " (%#" PRIx64 ")\n", what, where, found, found);
+    exit(1);
+}
+
+static uint8_t *lent(size_t length) {
+    uint8_t *bytes = malloc(length);
+    if (!bytes)
+        exit(1);
+    return bytes;
+}
+
+static uint8_t *copied(const uint8_t *bytes, size_t length) { return memcpy(lent(length), bytes, length); }
+
+/* ---- Every function, its numbers lent as a list. */
+
+typedef uint64_t function(uint8_t *image, size_t length, const uint64_t *n);
+
+static uint64_t fresh(uint8_t *image, size_t length, const uint64_t *n) { return (void)n, makowist_fresh(image, length); }
+static uint64_t append(uint8_t *image, size_t length, const uint64_t *n) {
+    return (void)n, makowist_append(image, length, NULL, 0);
+}
+static uint64_t rollback(uint8_t *image, size_t length, const uint64_t *n) { return makowist_rollback(image, length, n[0]); }
+static uint64_t start(uint8_t *image, size_t length, const uint64_t *n) { return (void)n, makowist_start(image, length); }
+static uint64_t stop(uint8_t *image, size_t length, const uint64_t *n) { return (void)n, makowist_stop(image, length); }
+static uint64_t connect(uint8_t *image, size_t length, const uint64_t *n) { return makowist_connect(image, length, n[0]); }
+static uint64_t disconnect(uint8_t *image, size_t length, const uint64_t *n) {
+    return makowist_disconnect(image, length, n[0]);
+}
+static uint64_t master(uint8_t *image, size_t length, const uint64_t *n) { return makowist_master(image, length, n[0]); }
+static uint64_t sync_once(uint8_t *image, size_t length, const uint64_t *n) { return makowist_sync(image, length, n[0]); }
+static uint64_t work(uint8_t *image, size_t length, const uint64_t *n) {
+    return makowist_work(image, length, n[0], n[1], n[2], n[3], n[4]);
+}
+static uint64_t fold(uint8_t *image, size_t length, const uint64_t *n) { return makowist_fold(image, length, n[0]); }
+static uint64_t well_formed(uint8_t *image, size_t length, const uint64_t *n) {
+    return (void)n, makowist_well_formed(image, length);
+}
+static uint64_t live(uint8_t *image, size_t length, const uint64_t *n) {
+    return (void)n, makowist_live(image, length, NULL, 0);
+}
+static uint64_t value(uint8_t *image, size_t length, const uint64_t *n) { return makowist_value(image, length, n[0], n[1]); }
+static uint64_t transaction(uint8_t *image, size_t length, const uint64_t *n) {
+    return makowist_transaction(image, length, n[0], n[1]);
+}
+static uint64_t record(uint8_t *image, size_t length, const uint64_t *n) { return makowist_record(image, length, n[0]); }
+static uint64_t connection(uint8_t *image, size_t length, const uint64_t *n) {
+    return makowist_connection(image, length, n[0], n[1]);
+}
+
+/* The image's log has FOLDED folded and two more, LAST the last: both bytes of its numbers are used. */
+enum { FOLDED = 256, LAST = 258 };
+enum { RANGE = MAKOWIST_OUT_OF_RANGE, NUMBER = MAKOWIST_NO_SUCH_NUMBER };
+
+/* A function, numbers for it that are in range, and how each is refused where it is too great. */
+struct call {
+    const char *name;
+    function *make;
+    size_t count;
+    uint64_t in_range[MOST_NUMBERS];
+    unsigned refusal[MOST_NUMBERS];
+};
+
+static const struct call calls[] = {
+    {"fresh", fresh, 0, {0}, {0}},
+    {"append", append, 0, {0}, {0}},
+    {"rollback", rollback, 1, {LAST}, {NUMBER}},
+    {"start", start, 0, {0}, {0}},
+    {"stop", stop, 0, {0}, {0}},
+    {"connect", connect, 1, {2}, {RANGE}},
+    {"disconnect", disconnect, 1, {1}, {RANGE}},
+    {"master", master, 1, {1}, {RANGE}},
+    {"sync", sync_once, 1, {1}, {RANGE}},
+    {"work", work, 5, {1, 2, LAST, 1, 1}, {RANGE, RANGE, NUMBER, RANGE, RANGE}},
+    {"fold", fold, 1, {LAST}, {NUMBER}},
+    {"well_formed", well_formed, 0, {0}, {0}},
+    {"live", live, 0, {0}, {0}},
+    {"value", value, 2, {MAKOWIST_TABLE_BASE, 3}, {RANGE, RANGE}},
+    {"transaction", transaction, 2, {LAST, MAKOWIST_TRANSACTION_PATH}, {NUMBER, RANGE}},
+    {"record", record, 1, {MAKOWIST_LAST_FOLD}, {RANGE}},
+    {"connection", connection, 2, {1, MAKOWIST_CONNECTION_ID}, {RANGE, RANGE}},
+};
+enum { CALLS = sizeof calls / sizeof *calls };
+
+/* ---- The image that the edges are tried on. */
+
+static void accepted(uint64_t reply, const char *what) {
+    hold(makowist_reply_answer(reply) == MAKOWIST_ACCEPTED, what, "accepted", reply);
+}
+
+static uint8_t *opened(void) {
+    uint8_t *image = lent(LENGTH);
+    accepted(makowist_fresh(image, LENGTH), "fresh");
+    accepted(makowist_start(image, LENGTH), "start");
+    accepted(makowist_connect(image, LENGTH, 1), "connect");
+    accepted(makowist_master(image, LENGTH, 1), "master");
+    accepted(makowist_sync(image, LENGTH, 1), "sync");
+    accepted(makowist_sync(image, LENGTH, 1), "sync");
+    return image;
+}
+
+/* A log led to LAST, all of it committed and applied, and folded up to FOLDED. */
+static uint8_t *led(void) {
+    uint8_t *image = opened(), pair[MAKOWIST_PAIR_LENGTH];
+    for (uint64_t number = 1; number <= LAST; ++number) {
+        makowist_put_pair(pair, number % MAKOWIST_PATHS, number);
+        accepted(makowist_append(image, LENGTH, pair, sizeof pair), "append");
+        for (uint64_t step = 0; step < 4; ++step)
+            accepted(makowist_work(image, LENGTH, 1, 1 + step / 2, number, 0, 0), "work");
+        if (number <= FOLDED)
+            accepted(makowist_fold(image, LENGTH, number), "fold");
+    }
+    return image;
+}
+
+/* ---- Nothing lent. */
+
+static void nothing_lent(uint8_t *image) {
+    uint8_t *before = copied(image, LENGTH), *room = lent(2), *empty = opened();
+    static const uint8_t pair[MAKOWIST_PAIR_LENGTH] = {3, 0, 7, 0};
+    for (size_t k = 0; k < CALLS; ++k) {
+        uint64_t reply = calls[k].make(NULL, 0, calls[k].in_range);
+        hold(reply == MAKOWIST_NOT_WELL_FORMED, "no image", calls[k].name, reply);
+    }
+    hold(makowist_append(NULL, 0, pair, sizeof pair) == MAKOWIST_NOT_WELL_FORMED, "no image", "append of a pair", 0);
+    memset(room, 0xab, 2);
+    hold(makowist_live(NULL, 0, room, 2) == MAKOWIST_NOT_WELL_FORMED, "no image", "live", 0);
+    hold(room[0] == 0xab && room[1] == 0xab, "no image", "the room stays", room[0]);
+    hold(makowist_append(image, LENGTH, NULL, 0) == MAKOWIST_NOT_A_CHANGE, "no pairs", "append", 0);
+    hold(makowist_live(image, LENGTH, NULL, 0) == MAKOWIST_NO_ROOM, "no room", "live", 0);
+    hold(makowist_live(empty, LENGTH, NULL, 0) == MAKOWIST_ACCEPTED, "no room", "an empty list", 0);
+    hold(memcmp(image, before, LENGTH) == 0, "nothing lent", "every byte as it was", 0);
+    free(before);
+    free(room);
+    free(empty);
+}
+
+/* ---- Numbers of more than 16 bits. */
+
+enum { WIDE = 5 };
+
+/* The k-th way in which a number is too great, given one that is in range. */
+static uint64_t wide(size_t k, uint64_t in_range) {
+    const uint64_t all[WIDE] = {UINT64_C(1) << 16, UINT64_C(1) << 32, UINT64_MAX, (UINT64_C(1) << 16) + in_range,
+                                (UINT64_C(1) << 32) + in_range};
+    return all[k];
+}
+
+static void refused(const struct call *call, uint8_t *image, const uint64_t *n, unsigned refusal) {
+    uint8_t *before = copied(image, LENGTH);
+    uint64_t reply = call->make(image, LENGTH, n);
+    hold(reply == refusal, "too great", call->name, reply);
+    hold(memcmp(image, before, LENGTH) == 0, "too great, every byte as it was", call->name, refusal);
+    reply = call->make(image, LENGTH - 1, n);
+    hold(reply == MAKOWIST_NOT_WELL_FORMED, "too great, and no image", call->name, reply);
+    free(before);
+}
+
+/* Each number alone; and all of them at once, which is refused as out of range where one can be. */
+static void too_great(const struct call *call, uint8_t *image) {
+    for (size_t k = 0; k < WIDE; ++k) {
+        uint64_t n[MOST_NUMBERS];
+        unsigned first = NUMBER;
+        for (size_t place = 0; place < call->count; ++place) {
+            memcpy(n, call->in_range, sizeof n);
+            n[place] = wide(k, n[place]);
+            refused(call, image, n, call->refusal[place]);
+            if (call->refusal[place] == RANGE)
+                first = RANGE;
+        }
+        for (size_t place = 0; place < call->count; ++place)
+            n[place] = wide(k, call->in_range[place]);
+        if (call->count > 0)
+            refused(call, image, n, first);
+    }
+}
+
+/* The numbers that are said to be in range are, or nothing would be shown above. */
+static void in_range(const struct call *call, const uint8_t *image) {
+    uint8_t *copy = copied(image, LENGTH);
+    unsigned answer = makowist_reply_answer(call->make(copy, LENGTH, call->in_range));
+    hold(answer != RANGE && answer != NUMBER && answer != MAKOWIST_FOLDED, "in range", call->name, answer);
+    free(copy);
+}
+
+/* ---- Names, pairs, the list. */
+
+static void names(void) {
+    static const char *const answers[] = {
+        "accepted", "not well-formed", "out of range", "not a change", "log full", "no such number", "no rollback",
+        "already so", "target stopped", "counter at limit", "not master", "no rule", "line not open", "push rejected",
+        "no room", "?", "?", "not finished", "folded", "?", "?"};
+    static const char *const statuses[] = {"None", "Pending", "InProgress", "Complete", "Aborted", "Canceled", "Failed"};
+    for (uint64_t k = 0; k <= 20; ++k) {
+        const char *status = k <= MAKOWIST_STATUS_FAILED ? statuses[k] : "?";
+        hold(strcmp(makowist_answer_name(k), answers[k]) == 0, "answer's name", makowist_answer_name(k), k);
+        hold(strcmp(makowist_status_name(k), status) == 0, "status's name", makowist_status_name(k), k);
+    }
+    hold(strcmp(makowist_answer_name(UINT64_MAX), "?") == 0, "answer's name", "2^64 - 1", UINT64_MAX);
+    hold(strcmp(makowist_status_name(UINT64_MAX), "?") == 0, "status's name", "2^64 - 1", UINT64_MAX);
+}
+
+/* What an append of the pair answers: read back where it is accepted, and else every byte as it was. */
+static void pair_is(const uint8_t *image, uint64_t path, uint64_t given, unsigned answer) {
+    uint8_t *copy = copied(image, LENGTH), *pair = lent(MAKOWIST_PAIR_LENGTH);
+    makowist_put_pair(pair, path, given);
+    uint64_t reply = makowist_append(copy, LENGTH, pair, MAKOWIST_PAIR_LENGTH);
+    hold(makowist_reply_answer(reply) == answer, "pair", makowist_answer_name(answer), reply);
+    if (answer == MAKOWIST_ACCEPTED) {
+        uint64_t number = makowist_reply_number(reply);
+        uint64_t read = makowist_transaction(copy, LENGTH, number, MAKOWIST_TRANSACTION_PATH);
+        hold(makowist_reply_value(read) == path, "pair", "path", read);
+        read = makowist_transaction(copy, LENGTH, number, MAKOWIST_TRANSACTION_VALUE);
+        hold(makowist_reply_value(read) == given, "pair", "value", read);
+    } else {
+        hold(memcmp(copy, image, LENGTH) == 0, "pair", "every byte as it was", path);
+    }
+    free(copy);
+    free(pair);
+}
+
+static void pairs(const uint8_t *image) {
+    pair_is(image, 3, 7, MAKOWIST_ACCEPTED);
+    pair_is(image, 31, 65535, MAKOWIST_ACCEPTED);
+    pair_is(image, 65539, 7, MAKOWIST_NOT_A_CHANGE);
+    pair_is(image, 3, 70000, MAKOWIST_NOT_A_CHANGE);
+    pair_is(image, 3, 65536, MAKOWIST_NOT_A_CHANGE);
+    pair_is(image, (UINT64_C(1) << 32) + 3, 7, MAKOWIST_NOT_A_CHANGE);
+    pair_is(image, 3, (UINT64_C(1) << 32) + 7, MAKOWIST_NOT_A_CHANGE);
+    pair_is(image, UINT64_MAX, UINT64_MAX, MAKOWIST_NOT_A_CHANGE);
+}
+
+/* The list is LAST and the one before it: four bytes. */
+static void listed(const uint8_t *image) {
+    for (size_t length = 1; length <= 7; ++length) {
+        uint8_t *room = lent(length);
+        memset(room, 0xab, length);
+        uint64_t reply = makowist_live(image, LENGTH, room, length);
+        size_t written = length < 4 ? 0 : 4;
+        hold(reply == (length < 4 ? (uint64_t)MAKOWIST_NO_ROOM : UINT64_C(2) << 32), "list", "answer", reply);
+        for (size_t k = written; k < length; ++k)
+            hold(room[k] == 0xab, "list", "room past it stays", k);
+        for (size_t k = 0; 2 * k < written; ++k)
+            hold(makowist_listed(room, k) == LAST - k, "list", "number", makowist_listed(room, k));
+        free(room);
+    }
+}
+
+int main(void) {
+    uint8_t *image = led();
+    nothing_lent(image);
+    for (size_t k = 0; k < CALLS; ++k) {
+        in_range(&calls[k], image);
+        too_great(&calls[k], image);
+    }
+    names();
+    pairs(image);
+    listed(image);
+    free(image);
+    printf("edge: %u checks hold\n", checks);
+    return 0;
+}
