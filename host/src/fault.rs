@@ -110,7 +110,7 @@ impl Fault {
         self.acted(state, request)
     }
 
-    /// The faults of the rules.
+    /// The faults of single rules.
     fn acted(self, state: &mut State, request: &Request) -> Served {
         let before = state.clone();
         let served = act(state, request);

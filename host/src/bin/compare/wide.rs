@@ -151,27 +151,27 @@ pub fn run(desk: &mut Desk) -> Compared<()> {
 }
 
 fn every_wide(desk: &mut Desk, state: &State, bytes: &[u8]) -> Compared<()> {
-    for request in requests(state) {
-        for place in 0..request.clone().numbers().len() {
-            for wide in Wide::ALL {
-                let mut request = request.clone();
-                let number = &mut *request.numbers()[place].1;
-                *number = wide.of(*number);
-                desk.call_from(state, bytes, &request)?;
-            }
-        }
+    for request in requests(state).iter().flat_map(|request| widened(request, Request::numbers)) {
+        desk.call_from(state, bytes, &request)?;
     }
-    for query in Query::all(state) {
-        for place in 0..query.clone().numbers().len() {
-            for wide in Wide::ALL {
-                let mut query = query;
-                let number = &mut *query.numbers()[place].1;
-                *number = wide.of(*number);
-                desk.query(Some(state), bytes, query)?;
-            }
-        }
+    for query in Query::all(state).iter().flat_map(|query| widened(query, Query::numbers)) {
+        desk.query(Some(state), bytes, query)?;
     }
     Ok(())
+}
+
+/// The call with each of its numbers made wide in each way.
+fn widened<T: Clone>(call: &T, numbers: impl Fn(&mut T) -> Numbers) -> Vec<T> {
+    let mut all = Vec::new();
+    for place in 0..numbers(&mut call.clone()).len() {
+        for wide in Wide::ALL {
+            let mut widened = call.clone();
+            let number = &mut *numbers(&mut widened)[place].1;
+            *number = wide.of(*number);
+            all.push(widened);
+        }
+    }
+    all
 }
 
 /// Every call with its numbers in range, jobs by the master and by another node.
