@@ -14,8 +14,8 @@ use Rattle.lines.specs.declared.reading.Call.the-variants.{Unreadable, A
 use Rattle.lines.specs.Text.{text}
 use Rattle.lines.specs.Decimal.{isDigit, spelled, decimal}
 use Rattle.lines.specs.Grammar.{allDigits, tenfold, Number}
-use Rattle.lines.specs.Reading.{order, pushed, wordAt, twoBytes, said}
-use Rattle.lines.proofs.Steps.{and-left, and-right}
+use Rattle.lines.specs.Reading.{size, letterAt, like, seekIn, pushed, callOf, twoBytes, said}
+use Rattle.lines.proofs.Classes.{and-left, and-right}
 
 -- ---- readable, and unreadable
 asks : List ℕ → Call
@@ -39,7 +39,7 @@ edges :
     × (asks (text "Call=start") ≡ Unreadable) × (asks [] ≡ Unreadable) × (asks (text "call=append") ≡ Unreadable) × (asks (text "call=append pairs=1:2,") ≡ Unreadable)
     × (asks (text "call=append pairs=1") ≡ Unreadable) × (asks (text "call=append pairs=1:2:3") ≡ Unreadable) × (asks (text "call=append pairs=:1") ≡ Unreadable)
     × (asks (text "call=work job=1 node=1 number=1 outcome=0 cut=0") ≡ Unreadable) × (asks (text "call=work node=1 job=1 number=1 outcome=0") ≡ Unreadable)
-unfolding asks gives order pushed wordAt twoBytes
+unfolding asks gives size letterAt like seekIn pushed callOf twoBytes
 edges =
     (refl, refl, refl, refl, refl, refl, refl, refl, refl, refl, refl, refl, refl, refl, refl, refl, refl, refl, refl, refl, refl, refl, refl, refl, refl, refl, refl, refl, refl, refl, refl, refl, refl)
 

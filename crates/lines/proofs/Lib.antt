@@ -1,7 +1,14 @@
 pub mod Putting
 pub mod Lists
-pub mod Steps
+pub mod Classes
+pub mod Places
+pub mod Table
+pub mod Goes
+pub mod Runs
+pub mod Standing
 pub mod Complete
 pub mod Sound
+pub mod Handing
 pub mod Readable
 pub mod Edges
+pub mod Paper

@@ -1,12 +1,12 @@
 -- What is proved of reading a line. Assumes nothing.
-use Prim.Native.Nat.{ℕ, _≤_, _<_}
-use mathlib.Core.Path.{_≡_, refl, sym, _∙_}
+use Prim.Native.Nat.{ℕ, _+_, _*_, _≤_, _<_}
+use mathlib.Core.Path.{_≡_, refl, ap, sym, subst, _∙_}
 use mathlib.Core.Logic.{_⊎_, inl, inr}
-use mathlib.Core.List.{List, [], _∷_}
-use mathlib.Core.Bool.{Bool, true, false}
+use mathlib.Core.List.{List, [], _∷_, foldl}
+use mathlib.Core.Bool.{Bool, true, false, cond}
 use native.Mathlib.Omega.{arith}
-use borrow.Author.Tests.{le-leb, lt-leb, ltb-true}
-use lib.Dec.{ltb}
+use borrow.Author.Tests.{le-leb, lt-leb, ltb-true, eqb-true, eqb-false}
+use lib.Dec.{eqb, ltb}
 use lib.ListN.{length, take}
 use Rattle.machine.specs.State.{State}
 use Rattle.machine.specs.WellFormed.{pairsOk}
@@ -14,70 +14,97 @@ use Rattle.machine.specs.Calls as machine
 use Rattle.machine.specs.Calls.{Pair, validChange, refused, decide}
 use Rattle.machine.specs.Step.{outcome, step}
 use Rattle.lines.specs.declared.reading.Call.{Call}
+use Rattle.lines.specs.declared.reading.Call.the-variants as call
 use Rattle.lines.specs.declared.reading.Call.the-variants.{Unreadable}
-use Rattle.lines.specs.Grammar.{Says}
 use Rattle.lines.specs.declared.reading.Reader.{Reader}
-use Rattle.lines.specs.declared.reading.Word.{Word}
-use Rattle.lines.specs.declared.reading.Word.the-variants.{Nothing, NoPairs, Pairs, Rollback, Start, Stop, Connect, Disconnect, Master, Sync, Work, Fold}
-use Rattle.lines.specs.Reading.{stored, wordAt, lineOf, finished, said}
+use Rattle.lines.specs.Forms.{Asked, calls}
+use Rattle.lines.specs.Grammar.{Says}
+use Rattle.lines.specs.Reading.{pushed, fresh, kept, tagOf, callOf, numbersOf, lineOf, plain, twoBytes, ten, finished, said}
 use Rattle.lines.specs.Handed.{Hands, callFor}
-use Rattle.lines.proofs.Complete.{complete}
-use Rattle.lines.proofs.Sound.{sound}
+use Rattle.lines.proofs.Goes.{Acc, AccR, goes-some}
+use Rattle.lines.proofs.Runs.{told, Told, run-on, run-back, Holds, holds-run}
+use Rattle.lines.proofs.Standing.{Start, Row-at, row-of, Row-there, row-from, like-start-of, tag-is, text-is}
+use Rattle.lines.proofs.Complete.{fits-go}
+use Rattle.lines.proofs.Sound.{Fitted, goes-fit}
+use Rattle.lines.proofs.Handing.{handed}
+
+-- ---- a line that says something is handed on as what it says
+pub complete : {l : List ℕ} {x : Asked} → Says l x → Hands x (said l)
+complete {l} {x} s =
+    let f = s .of in
+    let r = row-of f (s .among) in
+    let g = fits-go (s .fits) (r .place) (f .tag) 0 (tag-is f (s .among)) (r .stands) in
+    let a : AccR fresh l (s .numbers) (f .tag) = record { place = r .place; above = omega (arith, r .start .is); same = like-start-of (r .place) (r .start); then = g } in
+    let y = run-on l fresh (s .numbers) (f .tag) a in
+    let h = holds-run l fresh [] (record { count = refl; first = refl }) in
+    let k = kept (foldl pushed fresh l) in
+    subst (λ (t : ℕ). Hands x (lineOf t k)) (sym (y .tag))
+    (handed f (s .among) (s .fits) k (subst (λ (ns : List ℕ). Holds ns (k .count) (k .numbers)) (sym (y .is)) h))
+
+-- ---- every line says something, or is read as unreadable
+no-tag : (r : Reader) → tagOf r ≡ 0 → finished r .call ≡ Unreadable
+unfolding callOf
+no-tag r e = ap (λ (t : ℕ). lineOf t (kept r) .call) e
+
+pub sound : (l : List ℕ) → ((x : Asked) × Says l x) ⊎ (said l .call ≡ Unreadable)
+sound l = by (eqb t 0) refl
+  where
+    t : ℕ
+    t = tagOf (foldl pushed fresh l)
+
+    by : (b : Bool) → eqb t 0 ≡ b → ((x : Asked) × Says l x) ⊎ (said l .call ≡ Unreadable)
+    by true e = inr (no-tag (foldl pushed fresh l) (eqb-true t 0 e))
+    by false e =
+        let a = run-back l fresh (eqb-false t 0 e) in
+        let r = row-from (a .place) (a .same) (a .above) (goes-some (a .then)) in
+        let f = r .of in
+        let y = goes-fit (f .form) (f .asks) (a .place) (f .tag) t 0 l (told fresh l) (text-is f (r .among)) (tag-is f (r .among)) (r .stands) (a .then) in
+        inl (y .asked, record { of = f; among = r .among; numbers = told fresh l; fits = y .fits })
 
 -- no call is handed on as unreadable
-told-apart : (c : machine.Call) → callFor c ≡ Unreadable → ⊥
-told-apart (machine.append ps) e = let z : _≡_ {A = ℕ} 0 1 = cc in omega arith
-told-apart (machine.rollback n) e = let z : _≡_ {A = ℕ} 0 1 = cc in omega arith
-told-apart machine.start e = let z : _≡_ {A = ℕ} 0 1 = cc in omega arith
-told-apart machine.stop e = let z : _≡_ {A = ℕ} 0 1 = cc in omega arith
-told-apart (machine.connect n) e = let z : _≡_ {A = ℕ} 0 1 = cc in omega arith
-told-apart (machine.disconnect n) e = let z : _≡_ {A = ℕ} 0 1 = cc in omega arith
-told-apart (machine.master n) e = let z : _≡_ {A = ℕ} 0 1 = cc in omega arith
-told-apart (machine.sync n) e = let z : _≡_ {A = ℕ} 0 1 = cc in omega arith
-told-apart (machine.work n j i o c) e = let z : _≡_ {A = ℕ} 0 1 = cc in omega arith
-told-apart (machine.foldTo n) e = let z : _≡_ {A = ℕ} 0 1 = cc in omega arith
+told-apart : (x : Asked) → callFor x ≡ Unreadable → ⊥
+told-apart (calls (machine.append ps)) e = let z : _≡_ {A = ℕ} 0 1 = cc in omega arith
+told-apart (calls (machine.rollback n)) e = let z : _≡_ {A = ℕ} 0 1 = cc in omega arith
+told-apart (calls machine.start) e = let z : _≡_ {A = ℕ} 0 1 = cc in omega arith
+told-apart (calls machine.stop) e = let z : _≡_ {A = ℕ} 0 1 = cc in omega arith
+told-apart (calls (machine.connect n)) e = let z : _≡_ {A = ℕ} 0 1 = cc in omega arith
+told-apart (calls (machine.disconnect n)) e = let z : _≡_ {A = ℕ} 0 1 = cc in omega arith
+told-apart (calls (machine.master n)) e = let z : _≡_ {A = ℕ} 0 1 = cc in omega arith
+told-apart (calls (machine.sync n)) e = let z : _≡_ {A = ℕ} 0 1 = cc in omega arith
+told-apart (calls (machine.work n j i o c)) e = let z : _≡_ {A = ℕ} 0 1 = cc in omega arith
+told-apart (calls (machine.foldTo n)) e = let z : _≡_ {A = ℕ} 0 1 = cc in omega arith
 
--- a readable line: the grammar has it as a call, and that call is handed on
+-- a readable line: the grammar has it as asking for something, and that is handed on
 pub record Readable (l : List ℕ) : Type 0 where
-  pub call : machine.Call
-  pub says : Says l call
-  pub hands : Hands call (said l)
+  pub asked : Asked
+  pub says : Says l asked
+  pub hands : Hands asked (said l)
 
--- an unreadable line: the grammar has it as no call, and the code says so
+-- an unreadable line: the grammar has it as asking for nothing, and the code says so
 pub record Unread (l : List ℕ) : Type 0 where
-  pub says : (c : machine.Call) → Says l c → ⊥
+  pub says : (x : Asked) → Says l x → ⊥
   pub told : said l .call ≡ Unreadable
 
 -- every line is one or the other
 pub read-right : (l : List ℕ) → Readable l ⊎ Unread l
 read-right l = by (sound l)
   where
-    by : ((c : machine.Call) × Says l c) ⊎ (said l .call ≡ Unreadable) → Readable l ⊎ Unread l
-    by (inl x) = inl (record { call = x .0; says = x .1; hands = complete (x .1) })
+    by : ((x : Asked) × Says l x) ⊎ (said l .call ≡ Unreadable) → Readable l ⊎ Unread l
+    by (inl x) = inl (record { asked = x .0; says = x .1; hands = complete (x .1) })
     by (inr e) = inr (record { says = λ c x. told-apart c (sym (complete x .calls) ∙ e); told = e })
 
--- two calls that one line says are handed on alike
-pub hands-once : {l : List ℕ} {c d : machine.Call} → Says l c → Says l d → callFor c ≡ callFor d
+-- two things that one line says are handed on alike
+pub hands-once : {l : List ℕ} {c d : Asked} → Says l c → Says l d → callFor c ≡ callFor d
 hands-once x y = sym (complete x .calls) ∙ complete y .calls
 
 -- what is handed on of the pairs lies within their room
 pub within : (r : Reader) → finished r .length ≤ 20
-within r = by (wordAt (r .at)) (ltb (stored r .count) 10) refl
+within r = by (eqb (tagOf r) 65) (ltb (kept r .count) 10) refl
   where
-    by : (w : Word) (t : Bool) → ltb (stored r .count) 10 ≡ t → lineOf w r .length ≤ 20
-    by Nothing t e = omega arith
-    by NoPairs t e = omega arith
-    by Pairs true e = rw e (omega (arith, ltb-true (stored r .count) 10 e))
-    by Pairs false e = rw e (omega arith)
-    by Rollback t e = omega arith
-    by Start t e = omega arith
-    by Stop t e = omega arith
-    by Connect t e = omega arith
-    by Disconnect t e = omega arith
-    by Master t e = omega arith
-    by Sync t e = omega arith
-    by Work t e = omega arith
-    by Fold t e = omega arith
+    by : (b t : Bool) → ltb (kept r .count) 10 ≡ t → cond b (record { call = call.Append; pairs = twoBytes (ten (kept r .numbers)); length = cond t (2 * kept r .count) 20 }) (plain (numbersOf (tagOf r) (kept r .numbers))) .length ≤ 20
+    by true true e = omega (arith, ltb-true (kept r .count) 10 e)
+    by true false e = omega arith
+    by false t e = omega arith
 
 -- ---- five pairs are refused as more are
 module _ (a b d e f : Pair) (ps : List Pair) where

@@ -1,13 +1,15 @@
--- What a readable line says (paper: Program and host). The grammar alone, with no way of reading: a line is readable as a
--- call where it is put together as one of the constructors of `Says` puts it. Assumes nothing.
+-- What a readable line says (paper: Program and host). The grammar alone, with no way of reading: a line says what a form of
+-- the table asks for where it is put together as the form is. Assumes nothing.
 use Prim.Native.Nat.{ℕ, _+_, _-_, _*_, _≤_}
 use mathlib.Core.Path.{_≡_}
 use mathlib.Core.List.{List, [], _∷_, _++_, foldl}
-use mathlib.Core.Bool.{Bool, true, _&&_}
+use mathlib.Core.Bool.{Bool, true, _&&_, _||_}
+use lib.Dec.{leb, eqb}
 use lib.ListN.{length}
-use Rattle.machine.specs.Calls.{Pair, Call, append, rollback, start, stop, connect, disconnect, master, sync, work, foldTo}
+use Rattle.machine.specs.Calls.{Pair}
 use Rattle.lines.specs.Text.{text}
 use Rattle.lines.specs.Decimal.{isDigit}
+use Rattle.lines.specs.Forms.{Asked, Token, letter, number, pairs, Asks, Form, forms}
 
 unfoldable pub allDigits : List ℕ → Bool
 allDigits [] = true
@@ -27,22 +29,39 @@ pub record Number (d : List ℕ) (n : ℕ) : Type 0 where
 abbrev pub pair : ℕ → ℕ → Pair
 pair p v = record { path = p; value = v }
 
+-- path, value, path, value, ..
+unfoldable pub flat : List Pair → List ℕ
+flat [] = []
+flat (p ∷ ps) = p .path ∷ p .value ∷ flat ps
+
 -- pairs `path:value`, joined by commas
 pub data Row : List ℕ → List Pair → Type 0 where
   one : {a b : List ℕ} {p v : ℕ} → Number a p → Number b v → Row (a ++ text ":" ++ b) (pair p v ∷ [])
   more : {a b l : List ℕ} {p v : ℕ} {ps : List Pair} → Number a p → Number b v → Row l ps → Row (a ++ text ":" ++ b ++ text "," ++ l) (pair p v ∷ ps)
 
-pub data Says : List ℕ → Call → Type 0 where
-  says-no-pairs : Says (text "call=append pairs=") (append [])
-  says-append : {l : List ℕ} {ps : List Pair} → Row l ps → Says (text "call=append pairs=" ++ l) (append ps)
-  says-rollback : {d : List ℕ} {n : ℕ} → Number d n → Says (text "call=rollback number=" ++ d) (rollback n)
-  says-start : Says (text "call=start") start
-  says-stop : Says (text "call=stop") stop
-  says-connect : {d : List ℕ} {n : ℕ} → Number d n → Says (text "call=connect node=" ++ d) (connect n)
-  says-disconnect : {d : List ℕ} {n : ℕ} → Number d n → Says (text "call=disconnect node=" ++ d) (disconnect n)
-  says-master : {d : List ℕ} {n : ℕ} → Number d n → Says (text "call=master node=" ++ d) (master n)
-  says-sync : {d : List ℕ} {n : ℕ} → Number d n → Says (text "call=sync node=" ++ d) (sync n)
-  says-work :
-      {a b d e f : List ℕ} {n j i o c : ℕ} → Number a n → Number b j → Number d i → Number e o → Number f c →
-      Says (text "call=work node=" ++ a ++ text " job=" ++ b ++ text " number=" ++ d ++ text " outcome=" ++ e ++ text " cut=" ++ f) (work n j i o c)
-  says-fold : {d : List ℕ} {n : ℕ} → Number d n → Says (text "call=fold number=" ++ d) (foldTo n)
+-- what may stand for itself in a line: a small letter, `=`, a blank, `_`
+abbrev pub isWord : ℕ → Bool
+isWord b = leb 97 b && leb b 122 || eqb b 61 || eqb b 32 || eqb b 95
+
+-- a line of the form f asks for x where f's marks ask for a; its numbers, in order, are ns
+pub data Fits : (f : List Token) → Asks f → List ℕ → List ℕ → Asked → Type 0 where
+  fits-end : {x : Asked} → Fits [] x [] [] x
+  fits-letter :
+      {c : ℕ} {f : List Token} {a : Asks f} {l ns : List ℕ} {x : Asked} → isWord c ≡ true → Fits f a l ns x → Fits (letter c ∷ f) a (c ∷ l) ns x
+  fits-number :
+      {d : List ℕ} {n : ℕ} {f : List Token} {a : ℕ → Asks f} {l ns : List ℕ} {x : Asked} → Number d n → Fits f (a n) l ns x →
+      Fits (number ∷ f) a (d ++ l) (n ∷ ns) x
+  fits-none : {f : List Token} {a : List Pair → Asks f} {l ns : List ℕ} {x : Asked} → Fits f (a []) l ns x → Fits (pairs ∷ f) a l ns x
+  fits-pairs :
+      {d : List ℕ} {ps : List Pair} {f : List Token} {a : List Pair → Asks f} {l ns : List ℕ} {x : Asked} → Row d ps → Fits f (a ps) l ns x →
+      Fits (pairs ∷ f) a (d ++ l) (flat ps ++ ns) x
+
+pub data Among (f : Form) : List Form → Type 0 where
+  here : {fs : List Form} → Among f (f ∷ fs)
+  there : {g : Form} {fs : List Form} → Among f fs → Among f (g ∷ fs)
+
+pub record Says (l : List ℕ) (x : Asked) : Type 0 where
+  pub of : Form
+  pub among : Among of forms
+  pub numbers : List ℕ
+  pub fits : Fits (of .form) (of .asks) l numbers x

@@ -1,5 +1,6 @@
 pub mod Text
 pub mod Decimal
+pub mod Forms
 pub mod Grammar
 pub mod Reading
 pub mod Handed

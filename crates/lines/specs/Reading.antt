@@ -1,62 +1,83 @@
--- How a line is read, byte by byte, in a state of a few numbers: the code's own steps as definitions. That they read just
--- what the grammar says is proved in `proofs/Readable.antt`. Assumes nothing.
-use Prim.Native.Nat.{ℕ, _+_, _-_, _*_, _/_, _%_}
+-- How a line is read, byte by byte, in a state of a few numbers: the code's own steps as definitions. A reader stands at a
+-- place of the table: the text of that row before the place is what the line so far has, and every row from there on with
+-- the same text may still be the line's. That this reads just what the grammar says is proved in `proofs/Readable.antt`.
+-- Assumes nothing.
+use Prim.Native.Nat.{ℕ, zero, suc, _+_, _-_, _*_, _/_, _%_}
 use mathlib.Core.List.{List, [], _∷_, foldl}
-use mathlib.Core.Bool.{Bool, true, false, cond}
+use mathlib.Core.Bool.{Bool, true, false, cond, _&&_, _||_}
 use lib.Dec.{eqb, ltb, leb}
-use lib.ListN.{getD, set, replicate}
+use lib.ListN.{length, getD, set, replicate}
 use Rattle.lines.specs.declared.reading.Reader.{Reader}
-use Rattle.lines.specs.declared.reading.Word.{Word}
-use Rattle.lines.specs.declared.reading.Word.the-variants.{Nothing, NoPairs, Pairs, Rollback, Start, Stop, Connect, Disconnect, Master, Sync, Work, Fold}
 use Rattle.lines.specs.declared.reading.Line.{Line}
 use Rattle.lines.specs.declared.reading.Call.{Call}
 use Rattle.lines.specs.declared.reading.Call.the-variants as call
-use Rattle.lines.specs.Text.{text}
 use Rattle.lines.specs.Decimal.{isDigit}
+use Rattle.lines.specs.Forms.{table}
+use Rattle.lines.specs.Grammar.{isWord}
 
--- All lines on one string. A reader stands at a place of it. A letter there is the byte that must come; a digit is an
--- order, since no text has one: 0 unreadable, 1 a number begins, 2 it may go on, 3 a path begins, 5 which call, 6 after
--- `s`, 7 after `st`, 9 the end.
-abbrev pub script : List ℕ
-script =
-    text
-    "0call=5append pairs=32:12,3connect node=129disconnect node=129master node=129rollback number=129s6t7art9op9ync node=129work node=12 job=12 number=12 outcome=12 cut=129fold number=129"
+-- ---- places of the table
+unfoldable pub size : ℕ
+size = length table
 
-unfoldable pub order : ℕ → ℕ
-order p = getD script p 48
+unfoldable pub letterAt : ℕ → ℕ
+letterAt p = getD table p 0
 
-abbrev pub up : ℕ → ℕ
-up p = cond (ltb p 255) (p + 1) 0
+abbrev pub isMark : ℕ → Bool
+isMark c = eqb c 35 || eqb c 37
 
--- behind `call=`, `call=s` and `call=st`: the place behind the letter
-abbrev pub afterCall : ℕ → ℕ
-afterCall b =
-    cond (eqb b 97) 8
-    (cond (eqb b 99) 28 (cond (eqb b 100) 44 (cond (eqb b 109) 63 (cond (eqb b 114) 78 (cond (eqb b 115) 97 (cond (eqb b 119) 120 (cond (eqb b 102) 168 0)))))))
+abbrev pub isTag : ℕ → Bool
+isTag c = leb 65 c && leb c 90
 
-abbrev pub afterS : ℕ → ℕ
-afterS b = cond (eqb b 116) 99 (cond (eqb b 121) 108 0)
+-- the texts before two places are the same, each from its row's start; nothing is like the place 0
+unfoldable pub like : ℕ → ℕ → Bool
+like zero q = false
+like (suc p) zero = false
+like (suc p) (suc q) = eqb (letterAt p) (letterAt q) && (eqb (letterAt p) 10 || like p q)
 
-abbrev pub afterSt : ℕ → ℕ
-afterSt b = cond (eqb b 97) 101 (cond (eqb b 111) 105 0)
+-- a letter of the table takes a byte; the line's end is told as a newline, and a tag takes it
+abbrev pub takes : ℕ → ℕ → Bool
+takes c b = cond (eqb b 10) (isTag c) (eqb c b)
 
--- where a byte that is no digit leads from place p, which has the order c
-abbrev pub leads : ℕ → ℕ → ℕ → ℕ
-leads c p b = cond (eqb c 53) (afterCall b) (cond (eqb c 54) (afterS b) (cond (eqb c 55) (afterSt b) (cond (eqb c b) (up p) 0)))
+abbrev pub goes : ℕ → ℕ → ℕ → Bool
+goes p b q = like p q && takes (letterAt q) b
 
-abbrev pub next : ℕ → ℕ → ℕ
-next p b = leads (order p) p b
+-- behind the first letter, from q on, that takes b in a row with the text before p; 0 where there is none
+unfoldable pub seekIn : ℕ → ℕ → ℕ → ℕ → ℕ
+seekIn zero p b q = 0
+seekIn (suc n) p b q = cond (goes p b q) (q + 1) (seekIn n p b (q + 1))
 
+abbrev pub seek : ℕ → ℕ → ℕ
+seek p b = seekIn (size - p) p b p
+
+-- ---- what a mark takes. Of it there may have come: 0 nothing; 1 digits of its first number, a path in pairs; 2 a colon
+-- behind that; 3 digits of a value; 4 a comma behind that
+abbrev pub inside : ℕ → Bool
+inside s = eqb s 1 || eqb s 3
+
+abbrev pub begins : ℕ → ℕ
+begins s = cond (eqb s 2) 3 1
+
+-- the byte that parts two numbers: what has come with it; else 0
+abbrev pub parts : ℕ → ℕ → ℕ → ℕ
+parts c s b = cond (eqb c 37 && (eqb s 1 && eqb b 58)) 2 (cond (eqb c 37 && (eqb s 3 && eqb b 44)) 4 0)
+
+abbrev pub mayEnd : ℕ → ℕ → Bool
+mayEnd c s = eqb c 35 && eqb s 1 || eqb c 37 && (eqb s 0 || eqb s 3)
+
+-- where a letter is looked for from the place p with the letter c: behind a mark that may end; nowhere before
+abbrev pub past : ℕ → ℕ → ℕ → ℕ
+past c s p = cond (isMark c) (cond (mayEnd c s) (p + 1) 0) (cond (eqb s 0) p 0)
+
+-- ---- the reader
 abbrev pub placed : Reader → ℕ → Reader
-placed r p = record { at = p; value = r .value; count = r .count; numbers = r .numbers }
+placed r p = record { at = p; sub = 0; value = r .value; count = r .count; numbers = r .numbers }
 
--- a number's first digit
 abbrev pub begun : Reader → ℕ → ℕ → Reader
-begun r p d = record { at = p; value = d; count = r .count; numbers = r .numbers }
+begun r s d = record { at = r .at; sub = s; value = d; count = r .count; numbers = r .numbers }
 
--- a further one; a number above 65,535 is unreadable
+-- a further digit; a number above 65,535 is unreadable
 abbrev pub grownIf : Bool → Reader → ℕ → Reader
-grownIf true r v = begun r (r .at) v
+grownIf true r v = begun r (r .sub) v
 grownIf false r v = placed r 0
 
 abbrev pub grown : Reader → ℕ → Reader
@@ -64,40 +85,42 @@ grown r d = grownIf (leb (10 * r .value + d) 65535) r (10 * r .value + d)
 
 -- a number that has ended is kept, if it is one of the first ten
 abbrev pub storedIf : Bool → Reader → Reader
-storedIf true r = record { at = r .at; value = r .value; count = r .count + 1; numbers = set (r .numbers) (r .count) (r .value) }
+storedIf true r = record { at = r .at; sub = r .sub; value = r .value; count = r .count + 1; numbers = set (r .numbers) (r .count) (r .value) }
 storedIf false r = r
 
 abbrev pub stored : Reader → Reader
 stored r = storedIf (ltb (r .count) 10) r
 
-abbrev pub withDigitAt : ℕ → Reader → ℕ → Reader
-withDigitAt c r d =
-    cond (eqb c 50) (grown r d) (cond (eqb c 49) (begun r (up (r .at)) d) (cond (eqb c 51) (begun r 21 d) (placed r 0)))
+abbrev pub kept : Reader → Reader
+kept r = cond (inside (r .sub)) (stored r) r
 
-abbrev pub withTextAt : ℕ → Reader → ℕ → Reader
-withTextAt c r b = cond (eqb c 50) (placed (stored r) (next (up (r .at)) b)) (placed r (next (r .at) b))
+abbrev pub withDigit : Reader → ℕ → Reader
+withDigit r d = cond (isMark (letterAt (r .at))) (cond (inside (r .sub)) (grown r d) (begun r (begins (r .sub)) d)) (placed r 0)
 
-abbrev pub pushedIf : Bool → Reader → ℕ → Reader
-pushedIf true r b = withDigitAt (order (r .at)) r (b - 48)
-pushedIf false r b = withTextAt (order (r .at)) r b
+abbrev pub parted : Reader → ℕ → Reader
+parted r s = begun r s 0
+
+-- the letter b in a row's text from p on
+abbrev pub spelt : ℕ → ℕ → ℕ
+spelt p b = cond (isWord b) (seek p b) 0
+
+abbrev pub withText : Reader → ℕ → Reader
+withText r b =
+    cond (eqb (parts (letterAt (r .at)) (r .sub) b) 0)
+    (placed (kept r) (spelt (past (letterAt (r .at)) (r .sub) (r .at)) b))
+    (parted (stored r) (parts (letterAt (r .at)) (r .sub) b))
 
 -- one byte more
 unfoldable pub pushed : Reader → ℕ → Reader
-pushed r b = pushedIf (isDigit b) r b
+pushed r b = cond (isDigit b) (withDigit r (b - 48)) (withText r b)
 
 abbrev pub fresh : Reader
-fresh = record { at = 1; value = 0; count = 0; numbers = replicate 10 0 }
+fresh = record { at = 1; sub = 0; value = 0; count = 0; numbers = replicate 10 0 }
 
--- what a line that ends at place p is
-unfoldable pub wordAt : ℕ → Word
-wordAt p =
-    cond (eqb p 20) NoPairs
-    (cond (eqb p 24) Pairs
-    (cond (eqb p 94) Rollback
-    (cond (eqb p 103) Start
-    (cond (eqb p 106) Stop
-    (cond (eqb p 41) Connect
-    (cond (eqb p 60) Disconnect (cond (eqb p 75) Master (cond (eqb p 117) Sync (cond (eqb p 165) Work (cond (eqb p 180) Fold Nothing))))))))))
+-- ---- the line's end
+-- the tag before a place; 0 where there is none
+abbrev pub tagBefore : ℕ → ℕ
+tagBefore e = cond (eqb e 0) 0 (letterAt (e - 1))
 
 abbrev pub low : ℕ → ℕ
 low n = n % 256
@@ -110,7 +133,7 @@ unfoldable pub twoBytes : List ℕ → List ℕ
 twoBytes [] = []
 twoBytes (n ∷ ns) = low n ∷ high n ∷ twoBytes ns
 
--- the ten elements of an array of ten
+-- the first ten elements, 0 where there are fewer
 abbrev pub ten : List ℕ → List ℕ
 ten l =
     getD l 0 0 ∷ getD l 1 0 ∷ getD l 2 0 ∷ getD l 3 0 ∷ getD l 4 0 ∷ getD l 5 0 ∷ getD l 6 0 ∷ getD l 7 0 ∷ getD l 8 0 ∷ getD l 9 0 ∷ []
@@ -125,25 +148,27 @@ bytesOf n = cond (ltb n 10) (2 * n) 20
 abbrev pub withPairs : Reader → Line
 withPairs r = record { call = call.Append; pairs = twoBytes (ten (r .numbers)); length = bytesOf (r .count) }
 
-abbrev pub workOf : List ℕ → ℕ → Call
-workOf l v = call.Work (getD l 0 0) (getD l 1 0) (getD l 2 0) (getD l 3 0) v
+-- the call that a tag stands for, with its numbers
+unfoldable pub callOf : (t a b c d e : ℕ) → Call
+callOf t a b c d e =
+    cond (eqb t 67) (call.Connect a)
+    (cond (eqb t 68) (call.Disconnect a)
+    (cond (eqb t 77) (call.Master a)
+    (cond (eqb t 82) (call.Rollback a)
+    (cond (eqb t 83) call.Start
+    (cond (eqb t 84) call.Stop (cond (eqb t 89) (call.Sync a) (cond (eqb t 87) (call.Work a b c d e) (cond (eqb t 70) (call.Fold a) call.Unreadable))))))))
 
-abbrev pub lineOf : Word → Reader → Line
-lineOf Nothing r = plain call.Unreadable
-lineOf NoPairs r = plain call.Append
-lineOf Pairs r = withPairs (stored r)
-lineOf Rollback r = plain (call.Rollback (r .value))
-lineOf Start r = plain call.Start
-lineOf Stop r = plain call.Stop
-lineOf Connect r = plain (call.Connect (r .value))
-lineOf Disconnect r = plain (call.Disconnect (r .value))
-lineOf Master r = plain (call.Master (r .value))
-lineOf Sync r = plain (call.Sync (r .value))
-lineOf Work r = plain (workOf (r .numbers) (r .value))
-lineOf Fold r = plain (call.Fold (r .value))
+abbrev pub numbersOf : ℕ → List ℕ → Call
+numbersOf t n = callOf t (getD n 0 0) (getD n 1 0) (getD n 2 0) (getD n 3 0) (getD n 4 0)
+
+abbrev pub lineOf : ℕ → Reader → Line
+lineOf t r = cond (eqb t 65) (withPairs r) (plain (numbersOf t (r .numbers)))
+
+abbrev pub tagOf : Reader → ℕ
+tagOf r = tagBefore (seek (past (letterAt (r .at)) (r .sub) (r .at)) 10)
 
 abbrev pub finished : Reader → Line
-finished r = lineOf (wordAt (r .at)) r
+finished r = lineOf (tagOf r) (kept r)
 
 -- a whole line
 abbrev pub said : List ℕ → Line

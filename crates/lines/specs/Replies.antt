@@ -1,38 +1,46 @@
 -- The lines that the program writes (paper: Program and host). Assumes nothing.
 use Prim.Native.Nat.{ℕ, _+_, _≤_}
-use mathlib.Core.List.{List, _++_}
+use mathlib.Core.List.{List, [], _∷_, _++_}
 use mathlib.Core.Path.{_≡_}
 use mathlib.Core.Bool.{cond}
-use lib.Dec.{leb}
-use lib.ListN.{length, drop}
+use lib.Dec.{eqb, leb}
+use lib.ListN.{length, drop, getD}
 use lib.Seq.{sets}
 use Rattle.kinds.specs.declared.Reply.{Reply}
 use Rattle.kinds.specs.Statuses.{codeOf}
 use Rattle.lines.specs.Text.{text}
 use Rattle.lines.specs.Decimal.{decimal}
 
--- a key and its number
-abbrev pub keyed : List ℕ → ℕ → List ℕ
-keyed key n = key ++ decimal n
+-- ---- a form filled in: each `#` of it is the next of the numbers, in decimal; all else stands for itself
+abbrev pub filledAt : ℕ → ℕ → List ℕ
+filledAt c n = cond (eqb c 35) (decimal n) (c ∷ [])
 
+abbrev pub nextAt : ℕ → ℕ → ℕ
+nextAt c k = cond (eqb c 35) (k + 1) k
+
+-- from the k-th number on
+unfoldable pub filledFrom : List ℕ → List ℕ → ℕ → List ℕ
+filledFrom [] ns k = []
+filledFrom (c ∷ f) ns k = filledAt c (getD ns k 0) ++ filledFrom f ns (nextAt c k)
+
+abbrev pub filled : List ℕ → List ℕ → List ℕ
+filled f ns = filledFrom f ns 0
+
+-- the bytes that a form can have: ten for each number
+unfoldable pub roomOf : List ℕ → ℕ
+roomOf [] = 0
+roomOf (c ∷ f) = cond (eqb c 35) 10 1 + roomOf f
+
+-- ---- the forms of the replies
 -- the answer, then the event
 unfoldable pub replyLine : Reply → List ℕ
 replyLine r =
-    keyed (text "answer=") (r .answer)
-    ++ keyed (text " phase=") (r .event .phase)
-    ++ keyed (text " stage=") (r .event .stage)
-    ++ keyed (text " number=") (r .event .number .0)
-    ++ keyed (text " status=") (codeOf (r .event .status))
-    ++ text "\n"
+    filled (text "answer=# phase=# stage=# number=# status=#\n")
+    (r .answer ∷ r .event .phase ∷ r .event .stage ∷ r .event .number .0 ∷ codeOf (r .event .status) ∷ [])
 
 -- at the end the committed and applied revision and ordinal
 unfoldable pub closingLine : (committed committedOrdinal applied appliedOrdinal : ℕ) → List ℕ
-closingLine c o a u =
-    keyed (text "committed=") c
-    ++ keyed (text " committed_ordinal=") o
-    ++ keyed (text " applied=") a
-    ++ keyed (text " applied_ordinal=") u
-    ++ text "\n"
+closingLine c o a u = filled (text "committed=# committed_ordinal=# applied=# applied_ordinal=#\n") (c ∷ o ∷ a ∷ u ∷ [])
 
 -- t stands in the list from `at` on, all else is as it was, and `ends` is where t ends
 pub record Put (before : List ℕ) (at : ℕ) (t : List ℕ) (end : ℕ) (after : List ℕ) : Type 0 where

@@ -1,30 +1,32 @@
-// A call's line, read byte by byte in a state of a few numbers: a line of any length needs no more memory.
+// A call's line, read byte by byte in a state of a few numbers: a line of any length needs no more memory. What can be read
+// is the table of forms; a new line is a new row of it, and an arm of `call_of` that hands its numbers on.
 ghost use mathlib.Core.Path.{_≡_};
-ghost use Rattle.lines.specs.Reading.{order, up, afterCall, afterS, afterSt, next, placed, begun, grown, stored, withDigitAt, withTextAt, wordAt, twoBytes, ten, plain, bytesOf, withPairs};
+ghost use Rattle.lines.specs.Grammar.{isWord};
+ghost use Rattle.lines.specs.Reading.{letterAt, isMark, isTag, like, takes, goes, seek, inside, begins, parts, mayEnd, past, placed, begun, grown, stored, kept, withDigit, spelt, withText, tagBefore, twoBytes, ten, plain, bytesOf, withPairs, callOf, lineOf};
 ghost use Rattle.lines.specs.Promises.{StartsFresh, Pushes, Finishes, ReadsLine};
 
-// Where the line so far leads: a place of the script; the number that is being read; the first ten numbers that ended.
+// A row for each form: its text, in which `#` is a number and `%` are pairs, and its tag.
+const FORMS: [u8; 221] = *b"
+call=append pairs=%A
+call=connect node=#C
+call=disconnect node=#D
+call=master node=#M
+call=rollback number=#R
+call=startS
+call=stopT
+call=sync node=#Y
+call=work node=# job=# number=# outcome=# cut=#W
+call=fold number=#F
+";
+
+// Where the line so far leads: a place of the table; how much has come of what a mark there takes; the number that is being
+// read; the first ten numbers that ended.
 pub struct Reader {
-    at: u8,
+    at: usize,
+    sub: u8,
     value: u16,
     count: usize,
     numbers: [u16; 10],
-}
-
-// What a line that ends at a place is.
-enum Word {
-    Nothing,
-    NoPairs,
-    Pairs,
-    Rollback,
-    Start,
-    Stop,
-    Connect,
-    Disconnect,
-    Master,
-    Sync,
-    Work,
-    Fold,
 }
 
 // What a line asks for, with its numbers; the pairs of an append stand beside it, in `Line`.
@@ -56,97 +58,157 @@ pub struct Line {
     pub length: usize,
 }
 
-// The letter or the order at a place; see `script` in specs/Reading.antt.
-fn order(at: u8) -> u8
-    ensures { λ r. ⌜ r ≡ order at ⌝ }
+fn letter(at: usize) -> u8
+    ensures { λ r. ⌜ r ≡ letterAt at ⌝ }
 {
-    let script =
-        b"0call=5append pairs=32:12,3connect node=129disconnect node=129master node=129rollback number=129s6t7art9op9ync node=129work node=12 job=12 number=12 outcome=12 cut=129fold number=129";
-    let i = at as usize;
-    if i < script.len() {
-        return script[i];
-    }
-    48
-}
-
-fn up(at: u8) -> u8
-    ensures { λ r. ⌜ r ≡ up at ⌝ }
-{
-    if at < 255 {
-        return at + 1;
+    if at < FORMS.len() {
+        return FORMS[at];
     }
     0
 }
 
-fn after_call(b: u8) -> u8
-    ensures { λ r. ⌜ r ≡ afterCall b ⌝ }
+fn is_mark(c: u8) -> bool
+    ensures { λ r. ⌜ r ≡ isMark c ⌝ }
 {
-    match b {
-        b'a' => 8,
-        b'c' => 28,
-        b'd' => 44,
-        b'm' => 63,
-        b'r' => 78,
-        b's' => 97,
-        b'w' => 120,
-        b'f' => 168,
-        _ => 0,
-    }
+    (c == b'#') | (c == b'%')
 }
 
-fn after_s(b: u8) -> u8
-    ensures { λ r. ⌜ r ≡ afterS b ⌝ }
+fn is_tag(c: u8) -> bool
+    ensures { λ r. ⌜ r ≡ isTag c ⌝ }
 {
-    match b {
-        b't' => 99,
-        b'y' => 108,
-        _ => 0,
-    }
+    (b'A' <= c) & (c <= b'Z')
 }
 
-fn after_st(b: u8) -> u8
-    ensures { λ r. ⌜ r ≡ afterSt b ⌝ }
+fn is_word(b: u8) -> bool
+    ensures { λ r. ⌜ r ≡ isWord b ⌝ }
 {
-    match b {
-        b'a' => 101,
-        b'o' => 105,
-        _ => 0,
-    }
+    (b'a' <= b) & (b <= b'z') | (b == b'=') | (b == b' ') | (b == b'_')
 }
 
-// Where a byte that is no digit leads.
-fn next(at: u8, b: u8) -> u8
-    ensures { λ r. ⌜ r ≡ next at b ⌝ }
+// Whether the rows of two places have the same text before them.
+fn like(p: usize, q: usize) -> bool
+    ensures { λ r. ⌜ r ≡ like p q ⌝ }
 {
-    let c = order(at);
-    if c == 53 {
-        return after_call(b);
+    let mut a = p;
+    let mut b = q;
+    while 0 < a {
+        if b == 0 {
+            return false;
+        }
+        let c = letter(a - 1);
+        let d = letter(b - 1);
+        if c != d {
+            return false;
+        }
+        if c == 10 {
+            return true;
+        }
+        a -= 1;
+        b -= 1;
     }
-    if c == 54 {
-        return after_s(b);
+    false
+}
+
+fn takes(c: u8, b: u8) -> bool
+    ensures { λ r. ⌜ r ≡ takes c b ⌝ }
+{
+    if b == 10 {
+        return is_tag(c);
     }
-    if c == 55 {
-        return after_st(b);
+    c == b
+}
+
+fn goes(p: usize, b: u8, q: usize) -> bool
+    ensures { λ r. ⌜ r ≡ goes p b q ⌝ }
+{
+    let same = like(p, q);
+    let taken = takes(letter(q), b);
+    same & taken
+}
+
+// Behind the first letter from `p` on that takes `b` in a row with the text before `p`; 0 where there is none.
+fn seek(p: usize, b: u8) -> usize
+    ensures { λ r. ⌜ r ≡ seek p b ⌝ }
+{
+    if (0 < p) & (p < FORMS.len()) {
+        if takes(letter(p), b) {
+            return p + 1;
+        }
     }
-    if c == b {
-        return up(at);
+    let mut q = p;
+    while q < FORMS.len() {
+        if goes(p, b, q) {
+            return q + 1;
+        }
+        q += 1;
     }
     0
 }
 
-fn placed(r: Reader, at: u8) -> Reader
+fn inside(s: u8) -> bool
+    ensures { λ r. ⌜ r ≡ inside s ⌝ }
+{
+    (s == 1) | (s == 3)
+}
+
+fn begins(s: u8) -> u8
+    ensures { λ r. ⌜ r ≡ begins s ⌝ }
+{
+    if s == 2 {
+        return 3;
+    }
+    1
+}
+
+fn parts(c: u8, s: u8, b: u8) -> u8
+    ensures { λ r. ⌜ r ≡ parts c s b ⌝ }
+{
+    if (c == b'%') & ((s == 1) & (b == b':')) {
+        return 2;
+    }
+    if (c == b'%') & ((s == 3) & (b == b',')) {
+        return 4;
+    }
+    0
+}
+
+fn may_end(c: u8, s: u8) -> bool
+    ensures { λ r. ⌜ r ≡ mayEnd c s ⌝ }
+{
+    (c == b'#') & (s == 1) | (c == b'%') & ((s == 0) | (s == 3))
+}
+
+// Where a letter is looked for: behind a mark that may end.
+fn past(s: u8, p: usize) -> usize
+    ensures { λ r. ⌜ r ≡ past (letterAt p) s p ⌝ }
+{
+    let c = letter(p);
+    if is_mark(c) {
+        if may_end(c, s) {
+            return p + 1;
+        }
+        return 0;
+    }
+    if s == 0 {
+        return p;
+    }
+    0
+}
+
+fn placed(r: Reader, at: usize) -> Reader
     ensures { λ q. ⌜ q ≡ placed r at ⌝ }
 {
     let mut next = r;
     next.at = at;
+    next.sub = 0;
     next
 }
 
-fn begun(r: Reader, at: u8, value: u16) -> Reader
-    ensures { λ q. ⌜ q ≡ begun r at value ⌝ }
+fn begun(r: Reader, s: u8, value: u16) -> Reader
+    ensures { λ q. ⌜ q ≡ begun r s value ⌝ }
 {
     let mut next = r;
-    next.at = at;
+    next.sub = s;
     next.value = value;
     next
 }
@@ -156,7 +218,7 @@ fn grown(r: Reader, d: u8) -> Reader
 {
     let v = 10 * (r.value as u32) + d as u32;
     if v <= 65535 {
-        return begun(r, r.at, v as u16);
+        return begun(r, r.sub, v as u16);
     }
     placed(r, 0)
 }
@@ -175,35 +237,46 @@ fn stored(r: Reader) -> Reader
     r
 }
 
-fn with_digit(r: Reader, d: u8) -> Reader
-    ensures { λ q. ⌜ q ≡ withDigitAt (order (r .at)) r d ⌝ }
+// The number that was being read has ended.
+fn kept(r: Reader) -> Reader
+    ensures { λ q. ⌜ q ≡ kept r ⌝ }
 {
-    let at = r.at;
-    let c = order(at);
-    if c == 50 {
-        return grown(r, d);
+    if inside(r.sub) {
+        return stored(r);
     }
-    if c == 49 {
-        return begun(r, up(at), d as u16);
-    }
-    if c == 51 {
-        return begun(r, 21, d as u16);
+    r
+}
+
+fn with_digit(r: Reader, d: u8) -> Reader
+    ensures { λ q. ⌜ q ≡ withDigit r d ⌝ }
+{
+    if is_mark(letter(r.at)) {
+        if inside(r.sub) {
+            return grown(r, d);
+        }
+        return begun(r, begins(r.sub), d as u16);
     }
     placed(r, 0)
 }
 
-fn with_text(r: Reader, b: u8) -> Reader
-    ensures { λ q. ⌜ q ≡ withTextAt (order (r .at)) r b ⌝ }
+fn spelt(p: usize, b: u8) -> usize
+    ensures { λ r. ⌜ r ≡ spelt p b ⌝ }
 {
-    let at = r.at;
-    let c = order(at);
-    if c == 50 {
-        let past = up(at);
-        let to = next(past, b);
-        return placed(stored(r), to);
+    if is_word(b) {
+        return seek(p, b);
     }
-    let to = next(at, b);
-    placed(r, to)
+    0
+}
+
+fn with_text(r: Reader, b: u8) -> Reader
+    ensures { λ q. ⌜ q ≡ withText r b ⌝ }
+{
+    let s = parts(letter(r.at), r.sub, b);
+    if s == 0 {
+        let to = spelt(past(r.sub, r.at), b);
+        return placed(kept(r), to);
+    }
+    begun(stored(r), s, 0)
 }
 
 // A reader at a line's start.
@@ -213,6 +286,7 @@ pub fn fresh() -> Reader
     let numbers = [0u16; 10];
     Reader {
         at: 1,
+        sub: 0,
         value: 0,
         count: 0,
         numbers,
@@ -232,23 +306,13 @@ pub fn push(r: Reader, b: u8) -> Reader
     with_digit(r, b - 48)
 }
 
-fn word_at(at: u8) -> Word
-    ensures { λ r. ⌜ r ≡ wordAt at ⌝ }
+fn tag_before(e: usize) -> u8
+    ensures { λ r. ⌜ r ≡ tagBefore e ⌝ }
 {
-    match at {
-        20 => Word::NoPairs,
-        24 => Word::Pairs,
-        94 => Word::Rollback,
-        103 => Word::Start,
-        106 => Word::Stop,
-        41 => Word::Connect,
-        60 => Word::Disconnect,
-        75 => Word::Master,
-        117 => Word::Sync,
-        165 => Word::Work,
-        180 => Word::Fold,
-        _ => Word::Nothing,
+    if e == 0 {
+        return 0;
     }
+    letter(e - 1)
 }
 
 fn two_bytes(n: [u16; 10]) -> [u8; 20]
@@ -312,33 +376,46 @@ fn with_pairs(r: Reader) -> Line
     }
 }
 
+// The call that a tag stands for, with its numbers.
+fn call_of(tag: u8, a: u16, b: u16, c: u16, d: u16, e: u16) -> Call
+    ensures { λ r. ⌜ r ≡ callOf tag a b c d e ⌝ }
+{
+    match tag {
+        b'C' => Call::Connect(a),
+        b'D' => Call::Disconnect(a),
+        b'M' => Call::Master(a),
+        b'R' => Call::Rollback(a),
+        b'S' => Call::Start,
+        b'T' => Call::Stop,
+        b'Y' => Call::Sync(a),
+        b'W' => Call::Work {
+            node: a,
+            job: b,
+            number: c,
+            outcome: d,
+            cut: e,
+        },
+        b'F' => Call::Fold(a),
+        _ => Call::Unreadable,
+    }
+}
+
+fn line_of(tag: u8, r: Reader) -> Line
+    ensures { λ q. ⌜ q ≡ lineOf tag r ⌝ }
+{
+    if tag == b'A' {
+        return with_pairs(r);
+    }
+    let n = r.numbers;
+    plain(call_of(tag, n[0], n[1], n[2], n[3], n[4]))
+}
+
 // What the line says that the reader was given.
 pub fn finish(r: Reader) -> Line
     ensures { λ q. ⌜ Finishes r q ⌝ }
 {
-    let n = r.numbers;
-    let v = r.value;
-    let word = word_at(r.at);
-    match word {
-        Word::Nothing => plain(Call::Unreadable),
-        Word::NoPairs => plain(Call::Append),
-        Word::Pairs => with_pairs(stored(r)),
-        Word::Rollback => plain(Call::Rollback(v)),
-        Word::Start => plain(Call::Start),
-        Word::Stop => plain(Call::Stop),
-        Word::Connect => plain(Call::Connect(v)),
-        Word::Disconnect => plain(Call::Disconnect(v)),
-        Word::Master => plain(Call::Master(v)),
-        Word::Sync => plain(Call::Sync(v)),
-        Word::Work => plain(Call::Work {
-            node: n[0],
-            job: n[1],
-            number: n[2],
-            outcome: n[3],
-            cut: v,
-        }),
-        Word::Fold => plain(Call::Fold(v)),
-    }
+    let tag = tag_before(seek(past(r.sub, r.at), 10));
+    line_of(tag, kept(r))
 }
 
 // What a whole line says.

@@ -12,10 +12,11 @@ use Rattle.kinds.specs.declared.Reply.{Reply}
 use Rattle.kinds.specs.Events.{refusal}
 use Rattle.machine.specs.Calls.{Call}
 use Rattle.lines.specs.declared.reading.Reader.{Reader}
+use Rattle.lines.specs.Forms.{Asked, calls}
 use Rattle.lines.specs.Grammar.{Says}
 use Rattle.lines.specs.Reading.{fresh, pushed, finished, said}
 use Rattle.lines.specs.Replies.{replyLine}
-use Rattle.lines.proofs.Steps.{and-left, and-right}
+use Rattle.lines.proofs.Classes.{and-left, and-right}
 use Rattle.stepper.specs.declared.Session.{Session}
 use Rattle.stepper.specs.Ended.{waiting, Ends}
 use Rattle.stepper.specs.Fed.{TakesIf, Takes, Feeds, none, next, EndsLast, unbroken, Replied}
@@ -86,7 +87,7 @@ module _ (t l out : List ℕ) (s q : Session) (m after : List ℕ) (e : unbroken
       (subst (λ (r : Reader). Ends l (finished (foldl pushed r t)) out (s .used) (q .used) m after) b (x .0), x .1)
 
   -- where the line says a call, the reply that is decided for that call stands behind the answers that wait
-  pub line-replied : (c : Call) → Says t c → Replied l out (s .used) c (q .used) m after
+  pub line-replied : (c : Call) → Says t (calls c) → Replied l out (s .used) c (q .used) m after
   line-replied c x =
       let y = line-ended .0 in
       record {
@@ -97,7 +98,7 @@ module _ (t l out : List ℕ) (s q : Session) (m after : List ℕ) (e : unbroken
 
   -- where it says none, the line of refusal 2 does, and every byte of the image is what it had been
   pub line-refused :
-      ((c : Call) → Says t c → ⊥) →
+      ((x : Asked) → Says t x → ⊥) →
       (96 ≤ length out → take (q .used) after ≡ take (waiting (length out) (s .used)) out ++ replyLine (refusal 2)) × (m ≡ l)
   line-refused n =
       let y = line-ended .0 in

@@ -15,12 +15,11 @@ use Rattle.machine.specs.Calls as machine
 use Rattle.machine.specs.Calls.{Pair}
 use Rattle.lines.specs.declared.reading.Call.{Call}
 use Rattle.lines.specs.declared.reading.Call.the-variants.{Unreadable}
-use Rattle.lines.specs.Grammar.{Row, one, more, Says, says-no-pairs, says-append, says-rollback, says-start, says-stop, says-connect, says-disconnect, says-master, says-sync, says-work, says-fold, pair}
+use Rattle.lines.specs.Forms.{Asked, calls}
+use Rattle.lines.specs.Grammar.{flat, pair, Says}
 use Rattle.lines.specs.Reading.{low, high, twoBytes, said}
-use Rattle.lines.specs.Handed.{callFor, flat, pairsFor}
-use Rattle.lines.proofs.Complete.{complete}
-use Rattle.lines.proofs.Sound.{sound}
-use Rattle.lines.proofs.Readable.{decides-five}
+use Rattle.lines.specs.Handed.{callFor, pairsIn, pairsFor, Small}
+use Rattle.lines.proofs.Readable.{complete, sound, decides-five}
 use Rattle.controller.specs.Bytes.{pairsOf, pairsIf, appendOf}
 use Rattle.controller.specs.Claims.{outcomeOf, Claims}
 use Rattle.stepper.specs.Answers.{AnswersCall, Answers}
@@ -29,17 +28,12 @@ use Rattle.stepper.specs.Answers.{AnswersCall, Answers}
 back : (n : ℕ) → n ≤ 65535 → low n + 256 * high n ≡ n
 back n h = omega arith
 
-pairs-back : {l : List ℕ} {ps : List Pair} → Row l ps → (k : ℕ) → pairsOf (twoBytes (flat (take k ps))) ≡ take k ps
+pairs-back : (ps : List Pair) → Small ps → (k : ℕ) → pairsOf (twoBytes (flat (take k ps))) ≡ take k ps
 unfolding pairsOf twoBytes flat
-pairs-back x zero = refl
-pairs-back (one {p = p} {v = v} a b) (suc k) =
-    rw (take-nil {A = Pair} k) (ap₂ (λ (i j : ℕ). pair i j ∷ []) (back p (a .fits)) (back v (b .fits)))
-pairs-back (more {p = p} {v = v} {ps = ps} a b r) (suc k) =
-    ap₂ (λ (i j : ℕ). pair i j ∷ pairsOf (twoBytes (flat (take k ps)))) (back p (a .fits)) (back v (b .fits)) ∙ ap (λ (qs : List Pair). pair p v ∷ qs) (pairs-back r k)
-
-none-back : pairsOf (twoBytes (flat [])) ≡ []
-unfolding pairsOf twoBytes flat
-none-back = refl
+pairs-back ps x zero = refl
+pairs-back [] x (suc k) = refl
+pairs-back (p ∷ ps) x (suc k) =
+    ap₂ (λ (i j : ℕ). pair i j ∷ pairsOf (twoBytes (flat (take k ps)))) (back (p .path) (x .0)) (back (p .value) (x .1)) ∙ ap (λ (qs : List Pair). p ∷ qs) (pairs-back ps (x .2) k)
 
 four-each : (ps : List Pair) → length (twoBytes (flat ps)) ≡ 4 * length ps
 unfolding twoBytes flat
@@ -60,34 +54,33 @@ claims-five : (l : List ℕ) (ps : List Pair) (r : Reply) (m : List ℕ) → Cla
 claims-five l ps r m p = rw (five l ps) at p
 
 -- ---- each call
-claimed : {t : List ℕ} {c : machine.Call} → Says t c → (l : List ℕ) (r : Reply) (m : List ℕ) → AnswersCall (callFor c) (pairsFor c) l r m → Claims l c r m
-claimed says-no-pairs l r m p = subst (λ (c : machine.Call). Claims l c r m) (handed [] none-back) p
-claimed (says-append {ps = ps} x) l r m p =
-    claims-five l ps r m (subst (λ (c : machine.Call). Claims l c r m) (handed (take 5 ps) (pairs-back x 5)) p)
-claimed (says-rollback x) l r m p = p
-claimed says-start l r m p = p
-claimed says-stop l r m p = p
-claimed (says-connect x) l r m p = p
-claimed (says-disconnect x) l r m p = p
-claimed (says-master x) l r m p = p
-claimed (says-sync x) l r m p = p
-claimed (says-work x y z u w) l r m p = p
-claimed (says-fold x) l r m p = p
+claimed : (c : machine.Call) → Small (pairsIn (calls c)) → (l : List ℕ) (r : Reply) (m : List ℕ) → AnswersCall (callFor (calls c)) (pairsFor (calls c)) l r m → Claims l c r m
+claimed (machine.append ps) x l r m p =
+    claims-five l ps r m (subst (λ (c : machine.Call). Claims l c r m) (handed (take 5 ps) (pairs-back ps x 5)) p)
+claimed (machine.rollback n) x l r m p = p
+claimed machine.start x l r m p = p
+claimed machine.stop x l r m p = p
+claimed (machine.connect n) x l r m p = p
+claimed (machine.disconnect n) x l r m p = p
+claimed (machine.master n) x l r m p = p
+claimed (machine.sync n) x l r m p = p
+claimed (machine.work n j i o c) x l r m p = p
+claimed (machine.foldTo n) x l r m p = p
 
 -- ---- each line
 module _ (t l : List ℕ) (r : Reply) (m : List ℕ) (p : Answers l (said t) r m) where
   -- a line that says a call is answered with that call's outcome
-  pub answers-said : (c : machine.Call) → Says t c → Claims l c r m
+  pub answers-said : (c : machine.Call) → Says t (calls c) → Claims l c r m
   answers-said c x =
       let h = complete x in
-      claimed x l r m
-      (subst (λ (b : List ℕ). AnswersCall (callFor c) b l r m) (h .bytes)
+      claimed c (h .small) l r m
+      (subst (λ (b : List ℕ). AnswersCall (callFor (calls c)) b l r m) (h .bytes)
       (subst (λ (k : Call). AnswersCall k (take (said t .length) (said t .pairs)) l r m) (h .calls) p))
 
   -- a line that says none is refused with 2, and every byte is what it had been
-  pub refuses-unsaid : ((c : machine.Call) → Says t c → ⊥) → (r ≡ refusal 2) × (m ≡ l)
+  pub refuses-unsaid : ((x : Asked) → Says t x → ⊥) → (r ≡ refusal 2) × (m ≡ l)
   refuses-unsaid n = by (sound t)
     where
-      by : ((c : machine.Call) × Says t c) ⊎ (said t .call ≡ Unreadable) → (r ≡ refusal 2) × (m ≡ l)
+      by : ((x : Asked) × Says t x) ⊎ (said t .call ≡ Unreadable) → (r ≡ refusal 2) × (m ≡ l)
       by (inl x) = absurd (n (x .0) (x .1))
       by (inr e) = subst (λ (k : Call). AnswersCall k (take (said t .length) (said t .pairs)) l r m) e p

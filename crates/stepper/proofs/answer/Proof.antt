@@ -4,101 +4,67 @@ use Rattle.stepper.proofs.Answered.{asked}
 use borrow.Author.Needs.{needs}
 use Rattle.stepper.proofs.answer.Statement.{statement}
 use Rattle.stepper.proofs.answer.Tie as tie
-use Rattle.stepper.proofs.answer.Reads as reads
-use Rattle.stepper.proofs.answer.Lts as lts
-use Rattle.controller.proofs.connect.Reads as connect-reads
-use Rattle.controller.proofs.disconnect.Reads as disconnect-reads
-use Rattle.controller.proofs.master.Reads as master-reads
-use Rattle.controller.proofs.fold.Reads as fold-reads
-use Rattle.controller.proofs.rollback.Reads as rollback-reads
-use Rattle.controller.proofs.start.Reads as start-reads
-use Rattle.controller.proofs.stop.Reads as stop-reads
-use Rattle.controller.proofs.sync.Reads as sync-reads
-use Rattle.controller.proofs.work.Reads as work-reads
-use Rattle.kinds.proofs.Reply.of.Reads as of-reads
-use Rattle.stepper.proofs.append.Reads as append-reads
 
--- src/main.rt:42:29
 enum-told : tie.Need-enum-told
 enum-told c = search needs
 
--- src/main.rt:42:29
 of-requires : tie.Need-of-requires
 of-requires c κs = search needs
 
--- src/main.rt:44:17
 enum-told-2 : tie.Need-enum-told-2
 enum-told-2 c = search needs
 
--- src/main.rt:45:13
 append-requires : tie.Need-append-requires
 append-requires c κs = search needs
 
--- src/main.rt:47:24
 enum-known-call : tie.Need-enum-known-call
 enum-known-call c = search needs
 
--- src/main.rt:47:35
 rollback-requires : tie.Need-rollback-requires
 rollback-requires c κs = search needs
 
--- src/main.rt:48:42
 enum-told-3 : tie.Need-enum-told-3
 enum-told-3 c = search needs
 
--- src/main.rt:48:24
 start-requires : tie.Need-start-requires
 start-requires c κs = search needs
 
--- src/main.rt:49:40
 enum-told-4 : tie.Need-enum-told-4
 enum-told-4 c = search needs
 
--- src/main.rt:49:23
 stop-requires : tie.Need-stop-requires
 stop-requires c κs = search needs
 
--- src/main.rt:50:23
 enum-known-call-2 : tie.Need-enum-known-call-2
 enum-known-call-2 c = search needs
 
--- src/main.rt:50:32
 connect-requires : tie.Need-connect-requires
 connect-requires c κs = search needs
 
--- src/main.rt:51:26
 enum-known-call-3 : tie.Need-enum-known-call-3
 enum-known-call-3 c = search needs
 
--- src/main.rt:51:35
 disconnect-requires : tie.Need-disconnect-requires
 disconnect-requires c κs = search needs
 
--- src/main.rt:52:22
 enum-known-call-4 : tie.Need-enum-known-call-4
 enum-known-call-4 c = search needs
 
--- src/main.rt:52:31
 master-requires : tie.Need-master-requires
 master-requires c κs = search needs
 
--- src/main.rt:53:20
 enum-known-call-5 : tie.Need-enum-known-call-5
 enum-known-call-5 c = search needs
 
--- src/main.rt:53:29
 sync-requires : tie.Need-sync-requires
 sync-requires c κs = search needs
 
--- src/main.rt:55:13
 enum-known-call-6 : tie.Need-enum-known-call-6
 enum-known-call-6 c = search needs
 
--- src/main.rt:60:14
 work-requires : tie.Need-work-requires
 work-requires c κs = search needs
 
--- src/main.rt:36:1
 enum-known-call-7 : tie.Need-enum-known-call-7
 enum-known-call-7 c = search needs
 
@@ -108,75 +74,57 @@ fold-requires c κs = search needs
 returns : tie.Need-returns
 returns c = asked (c .before .before .before .before .args .line) _ _ _ _ (c .before .enum-told .given .1) (c .of .ensures, refl)
 
--- src/main.rt:36:1
 same-length : tie.Need-same-length
 same-length c = search needs
 
--- src/main.rt:36:1
 returns-2 : tie.Need-returns-2
 returns-2 c = asked (c .before .before .before .before .before .before .before .before .args .line) _ _ _ _ (c .before .before .before .before .before .enum-told2 .given .1) (c .before .before .append .ensures)
 
--- src/main.rt:36:1
 same-length-2 : tie.Need-same-length-2
 same-length-2 c = search needs
 
--- src/main.rt:36:1
 returns-3 : tie.Need-returns-3
 returns-3 c = asked (c .before .before .before .before .before .before .before .before .args .line) _ _ _ _ (c .before .before .before .before .before .call .given .1) (c .before .before .rollback .ensures)
 
--- src/main.rt:36:1
 same-length-3 : tie.Need-same-length-3
 same-length-3 c = search needs
 
--- src/main.rt:36:1
 returns-4 : tie.Need-returns-4
 returns-4 c = asked (c .before .before .before .before .before .before .before .args .line) _ _ _ _ (c .before .before .before .before .enum-told3 .given .1) (c .before .before .start .ensures)
 
--- src/main.rt:36:1
 same-length-4 : tie.Need-same-length-4
 same-length-4 c = search needs
 
--- src/main.rt:36:1
 returns-5 : tie.Need-returns-5
 returns-5 c = asked (c .before .before .before .before .before .before .before .args .line) _ _ _ _ (c .before .before .before .before .enum-told4 .given .1) (c .before .before .stop .ensures)
 
--- src/main.rt:36:1
 same-length-5 : tie.Need-same-length-5
 same-length-5 c = search needs
 
--- src/main.rt:36:1
 returns-6 : tie.Need-returns-6
 returns-6 c = asked (c .before .before .before .before .before .before .before .before .args .line) _ _ _ _ (c .before .before .before .before .before .call2 .given .1) (c .before .before .connect .ensures)
 
--- src/main.rt:36:1
 same-length-6 : tie.Need-same-length-6
 same-length-6 c = search needs
 
--- src/main.rt:36:1
 returns-7 : tie.Need-returns-7
 returns-7 c = asked (c .before .before .before .before .before .before .before .before .args .line) _ _ _ _ (c .before .before .before .before .before .call3 .given .1) (c .before .before .disconnect .ensures)
 
--- src/main.rt:36:1
 same-length-7 : tie.Need-same-length-7
 same-length-7 c = search needs
 
--- src/main.rt:36:1
 returns-8 : tie.Need-returns-8
 returns-8 c = asked (c .before .before .before .before .before .before .before .before .args .line) _ _ _ _ (c .before .before .before .before .before .call4 .given .1) (c .before .before .master .ensures)
 
--- src/main.rt:36:1
 same-length-8 : tie.Need-same-length-8
 same-length-8 c = search needs
 
--- src/main.rt:36:1
 returns-9 : tie.Need-returns-9
 returns-9 c = asked (c .before .before .before .before .before .before .before .before .args .line) _ _ _ _ (c .before .before .before .before .before .call5 .given .1) (c .before .before .sync .ensures)
 
--- src/main.rt:36:1
 same-length-9 : tie.Need-same-length-9
 same-length-9 c = search needs
 
--- src/main.rt:36:1
 returns-10 : tie.Need-returns-10
 returns-10 c = asked (c .before .before .before .before .before .before .before .before .args .line) _ _ _ _ (c .before .before .before .before .before .call6 .given .1) (c .before .before .work .ensures)
 

@@ -3,27 +3,19 @@ use Rattle.stepper.proofs.Fed.{last-line, no-line}
 use borrow.Author.Needs.{needs}
 use Rattle.stepper.proofs.end_last.Statement.{statement}
 use Rattle.stepper.proofs.end_last.Tie as tie
-use Rattle.stepper.proofs.end_last.Reads as reads
-use Rattle.stepper.proofs.end_last.Lts as lts
-use Rattle.stepper.proofs.end_line.Reads as end-line-reads
 
--- src/main.rt:182:9
 end-line-requires : tie.Need-end-line-requires
 end-line-requires c κs = search needs
 
--- src/main.rt:182:9
 same-length : tie.Need-same-length
 same-length c = search needs
 
--- src/main.rt:182:9
 same-length-2 : tie.Need-same-length-2
 same-length-2 c = search needs
 
--- src/main.rt:182:9
 returns : tie.Need-returns
 returns c = last-line _ _ (c .before .before .before .before .before .before .before .before .before .before .args .s) _ _ _ (c .before .before .before .before .before .before .before .if1 .taken) (c .before .before .before .before .end-line .ensures)
 
--- src/main.rt:178:1
 returns-2 : tie.Need-returns-2
 returns-2 c = no-line _ _ (c .before .before .before .args .s) (c .if1 .left)
 

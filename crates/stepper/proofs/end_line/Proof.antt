@@ -1,56 +1,40 @@
+-- `end_line` meets its contract. Assumes nothing.
 use Rattle.stepper.proofs.Waiting.{ended}
 use Rattle.lines.proofs.Readable.{within}
 use borrow.Author.Needs.{needs}
 use Rattle.stepper.proofs.end_line.Statement.{statement}
 use Rattle.stepper.proofs.end_line.Tie as tie
-use Rattle.stepper.proofs.end_line.Reads as reads
-use Rattle.stepper.proofs.end_line.Lts as lts
-use Rattle.lines.proofs.finish.Reads as finish-reads
-use Rattle.lines.proofs.write_reply.Reads as write-reply-reads
-use Rattle.stepper.proofs.answer.Reads as answer-reads
-use Rattle.stepper.proofs.room.Reads as room-reads
 
--- src/main.rt:67:9
 finish-requires : tie.Need-finish-requires
 finish-requires c κs = search needs
 
--- src/main.rt:68:9
 answer-requires : tie.Need-answer-requires
-answer-requires c κs = rw (c .before .finish .ensures) (within _)
+answer-requires c κs = rw (c .before .finish .ensures) (within (c .before .before .before .before .args .s .line))
 
--- src/main.rt:69:9
 room-requires : tie.Need-room-requires
 room-requires c κs = search needs
 
--- src/main.rt:70:32
 sub-write-reply : tie.Need-sub-write-reply
 sub-write-reply c = search needs
 
--- src/main.rt:70:32
 part-write-reply-start : tie.Need-part-write-reply-start
 part-write-reply-start c = search needs
 
--- src/main.rt:70:32
 part-write-reply-end : tie.Need-part-write-reply-end
 part-write-reply-end c = search needs
 
--- src/main.rt:70:9
 write-reply-requires : tie.Need-write-reply-requires
 write-reply-requires c κs = search needs
 
--- src/main.rt:71:5
 add-result : tie.Need-add-result
 add-result c = search needs
 
--- src/main.rt:66:1
 same-length : tie.Need-same-length
 same-length c = search needs
 
--- src/main.rt:66:1
 same-length-2 : tie.Need-same-length-2
 same-length-2 c = search needs
 
--- src/main.rt:66:1
 returns : tie.Need-returns
 returns c = ended _ _ (c .before .before .before .before .before .before .before .before .before .before .finish .result) _ _ _ _ _ _ _ (c .before .before .before .before .before .before .before .before .before .before .finish .ensures) (c .before .before .before .before .before .before .before .before .answer .ensures) (c .before .before .before .before .room .ensures) (c .before .before .write-reply .ensures)
 

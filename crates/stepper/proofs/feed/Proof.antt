@@ -8,9 +8,6 @@ use Rattle.stepper.proofs.Fed.{fed-more, fed-all}
 use borrow.Author.Needs.{needs}
 use Rattle.stepper.proofs.feed.Statement.{statement}
 use Rattle.stepper.proofs.feed.Tie as tie
-use Rattle.stepper.proofs.feed.Reads as reads
-use Rattle.stepper.proofs.feed.Lts as lts
-use Rattle.stepper.proofs.take_byte.Reads as take-byte-reads
 
 abbrev Inv-loop : tie.InvT-loop
 Inv-loop image₀ out₀ block session₀ i₀ image out session i = (i ≤ length block) × Feeds image₀ out₀ session₀ (take i block) session image out × (length image ≡ length image₀) × (length out ≡ length out₀)
@@ -18,39 +15,30 @@ Inv-loop image₀ out₀ block session₀ i₀ image out session i = (i ≤ leng
 abbrev μ-loop : tie.MeasureT-loop
 μ-loop image₀ out₀ block session₀ i₀ image out session i = length block - i
 
--- src/main.rt:88:5
 loop-holds : tie.Need-loop-holds Inv-loop μ-loop
 loop-holds c = (omega arith, none, refl, refl)
 
--- src/main.rt:89:50
 shared-slice-read-take-byte : tie.Need-shared-slice-read-take-byte Inv-loop μ-loop
 shared-slice-read-take-byte c = search needs
 
--- src/main.rt:89:9
 take-byte-requires : tie.Need-take-byte-requires Inv-loop μ-loop
 take-byte-requires c κs = search needs
 
--- src/main.rt:90:9
 add-i : tie.Need-add-i Inv-loop μ-loop
 add-i c = search needs
 
--- src/main.rt:88:5
 loop-less : tie.Need-loop-less Inv-loop μ-loop
 loop-less c = search needs
 
--- src/main.rt:88:5
 loop-again : tie.Need-loop-again Inv-loop μ-loop
 loop-again c = (omega (arith, c .before .before .before .before .before .before .before .before .loop-test .taken), fed-more _ _ _ _ (c .before .before .before .before .before .before .before .before .before .loop .i) _ _ _ _ _ _ (c .before .before .before .before .before .before .before .before .loop-test .taken) (c .before .before .before .before .before .before .before .before .before .loop .inv .1) (c .before .before .before .before .take-byte .ensures), search needs, search needs)
 
--- src/main.rt:85:1
 same-length : tie.Need-same-length Inv-loop μ-loop
 same-length c = search needs
 
--- src/main.rt:85:1
 same-length-2 : tie.Need-same-length-2 Inv-loop μ-loop
 same-length-2 c = search needs
 
--- src/main.rt:85:1
 returns : tie.Need-returns Inv-loop μ-loop
 returns c = fed-all _ _ _ _ (c .before .loop .i) _ _ _ (c .loop-test .left) (c .before .loop .inv .1)
 

@@ -1,25 +1,19 @@
+-- `flush` meets its contract. Assumes nothing.
 use lib.Seq.{length-take-le}
 use mathlib.Core.Path.{sym}
 use borrow.Author.Needs.{needs}
 use Rattle.stepper.proofs.flush.Statement.{statement}
 use Rattle.stepper.proofs.flush.Tie as tie
-use Rattle.stepper.proofs.flush.Reads as reads
-use Rattle.stepper.proofs.flush.Lts as lts
-use Rattle.io.proofs.write_all.Reads as write-all-reads
 
--- src/main.rt:76:38
 slice-aggregate-write-all : tie.Need-slice-aggregate-write-all
 slice-aggregate-write-all c = sym (length-take-le _ _ (search needs))
 
--- src/main.rt:76:9
 write-all-requires : tie.Need-write-all-requires
 write-all-requires c κs = search needs
 
--- src/main.rt:74:1
 returns : tie.Need-returns
 returns c = search needs
 
--- src/main.rt:74:1
 returns-2 : tie.Need-returns-2
 returns-2 c = search needs
 

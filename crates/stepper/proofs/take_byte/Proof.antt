@@ -3,37 +3,25 @@ use Rattle.stepper.proofs.Fed.{newline, other}
 use borrow.Author.Needs.{needs}
 use Rattle.stepper.proofs.take_byte.Statement.{statement}
 use Rattle.stepper.proofs.take_byte.Tie as tie
-use Rattle.stepper.proofs.take_byte.Reads as reads
-use Rattle.stepper.proofs.take_byte.Lts as lts
-use Rattle.lines.proofs.fresh.Reads as fresh-reads
-use Rattle.lines.proofs.push.Reads as push-reads
-use Rattle.stepper.proofs.end_line.Reads as end-line-reads
 
--- src/main.rt:103:13
 end-line-requires : tie.Need-end-line-requires
 end-line-requires c κs = search needs
 
--- src/main.rt:104:13
 fresh-requires : tie.Need-fresh-requires
 fresh-requires c κs = search needs
 
--- src/main.rt:105:9
 same-length : tie.Need-same-length
 same-length c = search needs
 
--- src/main.rt:105:9
 same-length-2 : tie.Need-same-length-2
 same-length-2 c = search needs
 
--- src/main.rt:105:9
 returns : tie.Need-returns
 returns c = newline _ _ (c .before .before .before .before .before .before .before .before .before .before .before .args .s) _ _ _ _ _ (c .before .before .before .before .before .before .before .before .if1 .taken) (c .before .before .before .before .before .end-line .ensures) (c .fresh .ensures)
 
--- src/main.rt:111:9
 push-requires : tie.Need-push-requires
 push-requires c κs = search needs
 
--- src/main.rt:99:1
 returns-2 : tie.Need-returns-2
 returns-2 c = other _ _ (c .before .before .before .before .args .s) _ _ (c .before .if1 .left) (c .push .ensures)
 

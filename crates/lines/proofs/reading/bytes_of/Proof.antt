@@ -1,19 +1,15 @@
+-- `bytes_of` meets its contract. Assumes nothing.
 use borrow.Author.Tests.{lt-ltb, le-ltb}
 use borrow.Author.Needs.{needs}
 use Rattle.lines.proofs.reading.bytes_of.Statement.{statement}
 use Rattle.lines.proofs.reading.bytes_of.Tie as tie
-use Rattle.lines.proofs.reading.bytes_of.Reads as reads
-use Rattle.lines.proofs.reading.bytes_of.Lts as lts
 
--- src/reading.rt:290:16
 mul-result : tie.Need-mul-result
 mul-result c = search needs
 
--- src/reading.rt:290:9
 returns : tie.Need-returns
 returns c = simp (lt-ltb _ _ (c .if1 .taken))
 
--- src/reading.rt:286:1
 returns-2 : tie.Need-returns-2
 returns-2 c = simp (le-ltb _ _ (c .if1 .left))
 

@@ -12,11 +12,6 @@ use Rattle.lines.specs.Reading.{pushed, fresh, finished}
 use Rattle.lines.proofs.Lists.{fold-more}
 use Rattle.lines.proofs.reading.read.Statement.{statement}
 use Rattle.lines.proofs.reading.read.Tie as tie
-use Rattle.lines.proofs.reading.read.Reads as reads
-use Rattle.lines.proofs.reading.read.Lts as lts
-use Rattle.lines.proofs.reading.finish.Reads as finish-reads
-use Rattle.lines.proofs.reading.fresh.Reads as fresh-reads
-use Rattle.lines.proofs.reading.push.Reads as push-reads
 
 abbrev Inv-loop : tie.InvT-loop
 Inv-loop line r₀ i₀ r i = (i ≤ length line) × (r ≡ foldl pushed fresh (take i line))
@@ -24,39 +19,30 @@ Inv-loop line r₀ i₀ r i = (i ≤ length line) × (r ≡ foldl pushed fresh (
 abbrev μ-loop : tie.MeasureT-loop
 μ-loop line r₀ i₀ r i = length line - i
 
--- src/reading.rt:332:9
 fresh-requires : tie.Need-fresh-requires Inv-loop μ-loop
 fresh-requires c κs = search needs
 
--- src/reading.rt:334:5
 loop-holds : tie.Need-loop-holds Inv-loop μ-loop
 loop-holds c = search needs
 
--- src/reading.rt:335:21
 shared-slice-read-push : tie.Need-shared-slice-read-push Inv-loop μ-loop
 shared-slice-read-push c = search needs
 
--- src/reading.rt:335:9
 push-requires : tie.Need-push-requires Inv-loop μ-loop
 push-requires c κs = search needs
 
--- src/reading.rt:336:9
 add-i : tie.Need-add-i Inv-loop μ-loop
 add-i c = search needs
 
--- src/reading.rt:334:5
 loop-less : tie.Need-loop-less Inv-loop μ-loop
 loop-less c = search needs
 
--- src/reading.rt:334:5
 loop-again : tie.Need-loop-again Inv-loop μ-loop
 loop-again c = (omega arith, c .push .ensures ∙ ap (λ (x : Reader). pushed x (getD (now (c .before .before .before .before .before .before .args .line)) (c .before .before .before .loop .i) 0)) (c .before .before .before .loop .inv .1) ∙ sym (fold-more pushed fresh (now (c .before .before .before .before .before .before .args .line)) (c .before .before .before .loop .i) (c .before .before .loop-test .taken)))
 
--- src/reading.rt:338:5
 finish-requires : tie.Need-finish-requires Inv-loop μ-loop
 finish-requires c κs = search needs
 
--- src/reading.rt:329:1
 returns : tie.Need-returns Inv-loop μ-loop
 returns c = c .finish .ensures ∙ ap finished (c .before .before .loop .inv .1 ∙ ap (foldl pushed fresh) (take-all (c .before .before .loop .i) (now (c .before .before .before .before .before .args .line)) (c .before .loop-test .left)))
 

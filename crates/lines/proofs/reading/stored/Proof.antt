@@ -1,27 +1,21 @@
+-- `stored` meets its contract. Assumes nothing.
 use borrow.Author.Tests.{lt-ltb, le-ltb}
 use borrow.Author.Needs.{needs}
 use Rattle.lines.proofs.reading.stored.Statement.{statement}
 use Rattle.lines.proofs.reading.stored.Tie as tie
-use Rattle.lines.proofs.reading.stored.Reads as reads
-use Rattle.lines.proofs.reading.stored.Lts as lts
 
--- src/reading.rt:170:9
 mul-next : tie.Need-mul-next
 mul-next c = search needs
 
--- src/reading.rt:170:9
 element-write-next : tie.Need-element-write-next
 element-write-next c = search needs
 
--- src/reading.rt:171:22
 add-next : tie.Need-add-next
 add-next c = search needs
 
--- src/reading.rt:172:9
 returns : tie.Need-returns
 returns c = simp (lt-ltb _ _ (c .if1 .taken))
 
--- src/reading.rt:163:1
 returns-2 : tie.Need-returns-2
 returns-2 c = simp (le-ltb _ _ (c .if1 .left))
 

@@ -1,172 +1,130 @@
+-- `two_bytes` meets its contract. Assumes nothing.
 use Rattle.lines.specs.Reading.{twoBytes}
 use mathlib.Core.Path.{refl}
 use borrow.Author.Needs.{needs}
 use Rattle.lines.proofs.reading.two_bytes.Statement.{statement}
 use Rattle.lines.proofs.reading.two_bytes.Tie as tie
-use Rattle.lines.proofs.reading.two_bytes.Reads as reads
-use Rattle.lines.proofs.reading.two_bytes.Lts as lts
 
--- src/reading.rt:256:10
 array-read-t5 : tie.Need-array-read-t5
 array-read-t5 c = search needs
 
--- src/reading.rt:256:9
 cast-t7 : tie.Need-cast-t7
 cast-t7 c = search needs
 
--- src/reading.rt:257:10
 array-read-t10 : tie.Need-array-read-t10
 array-read-t10 c = search needs
 
--- src/reading.rt:257:9
 cast-t13 : tie.Need-cast-t13
 cast-t13 c = search needs
 
--- src/reading.rt:258:10
 array-read-t16 : tie.Need-array-read-t16
 array-read-t16 c = search needs
 
--- src/reading.rt:258:9
 cast-t18 : tie.Need-cast-t18
 cast-t18 c = search needs
 
--- src/reading.rt:259:10
 array-read-t21 : tie.Need-array-read-t21
 array-read-t21 c = search needs
 
--- src/reading.rt:259:9
 cast-t24 : tie.Need-cast-t24
 cast-t24 c = search needs
 
--- src/reading.rt:260:10
 array-read-t27 : tie.Need-array-read-t27
 array-read-t27 c = search needs
 
--- src/reading.rt:260:9
 cast-t29 : tie.Need-cast-t29
 cast-t29 c = search needs
 
--- src/reading.rt:261:10
 array-read-t32 : tie.Need-array-read-t32
 array-read-t32 c = search needs
 
--- src/reading.rt:261:9
 cast-t35 : tie.Need-cast-t35
 cast-t35 c = search needs
 
--- src/reading.rt:262:10
 array-read-t38 : tie.Need-array-read-t38
 array-read-t38 c = search needs
 
--- src/reading.rt:262:9
 cast-t40 : tie.Need-cast-t40
 cast-t40 c = search needs
 
--- src/reading.rt:263:10
 array-read-t43 : tie.Need-array-read-t43
 array-read-t43 c = search needs
 
--- src/reading.rt:263:9
 cast-t46 : tie.Need-cast-t46
 cast-t46 c = search needs
 
--- src/reading.rt:264:10
 array-read-t49 : tie.Need-array-read-t49
 array-read-t49 c = search needs
 
--- src/reading.rt:264:9
 cast-t51 : tie.Need-cast-t51
 cast-t51 c = search needs
 
--- src/reading.rt:265:10
 array-read-t54 : tie.Need-array-read-t54
 array-read-t54 c = search needs
 
--- src/reading.rt:265:9
 cast-t57 : tie.Need-cast-t57
 cast-t57 c = search needs
 
--- src/reading.rt:266:10
 array-read-t60 : tie.Need-array-read-t60
 array-read-t60 c = search needs
 
--- src/reading.rt:266:9
 cast-t62 : tie.Need-cast-t62
 cast-t62 c = search needs
 
--- src/reading.rt:267:10
 array-read-t65 : tie.Need-array-read-t65
 array-read-t65 c = search needs
 
--- src/reading.rt:267:9
 cast-t68 : tie.Need-cast-t68
 cast-t68 c = search needs
 
--- src/reading.rt:268:10
 array-read-t71 : tie.Need-array-read-t71
 array-read-t71 c = search needs
 
--- src/reading.rt:268:9
 cast-t73 : tie.Need-cast-t73
 cast-t73 c = search needs
 
--- src/reading.rt:269:10
 array-read-t76 : tie.Need-array-read-t76
 array-read-t76 c = search needs
 
--- src/reading.rt:269:9
 cast-t79 : tie.Need-cast-t79
 cast-t79 c = search needs
 
--- src/reading.rt:270:10
 array-read-t82 : tie.Need-array-read-t82
 array-read-t82 c = search needs
 
--- src/reading.rt:270:9
 cast-t84 : tie.Need-cast-t84
 cast-t84 c = search needs
 
--- src/reading.rt:271:10
 array-read-t87 : tie.Need-array-read-t87
 array-read-t87 c = search needs
 
--- src/reading.rt:271:9
 cast-t90 : tie.Need-cast-t90
 cast-t90 c = search needs
 
--- src/reading.rt:272:10
 array-read-t93 : tie.Need-array-read-t93
 array-read-t93 c = search needs
 
--- src/reading.rt:272:9
 cast-t95 : tie.Need-cast-t95
 cast-t95 c = search needs
 
--- src/reading.rt:273:10
 array-read-t98 : tie.Need-array-read-t98
 array-read-t98 c = search needs
 
--- src/reading.rt:273:9
 cast-t101 : tie.Need-cast-t101
 cast-t101 c = search needs
 
--- src/reading.rt:274:10
 array-read-t104 : tie.Need-array-read-t104
 array-read-t104 c = search needs
 
--- src/reading.rt:274:9
 cast-t106 : tie.Need-cast-t106
 cast-t106 c = search needs
 
--- src/reading.rt:275:10
 array-read-t109 : tie.Need-array-read-t109
 array-read-t109 c = search needs
 
--- src/reading.rt:275:9
 cast-t112 : tie.Need-cast-t112
 cast-t112 c = search needs
 
--- src/reading.rt:252:1
 returns : tie.Need-returns
 unfolding twoBytes
 returns c = refl

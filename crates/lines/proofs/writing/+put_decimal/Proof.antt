@@ -1,3 +1,4 @@
+-- `put_decimal` meets its contract. Assumes nothing.
 use mathlib.Core.List.{[], _∷_}
 use Prim.Native.Nat.{_+_, _/_, _%_}
 use Rattle.lines.proofs.Putting.{put-then, put-byte, put-length, decimal-one, decimal-more}
@@ -26,91 +27,78 @@ abbrev put-decimal-below : ℕ → In 1 put-decimal-kinds.ps
 put-decimal-below t =
     and 1 put-decimal-kinds.ps (falls 1 put-decimal-kinds.ps _<_ μ-put-decimal t) put-decimal.Pre
 
--- src/writing.rt:16:24
 put-decimal-cast-out : (t : ℕ) → put-decimal-lts.Need-cast-out (
   put-decimal-below t,
   put-decimal.Post,
 ) (put-decimal-at t) put-decimal.Post
 put-decimal-cast-out t c = search needs
 
--- src/writing.rt:16:19
 put-decimal-add-out : (t : ℕ) → put-decimal-lts.Need-add-out (
   put-decimal-below t,
   put-decimal.Post,
 ) (put-decimal-at t) put-decimal.Post
 put-decimal-add-out t c = search needs
 
--- src/writing.rt:16:9
 put-decimal-slice-write-out : (t : ℕ) → put-decimal-lts.Need-slice-write-out (
   put-decimal-below t,
   put-decimal.Post,
 ) (put-decimal-at t) put-decimal.Post
 put-decimal-slice-write-out t c = omega (arith, c .before .before .pre .1, ap length (decimal-one (c .before .before .args .n) (c .if1 .taken)))
 
--- src/writing.rt:17:16
 put-decimal-add-result : (t : ℕ) → put-decimal-lts.Need-add-result (
   put-decimal-below t,
   put-decimal.Post,
 ) (put-decimal-at t) put-decimal.Post
 put-decimal-add-result t c = omega (arith, c .before .before .pre .1, ap length (decimal-one (c .before .before .args .n) (c .if1 .taken)), c .before .before .good)
 
--- src/writing.rt:17:9
 put-decimal-same-length : (t : ℕ) → put-decimal-lts.Need-same-length (
   put-decimal-below t,
   put-decimal.Post,
 ) (put-decimal-at t) put-decimal.Post
 put-decimal-same-length t c = search needs
 
--- src/writing.rt:17:9
 put-decimal-returns : (t : ℕ) → put-decimal-lts.Need-returns (
   put-decimal-below t,
   put-decimal.Post,
 ) (put-decimal-at t) put-decimal.Post
 put-decimal-returns t c = rw (decimal-one (c .before .before .args .n) (c .if1 .taken)) (put-byte _ _ _)
 
--- src/writing.rt:19:9
 put-decimal-put-decimal-requires : (t : ℕ) → put-decimal-lts.Need-put-decimal-requires (
   put-decimal-below t,
   put-decimal.Post,
 ) (put-decimal-at t) put-decimal.Post
 put-decimal-put-decimal-requires t c κs = (omega (arith, c .before .before .before .pre .0, c .before .if1 .left), omega (arith, c .before .before .before .pre .1, ap length (decimal-more (c .before .before .before .args .n) (c .before .if1 .left) (c .before .before .before .fits .n .fits)), length-append (decimal (c .before .before .before .args .n / 10)) ((48 + c .before .before .before .args .n % 10) ∷ [])))
 
--- src/writing.rt:20:21
 put-decimal-cast-out-2 : (t : ℕ) → put-decimal-lts.Need-cast-out-2 (
   put-decimal-below t,
   put-decimal.Post,
 ) (put-decimal-at t) put-decimal.Post
 put-decimal-cast-out-2 t c = search needs
 
--- src/writing.rt:20:16
 put-decimal-add-out-2 : (t : ℕ) → put-decimal-lts.Need-add-out-2 (
   put-decimal-below t,
   put-decimal.Post,
 ) (put-decimal-at t) put-decimal.Post
 put-decimal-add-out-2 t c = search needs
 
--- src/writing.rt:20:5
 put-decimal-slice-write-out-2 : (t : ℕ) → put-decimal-lts.Need-slice-write-out-2 (
   put-decimal-below t,
   put-decimal.Post,
 ) (put-decimal-at t) put-decimal.Post
 put-decimal-slice-write-out-2 t c = omega (arith, put-length (c .before .before .put-decimal .ensures), c .before .before .put-decimal .ensures .ends, c .before .before .before .before .before .before .pre .1, ap length (decimal-more (c .before .before .before .before .before .before .args .n) (c .before .before .before .before .if1 .left) (c .before .before .before .before .before .before .fits .n .fits)), length-append (decimal (c .before .before .before .before .before .before .args .n / 10)) ((48 + c .before .before .before .before .before .before .args .n % 10) ∷ []))
 
--- src/writing.rt:21:5
 put-decimal-add-result-2 : (t : ℕ) → put-decimal-lts.Need-add-result-2 (
   put-decimal-below t,
   put-decimal.Post,
 ) (put-decimal-at t) put-decimal.Post
 put-decimal-add-result-2 t c = omega (arith, c .before .before .put-decimal .ensures .ends, c .before .before .before .before .before .before .pre .1, c .before .before .before .before .before .before .good, ap length (decimal-more (c .before .before .before .before .before .before .args .n) (c .before .before .before .before .if1 .left) (c .before .before .before .before .before .before .fits .n .fits)), length-append (decimal (c .before .before .before .before .before .before .args .n / 10)) ((48 + c .before .before .before .before .before .before .args .n % 10) ∷ []))
 
--- src/writing.rt:11:1
 put-decimal-same-length-2 : (t : ℕ) → put-decimal-lts.Need-same-length-2 (
   put-decimal-below t,
   put-decimal.Post,
 ) (put-decimal-at t) put-decimal.Post
 put-decimal-same-length-2 t c = simp length-set (put-length (c .before .before .put-decimal .ensures))
 
--- src/writing.rt:11:1
 put-decimal-returns-2 : (t : ℕ) → put-decimal-lts.Need-returns-2 (
   put-decimal-below t,
   put-decimal.Post,

@@ -1,0 +1,303 @@
+-- What may still come of a line from a place of the table on; and that a byte pushed leaves just that. Assumes nothing.
+use Prim.Native.Nat.{ℕ, zero, suc, _+_, _-_, _≤_, _<_}
+use mathlib.Core.Path.{_≡_, refl, ap, sym, subst, _∙_}
+use mathlib.Core.Logic.{_⊎_, inl, inr}
+use mathlib.Core.List.{List, [], _∷_, _++_, foldl, append-assoc}
+use mathlib.Core.Bool.{Bool, true, false, cond, _&&_}
+use native.Mathlib.Omega.{arith}
+use borrow.Author.Tests.{eqb-true, eq-eqb, ne-eqb, le-leb, leb-true, leb-false, eqb-false}
+use lib.Dec.{eqb, leb, ltb, eqb·suc-zero}
+use Rattle.lines.specs.declared.reading.Reader.{Reader}
+use Rattle.lines.specs.Decimal.{isDigit}
+use Rattle.lines.specs.Grammar.{isWord, tenfold}
+use Rattle.lines.specs.Reading.{size, letterAt, isMark, isTag, like, takes, goes, seek, seekIn, inside, begins, parts, mayEnd, past, pushed, withDigit, withText, grownIf, kept, stored, storedIf, placed, parted, spelt, tagOf, tagBefore}
+use Rattle.lines.proofs.Classes.{differ, and-left, and-right, and-both, word-no-digit, mark-no-word, mark-no-tag, tag-some, word-some, mark-some, word-other, begins-inside, Parted, parted-by, word-parts}
+use Rattle.lines.proofs.Places.{within, zero-like, like-next, Prior, like-prior, like-trans, like-sym, Found, Missing, sought}
+use Rattle.lines.proofs.Table.{lone-mark, lone-tag, no-mark-behind, first-newline}
+
+-- the number that ends where s has come and v is being read
+abbrev pub held : ℕ → ℕ → List ℕ
+held s v = cond (inside s) (v ∷ []) []
+
+-- from the place q, where s has come of a mark and v is being read, the rest l of a line ends at the tag t, with the numbers ns
+pub data Goes : (q s v : ℕ) → List ℕ → List ℕ → ℕ → Type 0 where
+  done : {q s v t : ℕ} → s ≡ 0 → isTag t ≡ true → letterAt q ≡ t → Goes q s v [] [] t
+  spell : {q s v b t : ℕ} {l ns : List ℕ} → s ≡ 0 → isWord b ≡ true → letterAt q ≡ b → Goes (q + 1) 0 v l ns t → Goes q s v (b ∷ l) ns t
+  begin :
+      {q s v b t : ℕ} {l ns : List ℕ} → isMark (letterAt q) ≡ true → isDigit b ≡ true → inside s ≡ false → Goes q (begins s) (b - 48) l ns t →
+      Goes q s v (b ∷ l) ns t
+  grow :
+      {q s v b t : ℕ} {l ns : List ℕ} → isMark (letterAt q) ≡ true → isDigit b ≡ true → inside s ≡ true → tenfold v b ≤ 65535 →
+      Goes q s (tenfold v b) l ns t → Goes q s v (b ∷ l) ns t
+  part :
+      {q s v b t : ℕ} {l m : List ℕ} (n : ℕ) (ns : List ℕ) → isDigit b ≡ false → parts (letterAt q) s b ≡ suc n → m ≡ v ∷ ns → Goes q (suc n) 0 l ns t →
+      Goes q s v (b ∷ l) m t
+  leave :
+      {q s v t : ℕ} {l m : List ℕ} (ns : List ℕ) → isMark (letterAt q) ≡ true → mayEnd (letterAt q) s ≡ true → m ≡ held s v ++ ns → Goes (q + 1) 0 v l ns t →
+      Goes q s v l m t
+
+pub goes-some : {q s v t : ℕ} {l ns : List ℕ} → Goes q s v l ns t → 1 ≤ letterAt q
+goes-some {q} {t = t} (done e h i) = subst (λ (c : ℕ). 1 ≤ c) (sym i) (tag-some t h)
+goes-some (spell {b = b} e w i g) = subst (λ (c : ℕ). 1 ≤ c) (sym i) (word-some b w)
+goes-some {q} (begin m d n g) = mark-some (letterAt q) m
+goes-some {q} (grow m d n f g) = mark-some (letterAt q) m
+goes-some {q} {s} (part {b = b} n ns d e f g) = mark-some (letterAt q) (parted-by (letterAt q) s b n e .mark)
+goes-some {q} (leave ns m f e g) = mark-some (letterAt q) m
+
+-- the same from one of the places that are like p
+pub record Acc (p s v : ℕ) (l ns : List ℕ) (t : ℕ) : Type 0 where
+  pub place : ℕ
+  pub above : p ≤ place
+  pub same : like p place ≡ true
+  pub then : Goes place s v l ns t
+
+pub none : {A : Type 0} {s v t : ℕ} {l ns : List ℕ} → Acc 0 s v l ns t → A
+none a = differ (sym (a .same) ∙ zero-like (a .place))
+
+-- at a mark all like places have it
+at-mark : {p s v t : ℕ} {l ns : List ℕ} (a : Acc p s v l ns t) → isMark (letterAt p) ≡ true → letterAt (a .place) ≡ letterAt p
+at-mark {p} a h = lone-mark p (a .place) h (within (a .place) (goes-some (a .then))) (a .same)
+
+-- and so has p where one of them has a mark
+pub mark-there : (p q : ℕ) → p ≤ q → like p q ≡ true → isMark (letterAt q) ≡ true → letterAt p ≡ letterAt q
+mark-there p q h e m = lone-mark q p m (omega (arith, within q (mark-some (letterAt q) m))) (like-sym p q e)
+
+-- ---- behind a mark that may end
+pub leave-back : (p s v t : ℕ) (l ns : List ℕ) → Acc (past (letterAt p) s p) 0 v l ns t → Acc p s v l (held s v ++ ns) t
+leave-back p s v t l ns a = by (isMark (letterAt p)) refl a
+  where
+    rest : (x : Bool) → eqb s 0 ≡ x → isMark (letterAt p) ≡ false → Acc (cond x p 0) 0 v l ns t → Acc p s v l (held s v ++ ns) t
+    rest true e m b = let i = eqb-true s 0 e in rw i b
+    rest false e m b = none b
+
+    marked : (x : Bool) → mayEnd (letterAt p) s ≡ x → isMark (letterAt p) ≡ true → Acc (cond x (p + 1) 0) 0 v l ns t → Acc p s v l (held s v ++ ns) t
+    marked false e m b = none b
+    marked true e m b =
+        let x = like-prior p (b .place) (b .same) in
+        let no : letterAt p ≡ 10 → ⊥ = λ i. differ (sym m ∙ ap isMark i) in
+        record {
+          place = x .place;
+          above = omega (arith, x .is, b .above);
+          same = x .same no;
+          then = leave {q = x .place} {s = s} {v = v} ns (rw (x .letter) m) (rw (x .letter) e) refl (subst (λ (k : ℕ). Goes k 0 v l ns t) (x .is) (b .then));
+        }
+
+    by : (x : Bool) → isMark (letterAt p) ≡ x → Acc (cond x (cond (mayEnd (letterAt p) s) (p + 1) 0) (cond (eqb s 0) p 0)) 0 v l ns t → Acc p s v l (held s v ++ ns) t
+    by true m b = marked (mayEnd (letterAt p) s) refl m b
+    by false m b = rest (eqb s 0) refl m b
+
+-- ---- a letter
+word-newline : (b : ℕ) → isWord b ≡ true → eqb b 10 ≡ false
+word-newline b w = word-other b 10 w (omega arith) (λ e. omega arith)
+
+-- found, and so it takes the byte
+taken : (p b q : ℕ) → isWord b ≡ true → goes p b q ≡ true → letterAt q ≡ b
+taken p b q w h = eqb-true (letterAt q) b (rw (word-newline b w) at (and-right (like p q) (takes (letterAt q) b) h))
+
+pub spell-on : (p q v b t : ℕ) (l ns : List ℕ) → p ≤ q → like p q ≡ true → isWord b ≡ true → letterAt q ≡ b → Goes (q + 1) 0 v l ns t → Acc (seek p b) 0 v l ns t
+spell-on p q v b t l ns h e w i g = by (sought (size - p) p b p)
+  where
+    take : goes p b q ≡ true
+    take = and-both (like p q) (takes (letterAt q) b) e (rw (word-newline b w) (eq-eqb (letterAt q) b i))
+
+    in-table : q < size
+    in-table = within q (subst (λ (c : ℕ). 1 ≤ c) (sym i) (word-some b w))
+
+    by : Missing p b p (size - p) (seek p b) ⊎ Found p b p (seek p b) → Acc (seek p b) 0 v l ns t
+    by (inl x) = absurd (x .never q h (omega (arith, in-table)) take)
+    by (inr x) =
+        let f = x .first q h take in
+        let s : like (x .place) q ≡ true = like-trans (x .place) p q (like-sym p (x .place) (and-left (like p (x .place)) (takes (letterAt (x .place)) b) (x .takes))) e in
+        subst (λ (k : ℕ). Acc k 0 v l ns t) (sym (x .is))
+        (record { place = q + 1; above = omega arith; same = like-next (x .place) q s (taken p b (x .place) w (x .takes) ∙ sym i); then = g })
+
+pub spell-back : (p v b t : ℕ) (l ns : List ℕ) → isWord b ≡ true → Acc (seek p b) 0 v l ns t → Acc p 0 v (b ∷ l) ns t
+spell-back p v b t l ns w a = by (sought (size - p) p b p)
+  where
+    by : Missing p b p (size - p) (seek p b) ⊎ Found p b p (seek p b) → Acc p 0 v (b ∷ l) ns t
+    by (inl x) = none (subst (λ (k : ℕ). Acc k 0 v l ns t) (x .is) a)
+    by (inr x) =
+        let c : Acc (x .place + 1) 0 v l ns t = subst (λ (k : ℕ). Acc k 0 v l ns t) (x .is) a in
+        let y = like-prior (x .place) (c .place) (c .same) in
+        let i = taken p b (x .place) w (x .takes) in
+        let no : letterAt (x .place) ≡ 10 → ⊥ = λ j. eqb-false b 10 (word-newline b w) (sym i ∙ j) in
+        record {
+          place = y .place;
+          above = omega (arith, x .above, c .above, y .is);
+          same = like-trans p (x .place) (y .place) (and-left (like p (x .place)) (takes (letterAt (x .place)) b) (x .takes)) (y .same no);
+          then = spell refl w (y .letter ∙ i) (subst (λ (k : ℕ). Goes k 0 v l ns t) (y .is) (c .then));
+        }
+
+-- ---- a byte pushed: what it adds to the numbers
+abbrev pub st : ℕ → ℕ → ℕ → ℕ → List ℕ → Reader
+st p s v k m = record { at = p; sub = s; value = v; count = k; numbers = m }
+
+abbrev pub adds : Reader → ℕ → List ℕ
+adds r b = cond (isDigit b) [] (held (r .sub) (r .value))
+
+abbrev pub AccR : Reader → List ℕ → List ℕ → ℕ → Type 0
+AccR r l ns t = Acc (r .at) (r .sub) (r .value) l ns t
+
+kept-at : (r : Reader) → kept r .value ≡ r .value
+kept-at r = by (inside (r .sub)) (ltb (r .count) 10)
+  where
+    by : (x y : Bool) → cond x (storedIf y r) r .value ≡ r .value
+    by true true = refl
+    by true false = refl
+    by false y = refl
+
+module _ (p s v k : ℕ) (m : List ℕ) (b : ℕ) where
+  push-begin : isDigit b ≡ true → isMark (letterAt p) ≡ true → inside s ≡ false → pushed (st p s v k m) b ≡ st p (begins s) (b - 48) k m
+  unfolding pushed
+  push-begin d h i = rw (d, h, i)
+
+  push-grow : isDigit b ≡ true → isMark (letterAt p) ≡ true → inside s ≡ true → pushed (st p s v k m) b ≡ grownIf (leb (tenfold v b) 65535) (st p s v k m) (tenfold v b)
+  unfolding pushed
+  push-grow d h i = rw (d, h, i)
+
+  push-dead : isDigit b ≡ true → isMark (letterAt p) ≡ false → pushed (st p s v k m) b ≡ st 0 0 v k m
+  unfolding pushed
+  push-dead d h = rw (d, h)
+
+  push-part : (n : ℕ) → isDigit b ≡ false → parts (letterAt p) s b ≡ suc n → pushed (st p s v k m) b ≡ parted (stored (st p s v k m)) (suc n)
+  unfolding pushed
+  push-part n d e = rw (d, e, eqb·suc-zero n)
+
+  push-spell : isDigit b ≡ false → parts (letterAt p) s b ≡ 0 → pushed (st p s v k m) b ≡ placed (kept (st p s v k m)) (spelt (past (letterAt p) s p) b)
+  unfolding pushed
+  push-spell d e = rw (d, e)
+
+  stored-on : (n t : ℕ) (l ns : List ℕ) → Acc p n 0 l ns t → AccR (parted (stored (st p s v k m)) n) l ns t
+  stored-on n t l ns a = by (ltb k 10)
+    where
+      by : (x : Bool) → AccR (parted (storedIf x (st p s v k m)) n) l ns t
+      by true = a
+      by false = a
+
+  stored-back : (n t : ℕ) (l ns : List ℕ) → AccR (parted (stored (st p s v k m)) n) l ns t → Acc p n 0 l ns t
+  stored-back n t l ns a = by (ltb k 10) a
+    where
+      by : (x : Bool) → AccR (parted (storedIf x (st p s v k m)) n) l ns t → Acc p n 0 l ns t
+      by true c = c
+      by false c = c
+
+-- what is left of a line behind its first byte
+pub record On (r : Reader) (b : ℕ) (l ns : List ℕ) (t : ℕ) : Type 0 where
+  pub rest : List ℕ
+  pub is : ns ≡ adds r b ++ rest
+  pub acc : AccR (pushed r b) l rest t
+
+module _ (p s v k : ℕ) (m : List ℕ) (b t : ℕ) (l : List ℕ) where
+  to : (ns : List ℕ) (r : Reader) → pushed (st p s v k m) b ≡ r → AccR r l ns t → AccR (pushed (st p s v k m) b) l ns t
+  to ns r e a = subst (λ (x : Reader). AccR x l ns t) (sym e) a
+
+  spelled-on : (ns : List ℕ) → isDigit b ≡ false → isWord b ≡ true → Acc (seek (past (letterAt p) s p) b) 0 v l ns t → AccR (pushed (st p s v k m) b) l ns t
+  spelled-on ns d w a =
+      to ns (placed (kept (st p s v k m)) (spelt (past (letterAt p) s p) b)) (push-spell p s v k m b d (word-parts (letterAt p) s b w))
+      (rw w (subst (λ (x : ℕ). Acc (seek (past (letterAt p) s p) b) 0 x l ns t) (sym (kept-at (st p s v k m))) a))
+
+  pub push-on : (ns : List ℕ) → AccR (st p s v k m) (b ∷ l) ns t → On (st p s v k m) b l ns t
+  push-on ns a = by (a .place) (a .above) (a .same) (a .then)
+    where
+      no-digit : isWord b ≡ true → isDigit b ≡ false
+      no-digit w = split (isDigit b) refl
+        where
+          split : (x : Bool) → isDigit b ≡ x → isDigit b ≡ false
+          split true e = absurd (word-no-digit b w e)
+          split false e = e
+
+      behind : (q : ℕ) (ns′ : List ℕ) → p ≤ q → like p q ≡ true → isMark (letterAt q) ≡ true → mayEnd (letterAt q) s ≡ true → ns ≡ held s v ++ ns′ → Goes (q + 1) 0 v (b ∷ l) ns′ t → On (st p s v k m) b l ns t
+      behind q ns′ h e c f i (spell z w j g) =
+          let c-is = mark-there p q h e c in
+          let at : past (letterAt p) s p ≡ p + 1 = rw (c-is, c, f) in
+          let x = spell-on (p + 1) (q + 1) v b t l ns′ (omega arith) (like-next p q e c-is) w j g in
+          record {
+            rest = ns′;
+            is = rw (no-digit w) i;
+            acc = spelled-on ns′ (no-digit w) w (subst (λ (y : ℕ). Acc (seek y b) 0 v l ns′ t) (sym at) x);
+          }
+      behind q ns′ h e c f i (begin y d n g) = differ (sym y ∙ no-mark-behind q c)
+      behind q ns′ h e c f i (grow y d n z g) = differ (sym y ∙ no-mark-behind q c)
+      behind q ns′ h e c f i (part n z d y j g) = differ (sym (parted-by (letterAt (q + 1)) 0 b n y .mark) ∙ no-mark-behind q c)
+      behind q ns′ h e c f i (leave x y z j g) = differ (sym y ∙ no-mark-behind q c)
+
+      by : (q : ℕ) → p ≤ q → like p q ≡ true → Goes q s v (b ∷ l) ns t → On (st p s v k m) b l ns t
+      by q h e (spell z w i g) =
+          let out : isMark (letterAt p) ≡ false = split (isMark (letterAt p)) refl w i in
+          let at : past (letterAt p) s p ≡ p = rw (out, eq-eqb s 0 z) in
+          record {
+            rest = ns;
+            is = rw (no-digit w, z);
+            acc = spelled-on ns (no-digit w) w (subst (λ (y : ℕ). Acc (seek y b) 0 v l ns t) (sym at) (spell-on p q v b t l ns h e w i g));
+          }
+        where
+          split : (x : Bool) → isMark (letterAt p) ≡ x → isWord b ≡ true → letterAt q ≡ b → isMark (letterAt p) ≡ false
+          split true j w i =
+              absurd (mark-no-word (letterAt p) j
+              (ap isWord (sym (lone-mark p q j (within q (subst (λ (c : ℕ). 1 ≤ c) (sym i) (word-some b w))) e) ∙ i) ∙ w))
+          split false j w i = j
+      by q h e (begin c d n g) =
+          record {
+            rest = ns;
+            is = rw d;
+            acc = to ns (st p (begins s) (b - 48) k m) (push-begin p s v k m b d (ap isMark (mark-there p q h e c) ∙ c) n) (record { place = q; above = h; same = e; then = g });
+          }
+      by q h e (grow c d n f g) =
+          record {
+            rest = ns;
+            is = rw d;
+            acc =
+                to ns (st p s (tenfold v b) k m)
+                (push-grow p s v k m b d (ap isMark (mark-there p q h e c) ∙ c) n ∙ rw (le-leb (tenfold v b) 65535 f))
+                (record { place = q; above = h; same = e; then = g });
+          }
+      by q h e (part n ns′ d f i g) =
+          let x = parted-by (letterAt q) s b n f in
+          record {
+            rest = ns′;
+            is = i ∙ rw (d, x .number);
+            acc =
+                to ns′ (parted (stored (st p s v k m)) (suc n)) (push-part p s v k m b n d (ap (λ (c : ℕ). parts c s b) (mark-there p q h e (x .mark)) ∙ f))
+                (stored-on p s v k m b (suc n) t l ns′ (record { place = q; above = h; same = e; then = g }));
+          }
+      by q h e (leave ns′ c f i g) = behind q ns′ h e c f i g
+
+  -- ---- and back
+  pub push-back : (ns : List ℕ) → AccR (pushed (st p s v k m) b) l ns t → AccR (st p s v k m) (b ∷ l) (adds (st p s v k m) b ++ ns) t
+  push-back ns a = by (isDigit b) refl
+    where
+      R : Reader
+      R = st p s v k m
+
+      from : (r : Reader) → pushed (st p s v k m) b ≡ r → AccR r l ns t
+      from r e = subst (λ (x : Reader). AccR x l ns t) e a
+
+      grown : (x : Bool) → leb (tenfold v b) 65535 ≡ x → isDigit b ≡ true → isMark (letterAt p) ≡ true → inside s ≡ true → Acc p s v (b ∷ l) ns t
+      grown true f d c i =
+          let y = from (st p s (tenfold v b) k m) (push-grow p s v k m b d c i ∙ rw f) in
+          record { place = y .place; above = y .above; same = y .same; then = grow {q = y .place} (rw (at-mark y c) c) d i (leb-true (tenfold v b) 65535 f) (y .then) }
+      grown false f d c i = none (from (st 0 0 v k m) (push-grow p s v k m b d c i ∙ rw f))
+
+      digit : (x y : Bool) → isMark (letterAt p) ≡ x → inside s ≡ y → isDigit b ≡ true → Acc p s v (b ∷ l) ns t
+      digit true true c i d = grown (leb (tenfold v b) 65535) refl d c i
+      digit true false c i d =
+          let y = from (st p (begins s) (b - 48) k m) (push-begin p s v k m b d c i) in
+          record { place = y .place; above = y .above; same = y .same; then = begin {q = y .place} (rw (at-mark y c) c) d i (y .then) }
+      digit false y c i d = none (from (st 0 0 v k m) (push-dead p s v k m b d c))
+
+      other : (n : ℕ) → parts (letterAt p) s b ≡ n → (x : Bool) → isWord b ≡ x → isDigit b ≡ false → Acc p s v (b ∷ l) (held s v ++ ns) t
+      other (suc n) e x w d =
+          let z = parted-by (letterAt p) s b n e in
+          let y = stored-back p s v k m b (suc n) t l ns (from (parted (stored (st p s v k m)) (suc n)) (push-part p s v k m b n d e)) in
+          rw (z .number) (record { place = y .place; above = y .above; same = y .same; then = part {q = y .place} {s = s} {b = b} n ns d (rw (at-mark y (z .mark)) e) refl (y .then) })
+      other zero e false w d =
+          none (subst (λ (x : ℕ). Acc x 0 (kept (st p s v k m) .value) l ns t) (rw w)
+          (from (placed (kept (st p s v k m)) (spelt (past (letterAt p) s p) b)) (push-spell p s v k m b d e)))
+      other zero e true w d =
+          let y = from (placed (kept (st p s v k m)) (spelt (past (letterAt p) s p) b)) (push-spell p s v k m b d e) in
+          let z : Acc (seek (past (letterAt p) s p) b) 0 v l ns t = subst (λ (x : ℕ). Acc (seek (past (letterAt p) s p) b) 0 x l ns t) (kept-at (st p s v k m)) (rw w at y) in
+          leave-back p s v t (b ∷ l) ns (spell-back (past (letterAt p) s p) v b t l ns w z)
+
+      by : (x : Bool) → isDigit b ≡ x → Acc p s v (b ∷ l) (cond x [] (held s v) ++ ns) t
+      by true d = digit (isMark (letterAt p)) (inside s) refl refl d
+      by false d = other (parts (letterAt p) s b) refl (isWord b) refl d

@@ -1,0 +1,246 @@
+-- The paper's nine lines, each written out, are what the first nine rows of the table say. Assumes nothing.
+use Prim.Native.Nat.{ℕ}
+use mathlib.Core.Path.{_≡_, refl, ap, sym, subst, _∙_}
+use mathlib.Core.List.{List, [], _∷_, _++_, append-assoc, append-nil}
+use mathlib.Core.Bool.{Bool, true, _&&_}
+use lib.Dec.{T}
+use lib.ListN.{take}
+use Rattle.machine.specs.Calls as machine
+use Rattle.machine.specs.Calls.{Pair}
+use Rattle.lines.specs.Text.{text}
+use Rattle.lines.specs.Forms.{Asked, calls, Token, letter, number, pairs, Asks, Form, forms}
+use Rattle.lines.specs.Grammar.{flat, isWord, Number, Row, Fits, fits-end, fits-letter, fits-number, fits-none, fits-pairs, Among, here, there, Says}
+use Rattle.lines.proofs.Classes.{and-left, and-right}
+
+pub data Line : List ℕ → machine.Call → Type 0 where
+  line-no-pairs : Line (text "call=append pairs=") (machine.append [])
+  line-append : {l : List ℕ} {ps : List Pair} → Row l ps → Line (text "call=append pairs=" ++ l) (machine.append ps)
+  line-rollback : {d : List ℕ} {n : ℕ} → Number d n → Line (text "call=rollback number=" ++ d) (machine.rollback n)
+  line-start : Line (text "call=start") machine.start
+  line-stop : Line (text "call=stop") machine.stop
+  line-connect : {d : List ℕ} {n : ℕ} → Number d n → Line (text "call=connect node=" ++ d) (machine.connect n)
+  line-disconnect : {d : List ℕ} {n : ℕ} → Number d n → Line (text "call=disconnect node=" ++ d) (machine.disconnect n)
+  line-master : {d : List ℕ} {n : ℕ} → Number d n → Line (text "call=master node=" ++ d) (machine.master n)
+  line-sync : {d : List ℕ} {n : ℕ} → Number d n → Line (text "call=sync node=" ++ d) (machine.sync n)
+  line-work :
+      {a b d e f : List ℕ} {n j i o c : ℕ} → Number a n → Number b j → Number d i → Number e o → Number f c →
+      Line (text "call=work node=" ++ a ++ text " job=" ++ b ++ text " number=" ++ d ++ text " outcome=" ++ e ++ text " cut=" ++ f) (machine.work n j i o c)
+
+-- ---- a text of letters at the front of a form
+abbrev letters : List ℕ → List Token → List Token
+letters [] f = f
+letters (c ∷ t) f = letter c ∷ letters t f
+
+abbrev within : (t : List ℕ) (f : List Token) → Asks f → Asks (letters t f)
+within [] f a = a
+within (c ∷ t) f a = within t f a
+
+abbrev words : List ℕ → Bool
+words [] = true
+words (c ∷ t) = isWord c && words t
+
+fits-text :
+    (t : List ℕ) {f : List Token} {a : Asks f} {l ns : List ℕ} {x : Asked} → words t ≡ true → Fits f a l ns x → Fits (letters t f) (within t f a) (t ++ l) ns x
+fits-text [] h y = y
+fits-text (c ∷ t) h y = fits-letter (and-left (isWord c) (words t) h) (fits-text t (and-right (isWord c) (words t) h) y)
+
+record Rest (t : List ℕ) (f : List Token) (a : Asks f) (l ns : List ℕ) (x : Asked) : Type 0 where
+  rest : List ℕ
+  is : l ≡ t ++ rest
+  fits : Fits f a rest ns x
+
+text-rest : (t : List ℕ) (f : List Token) (a : Asks f) {l ns : List ℕ} {x : Asked} → Fits (letters t f) (within t f a) l ns x → Rest t f a l ns x
+text-rest [] f a {l} y = record { rest = l; is = refl; fits = y }
+text-rest (c ∷ t) f a (fits-letter w y) =
+    let z = text-rest t f a y in
+    record { rest = z .rest; is = ap (λ (k : List ℕ). c ∷ k) (z .is); fits = z .fits }
+
+-- ---- a number at the end
+record Last (a : ℕ → Asked) (l ns : List ℕ) (x : Asked) : Type 0 where
+  n : ℕ
+  number : Number l n
+  is : x ≡ a n
+
+last : (a : ℕ → Asked) {l ns : List ℕ} {x : Asked} → Fits (number ∷ []) a l ns x → Last a l ns x
+last a (fits-number {d} {n} k fits-end) = record { n = n; number = subst (λ (z : List ℕ). Number z n) (sym (append-nil d)) k; is = refl }
+
+at-end : {d : List ℕ} {n : ℕ} {a : ℕ → Asked} → Number d n → Fits (number ∷ []) a d (n ∷ []) (a n)
+at-end {d} {n} {a} k = subst (λ (z : List ℕ). Fits (number ∷ []) a z (n ∷ []) (a n)) (append-nil d) (fits-number k fits-end)
+
+says-by : {l ns : List ℕ} {x : Asked} {f : Form} → Among f forms → Fits (f .form) (f .asks) l ns x → Says l x
+says-by {ns = ns} {f = f} a y = record { of = f; among = a; numbers = ns; fits = y }
+
+work-fits :
+    {a b d e f : List ℕ} {n j i o c : ℕ} → Number a n → Number b j → Number d i → Number e o → Number f c →
+    Fits (letters (text "call=work node=") (number ∷ letters (text " job=") (number ∷ letters (text " number=") (number ∷ letters (text " outcome=") (number ∷ letters (text " cut=") (number ∷ []))))))
+    (λ n j i o c. calls (machine.work n j i o c))
+    (text "call=work node=" ++ (a ++ (text " job=" ++ (b ++ (text " number=" ++ (d ++ (text " outcome=" ++ (e ++ (text " cut=" ++ f)))))))))
+    (n ∷ j ∷ i ∷ o ∷ c ∷ []) (calls (machine.work n j i o c))
+work-fits x y z u w =
+    fits-text (text "call=work node=") refl
+    (fits-number x (fits-text (text " job=") refl
+    (fits-number y (fits-text (text " number=") refl
+    (fits-number z (fits-text (text " outcome=") refl
+    (fits-number u (fits-text (text " cut=") refl (at-end w)))))))))
+
+-- ---- each line of the paper is said
+pub line-says : {l : List ℕ} {c : machine.Call} → Line l c → Says l (calls c)
+unfolding flat
+line-says line-no-pairs = says-by here (fits-text (text "call=append pairs=") refl (fits-none fits-end))
+line-says (line-append {l} {ps} r) =
+    says-by here (fits-text (text "call=append pairs=") refl
+    (subst (λ (z : List ℕ). Fits (pairs ∷ []) (λ qs. calls (machine.append qs)) z (flat ps ++ []) (calls (machine.append ps))) (append-nil l) (fits-pairs r fits-end)))
+line-says (line-connect x) = says-by (there here) (fits-text (text "call=connect node=") refl (at-end x))
+line-says (line-disconnect x) = says-by (there (there here)) (fits-text (text "call=disconnect node=") refl (at-end x))
+line-says (line-master x) = says-by (there (there (there here))) (fits-text (text "call=master node=") refl (at-end x))
+line-says (line-rollback x) = says-by (there (there (there (there here)))) (fits-text (text "call=rollback number=") refl (at-end x))
+line-says line-start = says-by (there (there (there (there (there here))))) (fits-text (text "call=start") refl fits-end)
+line-says line-stop = says-by (there (there (there (there (there (there here)))))) (fits-text (text "call=stop") refl fits-end)
+line-says (line-sync x) = says-by (there (there (there (there (there (there (there here))))))) (fits-text (text "call=sync node=") refl (at-end x))
+line-says (line-work {a} {b} {d} {e} {f} {n} {j} {i} {o} {c} x y z u w) =
+    subst (λ (k : List ℕ). Says k (calls (machine.work n j i o c))) (regroup a b d e f) (says-by (there (there (there (there (there (there (there (there here)))))))) (work-fits x y z u w))
+  where
+    regroup :
+        (a b d e f : List ℕ) →
+        text "call=work node=" ++ (a ++ (text " job=" ++ (b ++ (text " number=" ++ (d ++ (text " outcome=" ++ (e ++ (text " cut=" ++ f))))))))
+        ≡ text "call=work node=" ++ a ++ text " job=" ++ b ++ text " number=" ++ d ++ text " outcome=" ++ e ++ text " cut=" ++ f
+    regroup a b d e f = simp append-assoc
+
+-- ---- and what those rows say is a line of the paper
+pub record Lined (l : List ℕ) (x : Asked) : Type 0 where
+  pub call : machine.Call
+  pub is : x ≡ calls call
+  pub line : Line l call
+
+moved : {l l′ : List ℕ} {x : Asked} → l ≡ l′ → Lined l′ x → Lined l x
+moved {x = x} e y = subst (λ (k : List ℕ). Lined k x) (sym e) y
+
+single :
+    (t : List ℕ) (a : ℕ → machine.Call) {l ns : List ℕ} {x : Asked} → ((d : List ℕ) (n : ℕ) → Number d n → Line (t ++ d) (a n)) →
+    Fits (letters t (number ∷ [])) (within t (number ∷ []) (λ n. calls (a n))) l ns x → Lined l x
+single t a f y =
+    let z = text-rest t (number ∷ []) (λ n. calls (a n)) y in
+    let w = last (λ n. calls (a n)) (z .fits) in
+    moved (z .is) (record { call = a (w .n); is = w .is; line = f (z .rest) (w .n) (w .number) })
+
+ended : (t : List ℕ) (c : machine.Call) {l ns : List ℕ} {x : Asked} → Line t c → Fits [] (calls c) l ns x → Lined (t ++ l) x
+ended t c k fits-end = record { call = c; is = refl; line = subst (λ (l : List ℕ). Line l c) (sym (append-nil t)) k }
+
+bare : (t : List ℕ) (c : machine.Call) {l ns : List ℕ} {x : Asked} → Line t c → Fits (letters t []) (within t [] (calls c)) l ns x → Lined l x
+bare t c k y = let z = text-rest t [] (calls c) y in moved (z .is) (ended t c k (z .fits))
+
+with-pairs : {l ns : List ℕ} {x : Asked} → Fits (pairs ∷ []) (λ ps. calls (machine.append ps)) l ns x → Lined (text "call=append pairs=" ++ l) x
+with-pairs (fits-none fits-end) = record { call = machine.append []; is = refl; line = line-no-pairs }
+with-pairs (fits-pairs {d} {ps} r fits-end) =
+    record { call = machine.append ps; is = refl; line = line-append (subst (λ (z : List ℕ). Row z ps) (sym (append-nil d)) r) }
+
+appended : {l ns : List ℕ} {x : Asked} → Fits (letters (text "call=append pairs=") (pairs ∷ [])) (λ ps. calls (machine.append ps)) l ns x → Lined l x
+appended y = let z = text-rest (text "call=append pairs=") (pairs ∷ []) (λ ps. calls (machine.append ps)) y in moved (z .is) (with-pairs (z .fits))
+
+-- ---- work: five numbers, each behind its key
+record Key (f : List Token) (a : ℕ → Asks f) (l ns : List ℕ) (x : Asked) : Type 0 where
+  d : List ℕ
+  n : ℕ
+  rest : List ℕ
+  left : List ℕ
+  is : l ≡ d ++ rest
+  number : Number d n
+  fits : Fits f (a n) rest left x
+
+key : (f : List Token) (a : ℕ → Asks f) {l ns : List ℕ} {x : Asked} → Fits (number ∷ f) a l ns x → Key f a l ns x
+key f a (fits-number {d} {n} {l = l} {ns = ns} k y) = record { d = d; n = n; rest = l; left = ns; is = refl; number = k; fits = y }
+
+abbrev W5 : List Token
+W5 = number ∷ []
+
+abbrev W4 : List Token
+W4 = letters (text " cut=") W5
+
+abbrev W3 : List Token
+W3 = letters (text " outcome=") (number ∷ W4)
+
+abbrev W2 : List Token
+W2 = letters (text " number=") (number ∷ W3)
+
+abbrev W1 : List Token
+W1 = letters (text " job=") (number ∷ W2)
+
+abbrev asks-work : ℕ → ℕ → ℕ → ℕ → ℕ → Asked
+asks-work n j i o c = calls (machine.work n j i o c)
+
+worked : {l ns : List ℕ} {x : Asked} → Fits (letters (text "call=work node=") (number ∷ W1)) asks-work l ns x → Lined l x
+worked {x = x} y =
+    let z1 = text-rest (text "call=work node=") (number ∷ W1) asks-work y in
+    let k1 = key W1 asks-work (z1 .fits) in
+    let z2 = text-rest (text " job=") (number ∷ W2) (asks-work (k1 .n)) (k1 .fits) in
+    let k2 = key W2 (asks-work (k1 .n)) (z2 .fits) in
+    let z3 = text-rest (text " number=") (number ∷ W3) (asks-work (k1 .n) (k2 .n)) (k2 .fits) in
+    let k3 = key W3 (asks-work (k1 .n) (k2 .n)) (z3 .fits) in
+    let z4 = text-rest (text " outcome=") (number ∷ W4) (asks-work (k1 .n) (k2 .n) (k3 .n)) (k3 .fits) in
+    let k4 = key W4 (asks-work (k1 .n) (k2 .n) (k3 .n)) (z4 .fits) in
+    let z5 = text-rest (text " cut=") W5 (asks-work (k1 .n) (k2 .n) (k3 .n) (k4 .n)) (k4 .fits) in
+    let k5 = last (asks-work (k1 .n) (k2 .n) (k3 .n) (k4 .n)) (z5 .fits) in
+    moved
+    (z1 .is ∙ ap (λ (r : List ℕ). text "call=work node=" ++ r) (k1 .is ∙ ap (λ (r : List ℕ). k1 .d ++ r)
+    (z2 .is ∙ ap (λ (r : List ℕ). text " job=" ++ r) (k2 .is ∙ ap (λ (r : List ℕ). k2 .d ++ r)
+    (z3 .is ∙ ap (λ (r : List ℕ). text " number=" ++ r) (k3 .is ∙ ap (λ (r : List ℕ). k3 .d ++ r)
+    (z4 .is ∙ ap (λ (r : List ℕ). text " outcome=" ++ r) (k4 .is ∙ ap (λ (r : List ℕ). k4 .d ++ r) (z5 .is))))))))
+    ∙ regroup (k1 .d) (k2 .d) (k3 .d) (k4 .d) (z5 .rest))
+    (record {
+      call = machine.work (k1 .n) (k2 .n) (k3 .n) (k4 .n) (k5 .n);
+      is = k5 .is;
+      line = line-work (k1 .number) (k2 .number) (k3 .number) (k4 .number) (k5 .number);
+    })
+  where
+    regroup :
+        (a b d e f : List ℕ) →
+        text "call=work node=" ++ (a ++ (text " job=" ++ (b ++ (text " number=" ++ (d ++ (text " outcome=" ++ (e ++ (text " cut=" ++ f))))))))
+        ≡ text "call=work node=" ++ a ++ text " job=" ++ b ++ text " number=" ++ d ++ text " outcome=" ++ e ++ text " cut=" ++ f
+    regroup a b d e f = simp append-assoc
+
+-- ---- the first nine rows
+LinesOf : Form → Type 0
+LinesOf f = (l ns : List ℕ) (x : Asked) → Fits (f .form) (f .asks) l ns x → Lined l x
+
+abbrev Each : List Form → Type 0
+Each [] = T true
+Each (f ∷ fs) = LinesOf f × Each fs
+
+nine : Each (take 9 forms)
+unfolding LinesOf
+nine = (
+  (λ l ns x y. appended y),
+  (
+    (λ l ns x y. single (text "call=connect node=") machine.connect (λ d n k. line-connect k) y),
+    (
+      (λ l ns x y. single (text "call=disconnect node=") machine.disconnect (λ d n k. line-disconnect k) y),
+      (
+        (λ l ns x y. single (text "call=master node=") machine.master (λ d n k. line-master k) y),
+        (
+          (λ l ns x y. single (text "call=rollback number=") machine.rollback (λ d n k. line-rollback k) y),
+          (
+            (λ l ns x y. bare (text "call=start") machine.start line-start y),
+            (
+              (λ l ns x y. bare (text "call=stop") machine.stop line-stop y),
+              (
+                (λ l ns x y. single (text "call=sync node=") machine.sync (λ d n k. line-sync k) y),
+                (
+                  (λ l ns x y. worked y),
+                  tt,
+                ),
+              ),
+            ),
+          ),
+        ),
+      ),
+    ),
+  ),
+)
+
+each-among : (f : Form) (fs : List Form) → Each fs → Among f fs → LinesOf f
+each-among f (g ∷ fs) e here = e .0
+each-among f (g ∷ fs) e (there a) = each-among f fs (e .1) a
+
+pub says-line : (f : Form) {l ns : List ℕ} {x : Asked} → Among f (take 9 forms) → Fits (f .form) (f .asks) l ns x → Lined l x
+unfolding LinesOf
+says-line f {l} {ns} {x} a y = each-among f (take 9 forms) nine a l ns x y

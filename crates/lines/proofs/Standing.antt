@@ -1,0 +1,178 @@
+-- Where the rows of the table stand, and that every place behind a newline is the start of one. Assumes nothing.
+use Prim.Native.Nat.{ℕ, zero, suc, _+_, _-_, _≤_, _<_}
+use mathlib.Core.Path.{_≡_, refl, ap, sym, subst, _∙_}
+use mathlib.Core.Logic.{_⊎_, inl, inr}
+use mathlib.Core.List.{List, [], _∷_, _++_}
+use mathlib.Core.Bool.{Bool, true, false, not, _&&_}
+use native.Mathlib.Omega.{arith}
+use native.Mathlib.Nat.{add-zero}
+use native.Mathlib.Numerals.{add-one}
+use borrow.Author.Tests.{eq-eqb, eqb-true, eqb-false, ltb-true, ltb-false}
+use lib.Dec.{eqb, ltb}
+use lib.ListN.{length, getD}
+use Rattle.lines.specs.Forms.{Token, letter, number, pairs, byteOf, bytes, rows, Form, forms}
+use Rattle.lines.specs.Grammar.{isWord, Among, here, there}
+use Rattle.lines.specs.Reading.{letterAt, like, isTag}
+use Rattle.lines.proofs.Classes.{differ, and-left, and-right}
+use Rattle.lines.proofs.Places.{Prior, like-prior, like-newline}
+use Rattle.lines.proofs.Table.{first-newline}
+
+-- the form f and its tag t stand at q
+unfoldable pub Stands : List Token → ℕ → ℕ → Type 0
+Stands [] t q = letterAt q ≡ t
+Stands (k ∷ f) t q = (letterAt q ≡ byteOf k) × Stands f t (q + 1)
+
+-- ---- each row's letters are letters, and its tag is a tag
+abbrev wordy : Token → Bool
+wordy (letter c) = isWord c
+wordy number = true
+wordy pairs = true
+
+unfoldable pub sound-text : List Token → Bool
+sound-text [] = true
+sound-text (k ∷ f) = wordy k && sound-text f
+
+abbrev sound-row : Form → Bool
+sound-row f = isTag (f .tag) && sound-text (f .form)
+
+sound-rows : List Form → Bool
+sound-rows [] = true
+sound-rows (f ∷ fs) = sound-row f && sound-rows fs
+
+all-sound : sound-rows forms ≡ true
+unfolding sound-rows sound-text
+all-sound = refl
+
+sound-among : (f : Form) (fs : List Form) → sound-rows fs ≡ true → Among f fs → sound-row f ≡ true
+unfolding sound-rows
+sound-among f (g ∷ fs) h here = and-left (sound-row f) (sound-rows fs) h
+sound-among f (g ∷ fs) h (there a) = sound-among f fs (and-right (sound-row g) (sound-rows fs) h) a
+
+pub tag-is : (f : Form) → Among f forms → isTag (f .tag) ≡ true
+tag-is f a = and-left (isTag (f .tag)) (sound-text (f .form)) (sound-among f forms all-sound a)
+
+pub text-is : (f : Form) → Among f forms → sound-text (f .form) ≡ true
+text-is f a = and-right (isTag (f .tag)) (sound-text (f .form)) (sound-among f forms all-sound a)
+
+-- ---- the table from o on
+abbrev From : ℕ → List ℕ → Type 0
+From o l = (j : ℕ) → letterAt (o + j) ≡ getD l j 0
+
+from-head : (o c : ℕ) (l : List ℕ) → From o (c ∷ l) → letterAt o ≡ c
+from-head o c l h = ap letterAt (sym (add-zero o)) ∙ h 0
+
+from-tail : (o c : ℕ) (l : List ℕ) → From o (c ∷ l) → From (o + 1) l
+from-tail o c l h j = let e : o + 1 + j ≡ o + suc j = omega arith in ap letterAt e ∙ h (suc j)
+
+stands-from : (f : List Token) (t o : ℕ) (l : List ℕ) → From o (bytes f ++ (t ∷ l)) → Stands f t o
+unfolding Stands
+stands-from [] t o l h = from-head o t l h
+stands-from (k ∷ f) t o l h = (from-head o (byteOf k) (bytes f ++ (t ∷ l)) h, stands-from f t (o + 1) l (from-tail o (byteOf k) (bytes f ++ (t ∷ l)) h))
+
+behind-from : (f : List Token) (t o : ℕ) (l : List ℕ) → From o (bytes f ++ (t ∷ l)) → From (o + length f + 1) l
+behind-from [] t o l h = subst (λ (x : ℕ). From x l) (omega arith) (from-tail o t l h)
+behind-from (k ∷ f) t o l h = subst (λ (x : ℕ). From x l) (omega arith) (behind-from f t (o + 1) l (from-tail o (byteOf k) (bytes f ++ (t ∷ l)) h))
+
+-- behind a newline
+pub record Start (q : ℕ) : Type 0 where
+  pub place : ℕ
+  pub is : q ≡ place + 1
+  pub newline : letterAt place ≡ 10
+
+pub record Row-at (f : Form) : Type 0 where
+  pub place : ℕ
+  pub start : Start place
+  pub stands : Stands (f .form) (f .tag) place
+
+row-at : (f : Form) (fs : List Form) → Among f fs → (o : ℕ) → Start o → From o (rows fs) → Row-at f
+row-at f (g ∷ fs) here o s h = record { place = o; start = s; stands = stands-from (f .form) (f .tag) o (10 ∷ rows fs) h }
+row-at f (g ∷ fs) (there a) o s h =
+    let x = behind-from (g .form) (g .tag) o (10 ∷ rows fs) h in
+    row-at f fs a (o + length (g .form) + 1 + 1)
+    (record { place = o + length (g .form) + 1; is = refl; newline = from-head (o + length (g .form) + 1) 10 (rows fs) x })
+    (from-tail (o + length (g .form) + 1) 10 (rows fs) x)
+
+table-from : From 1 (rows forms)
+unfolding letterAt
+table-from j = ap letterAt (one-add j)
+  where
+    one-add : (j : ℕ) → 1 + j ≡ suc j
+    one-add j = omega arith
+
+start-one : Start 1
+start-one = record { place = 0; is = refl; newline = first-newline }
+
+pub row-of : (f : Form) → Among f forms → Row-at f
+row-of f a = row-at f forms a 1 start-one table-from
+
+-- ---- and back
+no-newline : (k : Token) → wordy k ≡ true → byteOf k ≡ 10 → ⊥
+no-newline (letter c) h e = differ (sym h ∙ ap isWord e)
+no-newline number h e = omega arith
+no-newline pairs h e = omega arith
+
+not-here : (o q : ℕ) → o ≤ q → (o ≡ q → ⊥) → o + 1 ≤ q
+not-here o q h n = by (ltb o q) refl
+  where
+    by : (t : Bool) → ltb o q ≡ t → o + 1 ≤ q
+    by true e = omega (arith, ltb-true o q e)
+    by false e = absurd (n (omega (arith, ltb-false o q e)))
+
+past-row :
+    (f : List Token) (t o : ℕ) (l : List ℕ) → From o (bytes f ++ (t ∷ l)) → sound-text f ≡ true → isTag t ≡ true → (q : ℕ) → o ≤ q → letterAt q ≡ 10 →
+    o + length f + 1 ≤ q
+unfolding sound-text
+past-row [] t o l h s g q i e =
+    let n : o ≡ q → ⊥ = λ j. differ (sym g ∙ ap isTag (sym (from-head o t l h) ∙ ap letterAt j ∙ e)) in
+    omega (arith, not-here o q i n)
+past-row (k ∷ f) t o l h s g q i e =
+    let n : o ≡ q → ⊥ = λ j. no-newline k (and-left (wordy k) (sound-text f) s) (sym (from-head o (byteOf k) (bytes f ++ (t ∷ l)) h) ∙ ap letterAt j ∙ e) in
+    omega (arith, past-row f t (o + 1) l (from-tail o (byteOf k) (bytes f ++ (t ∷ l)) h) (and-right (wordy k) (sound-text f) s) g q (not-here o q i n) e)
+
+pub record Row-there (q : ℕ) (fs : List Form) : Type 0 where
+  pub of : Form
+  pub among : Among of fs
+  pub stands : Stands (of .form) (of .tag) q
+
+nowhere : (o q : ℕ) → From o [] → o ≤ q → 1 ≤ letterAt q → ⊥
+nowhere o q h g s = let e : letterAt q ≡ 0 = ap letterAt (split o q g) ∙ h (q - o) in omega arith
+  where
+    split : (o q : ℕ) → o ≤ q → q ≡ o + (q - o)
+    split o q g = omega arith
+
+row-there : (fs : List Form) → sound-rows fs ≡ true → (o q : ℕ) → From o (rows fs) → o ≤ q → 1 ≤ letterAt q → (o ≡ q) ⊎ Start q → Row-there q fs
+unfolding sound-rows
+row-there [] s o q h g k x = absurd (nowhere o q h g k)
+row-there (f ∷ fs) s o q h g k (inl e) =
+    record { of = f; among = here; stands = subst (Stands (f .form) (f .tag)) e (stands-from (f .form) (f .tag) o (10 ∷ rows fs) h) }
+row-there (f ∷ fs) s o q h g k (inr x) = by (eqb o q) refl (λ y z. row-there fs (and-right (sound-row f) (sound-rows fs) s) (o + length (f .form) + 1 + 1) q (from-tail (o + length (f .form) + 1) 10 (rows fs) later) y k z)
+  where
+    later : From (o + length (f .form) + 1) (10 ∷ rows fs)
+    later = behind-from (f .form) (f .tag) o (10 ∷ rows fs) h
+
+    good : sound-row f ≡ true
+    good = and-left (sound-row f) (sound-rows fs) s
+
+    over : Row-there q fs → Row-there q (f ∷ fs)
+    over r = record { of = r .of; among = there (r .among); stands = r .stands }
+
+    by :
+        (t : Bool) → eqb o q ≡ t → (o + length (f .form) + 1 + 1 ≤ q → (o + length (f .form) + 1 + 1 ≡ q) ⊎ Start q → Row-there q fs) →
+        Row-there q (f ∷ fs)
+    by true e r = record { of = f; among = here; stands = subst (Stands (f .form) (f .tag)) (eqb-true o q e) (stands-from (f .form) (f .tag) o (10 ∷ rows fs) h) }
+    by false e r =
+        let i = not-here o q g (eqb-false o q e) in
+        let j = past-row (f .form) (f .tag) o (10 ∷ rows fs) h (and-right (isTag (f .tag)) (sound-text (f .form)) good) (and-left (isTag (f .tag)) (sound-text (f .form)) good) (x .place) (omega (arith, x .is)) (x .newline) in
+        over (r (omega (arith, x .is)) (inr x))
+
+-- a place like the first
+pub start-of : (q : ℕ) → like 1 q ≡ true → Start q
+start-of q h =
+    let x = like-prior 0 q h in
+    record { place = x .place; is = x .is; newline = x .letter ∙ first-newline }
+
+pub like-start-of : (q : ℕ) → Start q → like 1 q ≡ true
+like-start-of q s = rw (s .is) (like-newline 0 (s .place) first-newline (s .newline))
+
+pub row-from : (q : ℕ) → like 1 q ≡ true → 1 ≤ q → 1 ≤ letterAt q → Row-there q forms
+row-from q h g k = row-there forms all-sound 1 q table-from g k (inr (start-of q h))

@@ -1,0 +1,13 @@
+-- `begins` meets its contract. Assumes nothing.
+use borrow.Author.Tests.{eq-eqb, ne-eqb}
+use Rattle.lines.proofs.reading.begins.Statement.{statement}
+use Rattle.lines.proofs.reading.begins.Tie as tie
+
+returns : tie.Need-returns
+returns c = simp (eq-eqb _ _ (c .if1 .taken))
+
+returns-2 : tie.Need-returns-2
+returns-2 c = simp (ne-eqb _ _ (c .if1 .left))
+
+pub begins-spec : {M : Type 1} → statement M
+begins-spec = tie.close (tie.spec returns returns-2)
