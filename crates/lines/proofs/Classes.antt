@@ -21,6 +21,14 @@ pub and-right : (a b : Bool) → a && b ≡ true → b ≡ true
 and-right true b h = h
 and-right false b h = differ (sym h)
 
+pub and-one : (a : Bool) → a && true ≡ a
+and-one true = refl
+and-one false = refl
+
+pub and-none : (a : Bool) → a && false ≡ false
+and-none true = refl
+and-none false = refl
+
 pub and-both : (a b : Bool) → a ≡ true → b ≡ true → a && b ≡ true
 and-both a b h g = rw (h, g)
 

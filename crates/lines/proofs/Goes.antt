@@ -10,10 +10,10 @@ use lib.Dec.{eqb, leb, ltb, eqb·suc-zero}
 use Rattle.lines.specs.declared.reading.Reader.{Reader}
 use Rattle.lines.specs.Decimal.{isDigit}
 use Rattle.lines.specs.Grammar.{isWord, tenfold}
-use Rattle.lines.specs.Reading.{size, letterAt, isMark, isTag, like, takes, goes, seek, seekIn, inside, begins, parts, mayEnd, past, pushed, withDigit, withText, grownIf, kept, stored, storedIf, placed, parted, spelt, tagOf, tagBefore}
+use Rattle.lines.specs.Reading.{size, letterAt, isMark, isTag, like, takes, goes, left, seek, seekIn, inside, begins, parts, mayEnd, past, pushed, withDigit, withText, grownIf, kept, stored, storedIf, placed, parted, spelt, tagOf, tagBefore}
 use Rattle.lines.proofs.Classes.{differ, and-left, and-right, and-both, word-no-digit, mark-no-word, mark-no-tag, tag-some, word-some, mark-some, word-other, begins-inside, Parted, parted-by, word-parts}
 use Rattle.lines.proofs.Places.{within, zero-like, like-next, Prior, like-prior, like-trans, like-sym, Found, Missing, sought}
-use Rattle.lines.proofs.Table.{lone-mark, lone-tag, no-mark-behind, first-newline}
+use Rattle.lines.proofs.Table.{same-column, lone-mark, lone-tag, no-mark-behind, first-newline}
 
 -- the number that ends where s has come and v is being read
 abbrev pub held : ℕ → ℕ → List ℕ
@@ -95,7 +95,7 @@ taken : (p b q : ℕ) → isWord b ≡ true → goes p b q ≡ true → letterAt
 taken p b q w h = eqb-true (letterAt q) b (rw (word-newline b w) at (and-right (like p q) (takes (letterAt q) b) h))
 
 pub spell-on : (p q v b t : ℕ) (l ns : List ℕ) → p ≤ q → like p q ≡ true → isWord b ≡ true → letterAt q ≡ b → Goes (q + 1) 0 v l ns t → Acc (seek p b) 0 v l ns t
-spell-on p q v b t l ns h e w i g = by (sought (size - p) p b p)
+spell-on p q v b t l ns h e w i g = by (sought (left p) p b p)
   where
     take : goes p b q ≡ true
     take = and-both (like p q) (takes (letterAt q) b) e (rw (word-newline b w) (eq-eqb (letterAt q) b i))
@@ -103,18 +103,18 @@ spell-on p q v b t l ns h e w i g = by (sought (size - p) p b p)
     in-table : q < size
     in-table = within q (subst (λ (c : ℕ). 1 ≤ c) (sym i) (word-some b w))
 
-    by : Missing p b p (size - p) (seek p b) ⊎ Found p b p (seek p b) → Acc (seek p b) 0 v l ns t
-    by (inl x) = absurd (x .never q h (omega (arith, in-table)) take)
+    by : Missing p b p (left p) (seek p b) ⊎ Found p b p (seek p b) → Acc (seek p b) 0 v l ns t
+    by (inl x) = absurd (x .never q (same-column p q e) h (omega (arith, in-table)) take)
     by (inr x) =
-        let f = x .first q h take in
+        let f = x .first q (same-column p q e) h take in
         let s : like (x .place) q ≡ true = like-trans (x .place) p q (like-sym p (x .place) (and-left (like p (x .place)) (takes (letterAt (x .place)) b) (x .takes))) e in
         subst (λ (k : ℕ). Acc k 0 v l ns t) (sym (x .is))
         (record { place = q + 1; above = omega arith; same = like-next (x .place) q s (taken p b (x .place) w (x .takes) ∙ sym i); then = g })
 
 pub spell-back : (p v b t : ℕ) (l ns : List ℕ) → isWord b ≡ true → Acc (seek p b) 0 v l ns t → Acc p 0 v (b ∷ l) ns t
-spell-back p v b t l ns w a = by (sought (size - p) p b p)
+spell-back p v b t l ns w a = by (sought (left p) p b p)
   where
-    by : Missing p b p (size - p) (seek p b) ⊎ Found p b p (seek p b) → Acc p 0 v (b ∷ l) ns t
+    by : Missing p b p (left p) (seek p b) ⊎ Found p b p (seek p b) → Acc p 0 v (b ∷ l) ns t
     by (inl x) = none (subst (λ (k : ℕ). Acc k 0 v l ns t) (x .is) a)
     by (inr x) =
         let c : Acc (x .place + 1) 0 v l ns t = subst (λ (k : ℕ). Acc k 0 v l ns t) (x .is) a in

@@ -1,5 +1,5 @@
 -- Places of the table: which are like which, and what is found from one. Assumes nothing.
-use Prim.Native.Nat.{ℕ, zero, suc, _+_, _-_, _≤_, _<_}
+use Prim.Native.Nat.{ℕ, zero, suc, _+_, _-_, _*_, _/_, _%_, _≤_, _<_}
 use mathlib.Core.Path.{_≡_, refl, ap, sym, subst, _∙_}
 use mathlib.Core.Logic.{_⊎_, inl, inr}
 use mathlib.Core.Bool.{Bool, true, false, cond, _&&_, _||_}
@@ -9,17 +9,18 @@ use borrow.Author.Tests.{eqb-true, le-leb, ne-eqb, eq-eqb, ltb-true, ltb-false}
 use lib.Dec.{eqb, leb, ltb}
 use lib.ListN.{length, List·getD-eq-default}
 use Rattle.lines.specs.Forms.{table}
-use Rattle.lines.specs.Reading.{size, letterAt, like, goes, seekIn, seek, isMark}
+use Rattle.lines.specs.Reading.{size, letterAt, like, goes, seekIn, left, seek, isMark}
 use Rattle.lines.proofs.Classes.{differ, and-left, and-right, or-split, mark-some}
 
 or-true : (a : Bool) → a || true ≡ true
 or-true true = refl
 or-true false = refl
 
-beyond : (q r : ℕ) → q ≤ r → (q ≡ r → ⊥) → q + 1 ≤ r
-beyond q r h n = by (ltb q r) refl
+-- a later place of the column
+beyond : (q r : ℕ) → r % 64 ≡ q % 64 → q ≤ r → (q ≡ r → ⊥) → q + 64 ≤ r
+beyond q r c h n = by (ltb q r) refl
   where
-    by : (t : Bool) → ltb q r ≡ t → q + 1 ≤ r
+    by : (t : Bool) → ltb q r ≡ t → q + 64 ≤ r
     by true e = omega (arith, ltb-true q r e)
     by false e = absurd (n (omega (arith, ltb-false q r e)))
 
@@ -41,17 +42,26 @@ zero-like q = refl
 
 -- ---- what is found
 module _ (p b q : ℕ) where
-  pub seek-here : q < size → goes p b q ≡ true → seekIn (size - q) p b q ≡ q + 1
-  unfolding seekIn
-  seek-here h g = let e : size - q ≡ suc (size - (q + 1)) = omega arith in rw (e, g)
+  one-row : q < size → left q ≡ suc (left (q + 64))
+  one-row h = omega arith
 
-  pub seek-on : q < size → goes p b q ≡ false → seekIn (size - q) p b q ≡ seekIn (size - (q + 1)) p b (q + 1)
+  pub seek-here : q < size → goes p b q ≡ true → seekIn (left q) p b q ≡ q + 1
   unfolding seekIn
-  seek-on h g = let e : size - q ≡ suc (size - (q + 1)) = omega arith in ap (λ (n : ℕ). seekIn n p b q) e ∙ rw g
+  seek-here h g = ap (λ (n : ℕ). seekIn n p b q) (one-row h) ∙ rw g
 
-  pub seek-end : size ≤ q → seekIn (size - q) p b q ≡ 0
+  pub seek-on : q < size → goes p b q ≡ false → seekIn (left q) p b q ≡ seekIn (left (q + 64)) p b (q + 64)
   unfolding seekIn
-  seek-end h = let e : size - q ≡ 0 = omega arith in rw e
+  seek-on h g = ap (λ (n : ℕ). seekIn n p b q) (one-row h) ∙ rw g
+
+  pub seek-end : size ≤ q → seekIn (left q) p b q ≡ 0
+  unfolding seekIn
+  seek-end h = let e : left q ≡ 0 = omega arith in ap (λ (n : ℕ). seekIn n p b q) e
+
+-- nothing is like the place 0
+pub seek-nowhere : (n b q : ℕ) → seekIn n 0 b q ≡ 0
+unfolding seekIn
+seek-nowhere zero b q = refl
+seek-nowhere (suc n) b q = rw (zero-like q) (seek-nowhere n b (q + 64))
 
 -- ---- a letter stands within the table
 pub within : (p : ℕ) → 1 ≤ letterAt p → p < size
@@ -79,11 +89,11 @@ mark-within p h = within p (mark-some (letterAt p) h)
 
 -- ---- one letter on
 -- what two like places have before them
-record Before (p q : ℕ) : Type 0 where
-  letter : letterAt p ≡ letterAt q
-  more : (letterAt p ≡ 10) ⊎ (like p q ≡ true)
+pub record Before (p q : ℕ) : Type 0 where
+  pub letter : letterAt p ≡ letterAt q
+  pub more : (letterAt p ≡ 10) ⊎ (like p q ≡ true)
 
-before : (p q : ℕ) → like (suc p) (suc q) ≡ true → Before p q
+pub before : (p q : ℕ) → like (suc p) (suc q) ≡ true → Before p q
 unfolding like
 before p q h =
     record {
@@ -153,34 +163,40 @@ like-sym (suc p) (suc q) h =
     by e f (inl i) = inl (sym e ∙ i)
     by e f (inr i) = inr (f i)
 
--- ---- the first that takes a byte
+-- ---- the first of a column that takes a byte
 pub record Found (p b q e : ℕ) : Type 0 where
   pub place : ℕ
   pub is : e ≡ place + 1
   pub above : q ≤ place
   pub takes : goes p b place ≡ true
-  pub first : (r : ℕ) → q ≤ r → goes p b r ≡ true → place ≤ r
+  pub first : (r : ℕ) → r % 64 ≡ q % 64 → q ≤ r → goes p b r ≡ true → place ≤ r
 
 pub record Missing (p b q n e : ℕ) : Type 0 where
   pub is : e ≡ 0
-  pub never : (r : ℕ) → q ≤ r → r < q + n → goes p b r ≡ true → ⊥
+  pub never : (r : ℕ) → r % 64 ≡ q % 64 → q ≤ r → r < q + 64 * n → goes p b r ≡ true → ⊥
 
 pub sought : (n p b q : ℕ) → Missing p b q n (seekIn n p b q) ⊎ Found p b q (seekIn n p b q)
 unfolding seekIn
-sought zero p b q = inl (record { is = refl; never = λ r h g e. omega arith })
-sought (suc n) p b q = by (goes p b q) refl (sought n p b (q + 1))
+sought zero p b q = inl (record { is = refl; never = λ r c h g e. omega arith })
+sought (suc n) p b q = by (goes p b q) refl (sought n p b (q + 64))
   where
+    down : (r : ℕ) → r % 64 ≡ q % 64 → r % 64 ≡ (q + 64) % 64
+    down r c = omega arith
+
     by :
-        (t : Bool) → goes p b q ≡ t → Missing p b (q + 1) n (seekIn n p b (q + 1)) ⊎ Found p b (q + 1) (seekIn n p b (q + 1)) →
-        Missing p b q (suc n) (cond t (q + 1) (seekIn n p b (q + 1))) ⊎ Found p b q (cond t (q + 1) (seekIn n p b (q + 1)))
-    by true e x = inr (record { place = q; is = refl; above = omega arith; takes = e; first = λ r h g. h })
+        (t : Bool) → goes p b q ≡ t → Missing p b (q + 64) n (seekIn n p b (q + 64)) ⊎ Found p b (q + 64) (seekIn n p b (q + 64)) →
+        Missing p b q (suc n) (cond t (q + 1) (seekIn n p b (q + 64))) ⊎ Found p b q (cond t (q + 1) (seekIn n p b (q + 64)))
+    by true e x = inr (record { place = q; is = refl; above = omega arith; takes = e; first = λ r c h g. h })
     by false e (inl x) =
-        inl (record { is = x .is; never = λ r h g i. x .never r (beyond q r h (λ (j : q ≡ r). differ (sym i ∙ ap (goes p b) (sym j) ∙ e))) (omega arith) i })
+        inl (record {
+          is = x .is;
+          never = λ r c h g i. x .never r (down r c) (beyond q r c h (λ (j : q ≡ r). differ (sym i ∙ ap (goes p b) (sym j) ∙ e))) (omega arith) i;
+        })
     by false e (inr x) =
         inr (record {
           place = x .place;
           is = x .is;
           above = omega (arith, x .above);
           takes = x .takes;
-          first = λ r h g. x .first r (beyond q r h (λ (j : q ≡ r). differ (sym g ∙ ap (goes p b) (sym j) ∙ e))) g;
+          first = λ r c h g. x .first r (down r c) (beyond q r c h (λ (j : q ≡ r). differ (sym g ∙ ap (goes p b) (sym j) ∙ e))) g;
         })

@@ -11,15 +11,15 @@ use lib.ListN.{length, length-append}
 use Rattle.lines.specs.declared.reading.Reader.{Reader}
 use Rattle.lines.specs.Decimal.{isDigit}
 use Rattle.lines.specs.Grammar.{tenfold}
-use Rattle.lines.specs.Reading.{size, letterAt, isMark, isTag, like, takes, goes, seek, inside, begins, parts, mayEnd, past, pushed, withDigit, withText, grownIf, kept, stored, storedIf, begun, placed, parted, spelt, tagOf, tagBefore, ten}
+use Rattle.lines.specs.Reading.{size, letterAt, isMark, isTag, like, takes, goes, left, seek, inside, begins, parts, mayEnd, past, pushed, withDigit, withText, grownIf, kept, stored, storedIf, begun, placed, parted, spelt, tagOf, tagBefore, ten}
 use Rattle.lines.proofs.Classes.{differ, and-left, and-right, and-both, mark-no-tag, tag-some, Parted, parted-by}
 use Rattle.lines.proofs.Places.{within, like-next, like-trans, like-sym, Found, Missing, sought}
-use Rattle.lines.proofs.Table.{lone-mark, lone-tag, no-mark-behind}
+use Rattle.lines.proofs.Table.{same-column, lone-mark, lone-tag, no-mark-behind}
 use Rattle.lines.proofs.Goes.{held, Goes, done, leave, begin, grow, part, spell, Acc, AccR, mark-there, leave-back, st, adds, On, push-on, push-back}
 
 -- ---- the line's end
 end-at : (p q t : ℕ) → p ≤ q → like p q ≡ true → isTag t ≡ true → letterAt q ≡ t → tagBefore (seek p 10) ≡ t
-end-at p q t h e g i = by (sought (size - p) p 10 p)
+end-at p q t h e g i = by (sought (left p) p 10 p)
   where
     in-table : q < size
     in-table = within q (subst (λ (c : ℕ). 1 ≤ c) (sym i) (tag-some t g))
@@ -27,8 +27,8 @@ end-at p q t h e g i = by (sought (size - p) p 10 p)
     take : goes p 10 q ≡ true
     take = and-both (like p q) (isTag (letterAt q)) e (ap isTag i ∙ g)
 
-    by : Missing p 10 p (size - p) (seek p 10) ⊎ Found p 10 p (seek p 10) → tagBefore (seek p 10) ≡ t
-    by (inl x) = absurd (x .never q h (omega (arith, in-table)) take)
+    by : Missing p 10 p (left p) (seek p 10) ⊎ Found p 10 p (seek p 10) → tagBefore (seek p 10) ≡ t
+    by (inl x) = absurd (x .never q (same-column p q e) h (omega (arith, in-table)) take)
     by (inr x) =
         let l = and-left (like p (x .place)) (isTag (letterAt (x .place))) (x .takes) in
         let g′ = and-right (like p (x .place)) (isTag (letterAt (x .place))) (x .takes) in
@@ -81,12 +81,12 @@ end-on p s v k m ns t a = by (a .place) (a .above) (a .same) (a .then)
         inner q h e l o n′ u (leave n″ c f i g) = behind q n″ h e c f (sym u ∙ i) l o g
 
 pub end-back : (p s v k : ℕ) (m : List ℕ) → (tagOf (st p s v k m) ≡ 0 → ⊥) → Acc p s v [] (held s v) (tagOf (st p s v k m)) × (isTag (tagOf (st p s v k m)) ≡ true)
-end-back p s v k m n = by (sought (size - p′) p′ 10 p′)
+end-back p s v k m n = by (sought (left p′) p′ 10 p′)
   where
     p′ : ℕ
     p′ = past (letterAt p) s p
 
-    by : Missing p′ 10 p′ (size - p′) (seek p′ 10) ⊎ Found p′ 10 p′ (seek p′ 10) → Acc p s v [] (held s v) (tagBefore (seek p′ 10)) × (isTag (tagBefore (seek p′ 10)) ≡ true)
+    by : Missing p′ 10 p′ (left p′) (seek p′ 10) ⊎ Found p′ 10 p′ (seek p′ 10) → Acc p s v [] (held s v) (tagBefore (seek p′ 10)) × (isTag (tagBefore (seek p′ 10)) ≡ true)
     by (inl x) = absurd (n (ap tagBefore (x .is)))
     by (inr x) =
         let l = and-left (like p′ (x .place)) (isTag (letterAt (x .place))) (x .takes) in

@@ -9,8 +9,8 @@ use native.Mathlib.Nat.{add-zero}
 use native.Mathlib.Numerals.{add-one}
 use borrow.Author.Tests.{eq-eqb, eqb-true, eqb-false, ltb-true, ltb-false}
 use lib.Dec.{eqb, ltb}
-use lib.ListN.{length, getD}
-use Rattle.lines.specs.Forms.{Token, letter, number, pairs, byteOf, bytes, rows, Form, forms}
+use lib.ListN.{length, getD, replicate}
+use Rattle.lines.specs.Forms.{Token, letter, number, pairs, byteOf, bytes, gap, rows, Form, forms}
 use Rattle.lines.specs.Grammar.{isWord, Among, here, there}
 use Rattle.lines.specs.Reading.{letterAt, like, isTag}
 use Rattle.lines.proofs.Classes.{differ, and-left, and-right}
@@ -73,6 +73,21 @@ behind-from : (f : List Token) (t o : ℕ) (l : List ℕ) → From o (bytes f ++
 behind-from [] t o l h = subst (λ (x : ℕ). From x l) (omega arith) (from-tail o t l h)
 behind-from (k ∷ f) t o l h = subst (λ (x : ℕ). From x l) (omega arith) (behind-from f t (o + 1) l (from-tail o (byteOf k) (bytes f ++ (t ∷ l)) h))
 
+over-dots : (n o : ℕ) (l : List ℕ) → From o (replicate n 46 ++ l) → From (o + n) l
+over-dots zero o l h = subst (λ (x : ℕ). From x l) (omega arith) h
+over-dots (suc n) o l h = subst (λ (x : ℕ). From x l) (omega arith) (over-dots n (o + 1) l (from-tail o 46 (replicate n 46 ++ l) h))
+
+-- a row of the table, and what is left of it behind its tag
+abbrev tail : Form → List Form → List ℕ
+tail f fs = replicate (gap (f .form)) 46 ++ (10 ∷ rows fs)
+
+-- where the newline stands behind a row from o on
+abbrev end : Form → ℕ → ℕ
+end f o = o + length (f .form) + 1 + gap (f .form)
+
+row-end : (f : Form) (fs : List Form) (o : ℕ) → From o (rows (f ∷ fs)) → From (end f o) (10 ∷ rows fs)
+row-end f fs o h = over-dots (gap (f .form)) (o + length (f .form) + 1) (10 ∷ rows fs) (behind-from (f .form) (f .tag) o (tail f fs) h)
+
 -- behind a newline
 pub record Start (q : ℕ) : Type 0 where
   pub place : ℕ
@@ -85,12 +100,10 @@ pub record Row-at (f : Form) : Type 0 where
   pub stands : Stands (f .form) (f .tag) place
 
 row-at : (f : Form) (fs : List Form) → Among f fs → (o : ℕ) → Start o → From o (rows fs) → Row-at f
-row-at f (g ∷ fs) here o s h = record { place = o; start = s; stands = stands-from (f .form) (f .tag) o (10 ∷ rows fs) h }
+row-at f (g ∷ fs) here o s h = record { place = o; start = s; stands = stands-from (f .form) (f .tag) o (tail f fs) h }
 row-at f (g ∷ fs) (there a) o s h =
-    let x = behind-from (g .form) (g .tag) o (10 ∷ rows fs) h in
-    row-at f fs a (o + length (g .form) + 1 + 1)
-    (record { place = o + length (g .form) + 1; is = refl; newline = from-head (o + length (g .form) + 1) 10 (rows fs) x })
-    (from-tail (o + length (g .form) + 1) 10 (rows fs) x)
+    let x = row-end g fs o h in
+    row-at f fs a (end g o + 1) (record { place = end g o; is = refl; newline = from-head (end g o) 10 (rows fs) x }) (from-tail (end g o) 10 (rows fs) x)
 
 table-from : From 1 (rows forms)
 unfolding letterAt
@@ -129,6 +142,12 @@ past-row (k ∷ f) t o l h s g q i e =
     let n : o ≡ q → ⊥ = λ j. no-newline k (and-left (wordy k) (sound-text f) s) (sym (from-head o (byteOf k) (bytes f ++ (t ∷ l)) h) ∙ ap letterAt j ∙ e) in
     omega (arith, past-row f t (o + 1) l (from-tail o (byteOf k) (bytes f ++ (t ∷ l)) h) (and-right (wordy k) (sound-text f) s) g q (not-here o q i n) e)
 
+past-dots : (n o : ℕ) (l : List ℕ) → From o (replicate n 46 ++ l) → (q : ℕ) → o ≤ q → letterAt q ≡ 10 → o + n ≤ q
+past-dots zero o l h q i e = omega arith
+past-dots (suc n) o l h q i e =
+    let k : o ≡ q → ⊥ = λ j. let z = sym (from-head o 46 (replicate n 46 ++ l) h) ∙ ap letterAt j ∙ e in omega arith in
+    omega (arith, past-dots n (o + 1) l (from-tail o 46 (replicate n 46 ++ l) h) q (not-here o q i k) e)
+
 pub record Row-there (q : ℕ) (fs : List Form) : Type 0 where
   pub of : Form
   pub among : Among of fs
@@ -144,25 +163,23 @@ row-there : (fs : List Form) → sound-rows fs ≡ true → (o q : ℕ) → From
 unfolding sound-rows
 row-there [] s o q h g k x = absurd (nowhere o q h g k)
 row-there (f ∷ fs) s o q h g k (inl e) =
-    record { of = f; among = here; stands = subst (Stands (f .form) (f .tag)) e (stands-from (f .form) (f .tag) o (10 ∷ rows fs) h) }
-row-there (f ∷ fs) s o q h g k (inr x) = by (eqb o q) refl (λ y z. row-there fs (and-right (sound-row f) (sound-rows fs) s) (o + length (f .form) + 1 + 1) q (from-tail (o + length (f .form) + 1) 10 (rows fs) later) y k z)
+    record { of = f; among = here; stands = subst (Stands (f .form) (f .tag)) e (stands-from (f .form) (f .tag) o (tail f fs) h) }
+row-there (f ∷ fs) s o q h g k (inr x) =
+    by (eqb o q) refl (λ y z. row-there fs (and-right (sound-row f) (sound-rows fs) s) (end f o + 1) q (from-tail (end f o) 10 (rows fs) (row-end f fs o h)) y k z)
   where
-    later : From (o + length (f .form) + 1) (10 ∷ rows fs)
-    later = behind-from (f .form) (f .tag) o (10 ∷ rows fs) h
-
     good : sound-row f ≡ true
     good = and-left (sound-row f) (sound-rows fs) s
 
     over : Row-there q fs → Row-there q (f ∷ fs)
     over r = record { of = r .of; among = there (r .among); stands = r .stands }
 
-    by :
-        (t : Bool) → eqb o q ≡ t → (o + length (f .form) + 1 + 1 ≤ q → (o + length (f .form) + 1 + 1 ≡ q) ⊎ Start q → Row-there q fs) →
-        Row-there q (f ∷ fs)
-    by true e r = record { of = f; among = here; stands = subst (Stands (f .form) (f .tag)) (eqb-true o q e) (stands-from (f .form) (f .tag) o (10 ∷ rows fs) h) }
+    by : (t : Bool) → eqb o q ≡ t → (end f o + 1 ≤ q → (end f o + 1 ≡ q) ⊎ Start q → Row-there q fs) → Row-there q (f ∷ fs)
+    by true e r =
+        record { of = f; among = here; stands = subst (Stands (f .form) (f .tag)) (eqb-true o q e) (stands-from (f .form) (f .tag) o (tail f fs) h) }
     by false e r =
         let i = not-here o q g (eqb-false o q e) in
-        let j = past-row (f .form) (f .tag) o (10 ∷ rows fs) h (and-right (isTag (f .tag)) (sound-text (f .form)) good) (and-left (isTag (f .tag)) (sound-text (f .form)) good) (x .place) (omega (arith, x .is)) (x .newline) in
+        let j = past-row (f .form) (f .tag) o (tail f fs) h (and-right (isTag (f .tag)) (sound-text (f .form)) good) (and-left (isTag (f .tag)) (sound-text (f .form)) good) (x .place) (omega (arith, x .is)) (x .newline) in
+        let d = past-dots (gap (f .form)) (o + length (f .form) + 1) (10 ∷ rows fs) (behind-from (f .form) (f .tag) o (tail f fs) h) (x .place) j (x .newline) in
         over (r (omega (arith, x .is)) (inr x))
 
 -- a place like the first

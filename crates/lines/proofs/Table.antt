@@ -1,16 +1,17 @@
--- What the table of forms has to be, computed: behind a newline; where a mark or a tag stands, every row with the same text
--- before it has the same there; no mark stands behind a mark. A new row costs nothing here: it is computed again. Assumes
--- nothing.
-use Prim.Native.Nat.{ℕ, zero, suc, _+_, _-_, _≤_, _<_}
+-- What the table of forms has to be, computed: rows of one width; where a mark or a tag stands, every row with the same text
+-- before it has the same there; no mark stands behind a mark. A new row costs nothing here: it is computed again.
+-- Assumes nothing.
+use Prim.Native.Nat.{ℕ, zero, suc, _+_, _-_, _*_, _/_, _%_, _≤_, _<_}
 use mathlib.Core.Path.{_≡_, refl, ap, sym, subst, _∙_}
+use mathlib.Core.Logic.{_⊎_, inl, inr}
 use mathlib.Core.Bool.{Bool, true, false, not, cond, _&&_, _||_}
 use native.Mathlib.Omega.{arith}
 use native.Mathlib.Numerals.{add-one}
-use borrow.Author.Tests.{eqb-true, ltb-true, ltb-false}
+use borrow.Author.Tests.{eqb-true, eq-eqb, ltb-true, ltb-false}
 use lib.Dec.{eqb, ltb}
-use Rattle.lines.specs.Reading.{size, letterAt, like, takes, seekIn, isMark, isTag}
+use Rattle.lines.specs.Reading.{size, letterAt, like, takes, seekIn, left, isMark, isTag}
 use Rattle.lines.proofs.Classes.{differ, and-left, and-right, and-both, tag-some, mark-some}
-use Rattle.lines.proofs.Places.{within, like-next, like-newline, seek-here}
+use Rattle.lines.proofs.Places.{within, zero-like, like-zero, Before, before, like-next, like-newline, seek-here}
 
 -- p at every number below n
 all : ℕ → (ℕ → Bool) → Bool
@@ -29,11 +30,25 @@ all-at (suc n) f h i g = by (λ x. all-at n f (and-right (f n) (all n f) h) i x)
 abbrev fixed : ℕ → Bool
 fixed c = isMark c || isTag c
 
+-- the place of the row k in the column of p
+abbrev across : ℕ → ℕ → ℕ
+across p k = p % 64 + 64 * k
+
+abbrev newlineAt : ℕ → Bool
+newlineAt p = not (eqb (letterAt p) 10) || eqb (p % 64) 0
+
+abbrev sameAt : ℕ → ℕ → Bool
+sameAt p k = not (like p (across p k)) || eqb (letterAt (across p k)) (letterAt p)
+
 abbrev loneAt : ℕ → Bool
-loneAt p = not (fixed (letterAt p)) || all size (λ q. not (like p q) || eqb (letterAt q) (letterAt p))
+loneAt p = not (fixed (letterAt p)) || all (left 0) (sameAt p)
 
 abbrev partedAt : ℕ → Bool
 partedAt p = not (isMark (letterAt p) && isMark (letterAt (p + 1)))
+
+newline-all : all size newlineAt ≡ true
+unfolding all size letterAt
+newline-all = refl
 
 lone-all : all size loneAt ≡ true
 unfolding all size letterAt like
@@ -52,14 +67,11 @@ like-itself : (p : ℕ) → like (suc p) (suc p) ≡ true
 like-itself zero = like-newline 0 0 first-newline first-newline
 like-itself (suc p) = subst (λ (k : ℕ). like k k ≡ true) (add-one (suc p)) (like-next (suc p) (suc p) (like-itself p) refl)
 
-pub in-range : (p : ℕ) → ltb 0 p && ltb p size ≡ true → p < size
-in-range p h = ltb-true p size (and-right (ltb 0 p) (ltb p size) h)
-
 pub seek-itself :
-    (p b c : ℕ) (t : Bool) → ltb 0 p && ltb p size ≡ true → c ≡ letterAt p → t ≡ takes c b → t ≡ true → seekIn (size - p) p b p ≡ p + 1
-seek-itself zero b c t h e f g = differ (sym h)
-seek-itself (suc p) b c t h e f g =
-    seek-here (suc p) b (suc p) (in-range (suc p) h)
+    (p b c : ℕ) (t : Bool) → (p ≡ 0 → ⊥) → p < size → c ≡ letterAt p → t ≡ takes c b → t ≡ true → seekIn (left p) p b p ≡ p + 1
+seek-itself zero b c t n h e f g = absurd (n refl)
+seek-itself (suc p) b c t n h e f g =
+    seek-here (suc p) b (suc p) h
     (and-both (like (suc p) (suc p)) (takes (letterAt (suc p)) b) (like-itself p) (ap (λ (x : ℕ). takes x b) (sym e) ∙ sym f ∙ g))
 
 -- ---- the rules
@@ -72,12 +84,31 @@ and-not true false h g = refl
 and-not true true h g = sym g
 and-not false b h g = differ (sym h)
 
+-- ---- like places stand in one column
+newline-column : (p : ℕ) → letterAt p ≡ 10 → p % 64 ≡ 0
+newline-column p e =
+    eqb-true (p % 64) 0
+    (or-not (eqb (letterAt p) 10) (eqb (p % 64) 0) (eq-eqb (letterAt p) 10 e) (all-at size newlineAt newline-all p (within p (rw e (omega arith)))))
+
+pub same-column : (p q : ℕ) → like p q ≡ true → q % 64 ≡ p % 64
+same-column zero q h = differ (sym h ∙ zero-like q)
+same-column (suc p) zero h = differ (sym h ∙ like-zero (suc p))
+same-column (suc p) (suc q) h = by (x .more) (λ y. same-column p q y)
+  where
+    x : Before p q
+    x = before p q h
+
+    by : (letterAt p ≡ 10) ⊎ (like p q ≡ true) → (like p q ≡ true → q % 64 ≡ p % 64) → suc q % 64 ≡ suc p % 64
+    by (inl e) f = omega (arith, newline-column p e, newline-column q (sym (x .letter) ∙ e))
+    by (inr e) f = omega (arith, f e)
+
 lone : (p q : ℕ) → fixed (letterAt p) ≡ true → p < size → q < size → like p q ≡ true → letterAt q ≡ letterAt p
 lone p q h g k e =
+    let a : across p (q / 64) ≡ q = omega (arith, same-column p q e) in
+    let s : sameAt p (q / 64) ≡ true =
+    all-at (left 0) (sameAt p) (or-not (fixed (letterAt p)) (all (left 0) (sameAt p)) h (all-at size loneAt lone-all p g)) (q / 64) (omega arith) in
     eqb-true (letterAt q) (letterAt p)
-    (or-not (like p q) (eqb (letterAt q) (letterAt p)) e
-    (all-at size (λ (q : ℕ). not (like p q) || eqb (letterAt q) (letterAt p))
-    (or-not (fixed (letterAt p)) (all size (λ (q : ℕ). not (like p q) || eqb (letterAt q) (letterAt p))) h (all-at size loneAt lone-all p g)) q k))
+    (or-not (like p q) (eqb (letterAt q) (letterAt p)) e (subst (λ (x : ℕ). not (like p x) || eqb (letterAt x) (letterAt p) ≡ true) a s))
 
 pub lone-mark : (p q : ℕ) → isMark (letterAt p) ≡ true → q < size → like p q ≡ true → letterAt q ≡ letterAt p
 lone-mark p q h k e = lone p q (rw h) (within p (mark-some (letterAt p) h)) k e

@@ -1,11 +1,12 @@
 -- The table of forms: a row for each line that can be read. In a row's text a letter stands for itself, `#` for a number and
 -- `%` for pairs; its tag, a capital, is how the code names it; behind them, what a line of this form asks for, from what
 -- stands at its marks, in order. A new line is a new row. Assumes nothing.
-use Prim.Native.Nat.{ℕ}
+use Prim.Native.Nat.{ℕ, _-_}
 use Prim.Native.String.{String}
 use mathlib.Core.List.{List, [], _∷_, _++_}
 use mathlib.Core.Bool.{cond}
 use lib.Dec.{eqb}
+use lib.ListN.{length, replicate}
 use Rattle.machine.specs.Calls as machine
 use Rattle.machine.specs.Calls.{Pair}
 use Rattle.lines.specs.Text.{text}
@@ -65,14 +66,18 @@ forms =
     ∷ row "call=fold number=#" "F" (λ n. calls (machine.foldTo n))
     ∷ []
 
--- ---- the table as the code has it: a newline, and each row's text, its tag and a newline
+-- ---- the table as the code has it: a newline, and for each row 64 bytes: its text, its tag, dots and a newline
 abbrev pub bytes : List Token → List ℕ
 bytes [] = []
 bytes (k ∷ f) = byteOf k ∷ bytes f
 
+-- a form of 62 letters has none
+abbrev pub gap : List Token → ℕ
+gap f = 62 - length f
+
 abbrev pub rows : List Form → List ℕ
 rows [] = []
-rows (f ∷ fs) = bytes (f .form) ++ (f .tag ∷ 10 ∷ rows fs)
+rows (f ∷ fs) = bytes (f .form) ++ (f .tag ∷ (replicate (gap (f .form)) 46 ++ (10 ∷ rows fs)))
 
 abbrev pub table : List ℕ
 table = 10 ∷ rows forms

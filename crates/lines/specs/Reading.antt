@@ -41,13 +41,17 @@ takes c b = cond (eqb b 10) (isTag c) (eqb c b)
 abbrev pub goes : ℕ → ℕ → ℕ → Bool
 goes p b q = like p q && takes (letterAt q) b
 
--- behind the first letter, from q on, that takes b in a row with the text before p; 0 where there is none
+-- behind the first letter, from q on in its column, that takes b in a row with the text before p; 0 where there is none
 unfoldable pub seekIn : ℕ → ℕ → ℕ → ℕ → ℕ
 seekIn zero p b q = 0
-seekIn (suc n) p b q = cond (goes p b q) (q + 1) (seekIn n p b (q + 1))
+seekIn (suc n) p b q = cond (goes p b q) (q + 1) (seekIn n p b (q + 64))
+
+-- the rows from that of q on
+abbrev pub left : ℕ → ℕ
+left q = (size - q + 63) / 64
 
 abbrev pub seek : ℕ → ℕ → ℕ
-seek p b = seekIn (size - p) p b p
+seek p b = seekIn (left p) p b p
 
 -- ---- what a mark takes. Of it there may have come: 0 nothing; 1 digits of its first number, a path in pairs; 2 a colon
 -- behind that; 3 digits of a value; 4 a comma behind that

@@ -5,18 +5,22 @@ ghost use Rattle.lines.specs.Grammar.{isWord};
 ghost use Rattle.lines.specs.Reading.{letterAt, isMark, isTag, like, takes, goes, seek, inside, begins, parts, mayEnd, past, placed, begun, grown, stored, kept, withDigit, spelt, withText, tagBefore, twoBytes, ten, plain, bytesOf, withPairs, callOf, lineOf};
 ghost use Rattle.lines.specs.Promises.{StartsFresh, Pushes, Finishes, ReadsLine};
 
-// A row for each form: its text, in which `#` is a number and `%` are pairs, and its tag.
-const FORMS: [u8; 221] = *b"
-call=append pairs=%A
-call=connect node=#C
-call=disconnect node=#D
-call=master node=#M
-call=rollback number=#R
-call=startS
-call=stopT
-call=sync node=#Y
-call=work node=# job=# number=# outcome=# cut=#W
-call=fold number=#F
+// The columns of the table, with the newline.
+const WIDTH: usize = 64;
+
+// A row for each form: its text, in which `#` is a number and `%` are pairs, its tag, and dots up to the last column. Letters
+// of two rows that stand in one column are `WIDTH` apart.
+const FORMS: [u8; 641] = *b"
+call=append pairs=%A...........................................
+call=connect node=#C...........................................
+call=disconnect node=#D........................................
+call=master node=#M............................................
+call=rollback number=#R........................................
+call=startS....................................................
+call=stopT.....................................................
+call=sync node=#Y..............................................
+call=work node=# job=# number=# outcome=# cut=#W...............
+call=fold number=#F............................................
 ";
 
 // Where the line so far leads: a place of the table; how much has come of what a mark there takes; the number that is being
@@ -121,16 +125,20 @@ fn takes(c: u8, b: u8) -> bool
 fn goes(p: usize, b: u8, q: usize) -> bool
     ensures { λ r. ⌜ r ≡ goes p b q ⌝ }
 {
-    let same = like(p, q);
-    let taken = takes(letter(q), b);
-    same & taken
+    if takes(letter(q), b) {
+        return like(p, q);
+    }
+    false
 }
 
-// Behind the first letter from `p` on that takes `b` in a row with the text before `p`; 0 where there is none.
+// Behind the first letter, from `p` on in its column, that takes `b` in a row with the text before `p`; 0 where there is none.
 fn seek(p: usize, b: u8) -> usize
     ensures { λ r. ⌜ r ≡ seek p b ⌝ }
 {
-    if (0 < p) & (p < FORMS.len()) {
+    if p == 0 {
+        return 0;
+    }
+    if p < FORMS.len() {
         if takes(letter(p), b) {
             return p + 1;
         }
@@ -140,7 +148,7 @@ fn seek(p: usize, b: u8) -> usize
         if goes(p, b, q) {
             return q + 1;
         }
-        q += 1;
+        q += WIDTH;
     }
     0
 }
