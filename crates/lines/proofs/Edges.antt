@@ -8,22 +8,25 @@ use native.Mathlib.Omega.{arith}
 use native.Mathlib.Nat.{pow-suc}
 use borrow.Author.Tests.{ltb-true, ltb-false, le-leb}
 use lib.Dec.{ltb}
-use lib.ListN.{length, getD, take, length-append}
+use lib.ListN.{length, getD, take, replicate, length-append}
 use Rattle.lines.specs.declared.reading.Call.{Call}
 use Rattle.lines.specs.declared.reading.Call.the-variants.{Unreadable, Append, Rollback, Start, Stop, Connect, Disconnect, Master, Sync, Work}
 use Rattle.lines.specs.Text.{text}
 use Rattle.lines.specs.Decimal.{isDigit, spelled, decimal}
 use Rattle.lines.specs.Grammar.{allDigits, tenfold, Number}
-use Rattle.lines.specs.Reading.{size, letterAt, like, seekIn, pushed, callOf, twoBytes, said}
+use Rattle.lines.specs.Reading.{size, letterAt, like, seekIn, pushed, callOf, said, saidIn}
 use Rattle.lines.proofs.Classes.{and-left, and-right}
 
 -- ---- readable, and unreadable
+abbrev room : List ℕ
+room = replicate 20 0
+
 asks : List ℕ → Call
-asks l = said l .call
+asks l = said room l .call
 
 -- an append's bytes
 gives : List ℕ → List ℕ
-gives l = take (said l .length) (said l .pairs)
+gives l = take (said room l .length) (saidIn room l)
 
 edges :
     (asks (text "call=start") ≡ Start) × (asks (text "call=stop") ≡ Stop) × (asks (text "call=connect node=1") ≡ Connect 1)
@@ -39,7 +42,7 @@ edges :
     × (asks (text "Call=start") ≡ Unreadable) × (asks [] ≡ Unreadable) × (asks (text "call=append") ≡ Unreadable) × (asks (text "call=append pairs=1:2,") ≡ Unreadable)
     × (asks (text "call=append pairs=1") ≡ Unreadable) × (asks (text "call=append pairs=1:2:3") ≡ Unreadable) × (asks (text "call=append pairs=:1") ≡ Unreadable)
     × (asks (text "call=work job=1 node=1 number=1 outcome=0 cut=0") ≡ Unreadable) × (asks (text "call=work node=1 job=1 number=1 outcome=0") ≡ Unreadable)
-unfolding asks gives size letterAt like seekIn pushed callOf twoBytes
+unfolding asks gives size letterAt like seekIn pushed callOf
 edges =
     (refl, refl, refl, refl, refl, refl, refl, refl, refl, refl, refl, refl, refl, refl, refl, refl, refl, refl, refl, refl, refl, refl, refl, refl, refl, refl, refl, refl, refl, refl, refl, refl, refl)
 

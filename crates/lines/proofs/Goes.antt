@@ -10,7 +10,7 @@ use lib.Dec.{eqb, leb, ltb, eqb·suc-zero}
 use Rattle.lines.specs.declared.reading.Reader.{Reader}
 use Rattle.lines.specs.Decimal.{isDigit}
 use Rattle.lines.specs.Grammar.{isWord, tenfold}
-use Rattle.lines.specs.Reading.{size, letterAt, isMark, isTag, like, takes, goes, left, seek, seekIn, inside, begins, parts, mayEnd, past, pushed, withDigit, withText, grownIf, kept, stored, storedIf, placed, parted, spelt, tagOf, tagBefore}
+use Rattle.lines.specs.Reading.{size, letterAt, isMark, isTag, like, takes, goes, left, seek, seekIn, inside, begins, parts, mayEnd, past, pushed, withDigit, withText, grownIf, kept, storedIf, placed, begun, spelt, tagOf, tagBefore}
 use Rattle.lines.proofs.Classes.{differ, and-left, and-right, and-both, word-no-digit, mark-no-word, mark-no-tag, tag-some, word-some, mark-some, word-other, begins-inside, Parted, parted-by, word-parts}
 use Rattle.lines.proofs.Places.{within, zero-like, like-next, Prior, like-prior, like-trans, like-sym, Found, Missing, sought}
 use Rattle.lines.proofs.Table.{same-column, lone-mark, lone-tag, no-mark-behind, first-newline}
@@ -129,8 +129,8 @@ spell-back p v b t l ns w a = by (sought (left p) p b p)
         }
 
 -- ---- a byte pushed: what it adds to the numbers
-abbrev pub st : ℕ → ℕ → ℕ → ℕ → List ℕ → Reader
-st p s v k m = record { at = p; sub = s; value = v; count = k; numbers = m }
+abbrev pub st : ℕ → ℕ → ℕ → ℕ → Reader
+st p s v k = record { at = p; sub = s; value = v; used = k }
 
 abbrev pub adds : Reader → ℕ → List ℕ
 adds r b = cond (isDigit b) [] (held (r .sub) (r .value))
@@ -139,47 +139,49 @@ abbrev pub AccR : Reader → List ℕ → List ℕ → ℕ → Type 0
 AccR r l ns t = Acc (r .at) (r .sub) (r .value) l ns t
 
 kept-at : (r : Reader) → kept r .value ≡ r .value
-kept-at r = by (inside (r .sub)) (ltb (r .count) 10)
+kept-at r = by (inside (r .sub)) (ltb (r .used) 19)
   where
     by : (x y : Bool) → cond x (storedIf y r) r .value ≡ r .value
     by true true = refl
     by true false = refl
     by false y = refl
 
-module _ (p s v k : ℕ) (m : List ℕ) (b : ℕ) where
-  push-begin : isDigit b ≡ true → isMark (letterAt p) ≡ true → inside s ≡ false → pushed (st p s v k m) b ≡ st p (begins s) (b - 48) k m
+module _ (p s v k : ℕ) (b : ℕ) where
+  push-begin : isDigit b ≡ true → isMark (letterAt p) ≡ true → inside s ≡ false → pushed (st p s v k) b ≡ st p (begins s) (b - 48) k
   unfolding pushed
   push-begin d h i = rw (d, h, i)
 
-  push-grow : isDigit b ≡ true → isMark (letterAt p) ≡ true → inside s ≡ true → pushed (st p s v k m) b ≡ grownIf (leb (tenfold v b) 65535) (st p s v k m) (tenfold v b)
+  push-grow : isDigit b ≡ true → isMark (letterAt p) ≡ true → inside s ≡ true → pushed (st p s v k) b ≡ grownIf (leb (tenfold v b) 65535) (st p s v k) (tenfold v b)
   unfolding pushed
   push-grow d h i = rw (d, h, i)
 
-  push-dead : isDigit b ≡ true → isMark (letterAt p) ≡ false → pushed (st p s v k m) b ≡ st 0 0 v k m
+  push-dead : isDigit b ≡ true → isMark (letterAt p) ≡ false → pushed (st p s v k) b ≡ st 0 0 v k
   unfolding pushed
   push-dead d h = rw (d, h)
 
-  push-part : (n : ℕ) → isDigit b ≡ false → parts (letterAt p) s b ≡ suc n → pushed (st p s v k m) b ≡ parted (stored (st p s v k m)) (suc n)
+  push-part : (n : ℕ) → isDigit b ≡ false → parts (letterAt p) s b ≡ suc n → pushed (st p s v k) b ≡ begun (kept (st p s v k)) (suc n) 0
   unfolding pushed
   push-part n d e = rw (d, e, eqb·suc-zero n)
 
-  push-spell : isDigit b ≡ false → parts (letterAt p) s b ≡ 0 → pushed (st p s v k m) b ≡ placed (kept (st p s v k m)) (spelt (past (letterAt p) s p) b)
+  push-spell : isDigit b ≡ false → parts (letterAt p) s b ≡ 0 → pushed (st p s v k) b ≡ placed (kept (st p s v k)) (spelt (past (letterAt p) s p) b)
   unfolding pushed
   push-spell d e = rw (d, e)
 
-  stored-on : (n t : ℕ) (l ns : List ℕ) → Acc p n 0 l ns t → AccR (parted (stored (st p s v k m)) n) l ns t
-  stored-on n t l ns a = by (ltb k 10)
+  kept-on : (n t : ℕ) (l ns : List ℕ) → Acc p n 0 l ns t → AccR (begun (kept (st p s v k)) n 0) l ns t
+  kept-on n t l ns a = by (inside s) (ltb k 19)
     where
-      by : (x : Bool) → AccR (parted (storedIf x (st p s v k m)) n) l ns t
-      by true = a
-      by false = a
+      by : (x y : Bool) → AccR (begun (cond x (storedIf y (st p s v k)) (st p s v k)) n 0) l ns t
+      by true true = a
+      by true false = a
+      by false y = a
 
-  stored-back : (n t : ℕ) (l ns : List ℕ) → AccR (parted (stored (st p s v k m)) n) l ns t → Acc p n 0 l ns t
-  stored-back n t l ns a = by (ltb k 10) a
+  kept-back : (n t : ℕ) (l ns : List ℕ) → AccR (begun (kept (st p s v k)) n 0) l ns t → Acc p n 0 l ns t
+  kept-back n t l ns a = by (inside s) (ltb k 19) a
     where
-      by : (x : Bool) → AccR (parted (storedIf x (st p s v k m)) n) l ns t → Acc p n 0 l ns t
-      by true c = c
-      by false c = c
+      by : (x y : Bool) → AccR (begun (cond x (storedIf y (st p s v k)) (st p s v k)) n 0) l ns t → Acc p n 0 l ns t
+      by true true c = c
+      by true false c = c
+      by false y c = c
 
 -- what is left of a line behind its first byte
 pub record On (r : Reader) (b : ℕ) (l ns : List ℕ) (t : ℕ) : Type 0 where
@@ -187,16 +189,16 @@ pub record On (r : Reader) (b : ℕ) (l ns : List ℕ) (t : ℕ) : Type 0 where
   pub is : ns ≡ adds r b ++ rest
   pub acc : AccR (pushed r b) l rest t
 
-module _ (p s v k : ℕ) (m : List ℕ) (b t : ℕ) (l : List ℕ) where
-  to : (ns : List ℕ) (r : Reader) → pushed (st p s v k m) b ≡ r → AccR r l ns t → AccR (pushed (st p s v k m) b) l ns t
+module _ (p s v k : ℕ) (b t : ℕ) (l : List ℕ) where
+  to : (ns : List ℕ) (r : Reader) → pushed (st p s v k) b ≡ r → AccR r l ns t → AccR (pushed (st p s v k) b) l ns t
   to ns r e a = subst (λ (x : Reader). AccR x l ns t) (sym e) a
 
-  spelled-on : (ns : List ℕ) → isDigit b ≡ false → isWord b ≡ true → Acc (seek (past (letterAt p) s p) b) 0 v l ns t → AccR (pushed (st p s v k m) b) l ns t
+  spelled-on : (ns : List ℕ) → isDigit b ≡ false → isWord b ≡ true → Acc (seek (past (letterAt p) s p) b) 0 v l ns t → AccR (pushed (st p s v k) b) l ns t
   spelled-on ns d w a =
-      to ns (placed (kept (st p s v k m)) (spelt (past (letterAt p) s p) b)) (push-spell p s v k m b d (word-parts (letterAt p) s b w))
-      (rw w (subst (λ (x : ℕ). Acc (seek (past (letterAt p) s p) b) 0 x l ns t) (sym (kept-at (st p s v k m))) a))
+      to ns (placed (kept (st p s v k)) (spelt (past (letterAt p) s p) b)) (push-spell p s v k b d (word-parts (letterAt p) s b w))
+      (rw w (subst (λ (x : ℕ). Acc (seek (past (letterAt p) s p) b) 0 x l ns t) (sym (kept-at (st p s v k))) a))
 
-  pub push-on : (ns : List ℕ) → AccR (st p s v k m) (b ∷ l) ns t → On (st p s v k m) b l ns t
+  pub push-on : (ns : List ℕ) → AccR (st p s v k) (b ∷ l) ns t → On (st p s v k) b l ns t
   push-on ns a = by (a .place) (a .above) (a .same) (a .then)
     where
       no-digit : isWord b ≡ true → isDigit b ≡ false
@@ -206,7 +208,7 @@ module _ (p s v k : ℕ) (m : List ℕ) (b t : ℕ) (l : List ℕ) where
           split true e = absurd (word-no-digit b w e)
           split false e = e
 
-      behind : (q : ℕ) (ns′ : List ℕ) → p ≤ q → like p q ≡ true → isMark (letterAt q) ≡ true → mayEnd (letterAt q) s ≡ true → ns ≡ held s v ++ ns′ → Goes (q + 1) 0 v (b ∷ l) ns′ t → On (st p s v k m) b l ns t
+      behind : (q : ℕ) (ns′ : List ℕ) → p ≤ q → like p q ≡ true → isMark (letterAt q) ≡ true → mayEnd (letterAt q) s ≡ true → ns ≡ held s v ++ ns′ → Goes (q + 1) 0 v (b ∷ l) ns′ t → On (st p s v k) b l ns t
       behind q ns′ h e c f i (spell z w j g) =
           let c-is = mark-there p q h e c in
           let at : past (letterAt p) s p ≡ p + 1 = rw (c-is, c, f) in
@@ -221,7 +223,7 @@ module _ (p s v k : ℕ) (m : List ℕ) (b t : ℕ) (l : List ℕ) where
       behind q ns′ h e c f i (part n z d y j g) = differ (sym (parted-by (letterAt (q + 1)) 0 b n y .mark) ∙ no-mark-behind q c)
       behind q ns′ h e c f i (leave x y z j g) = differ (sym y ∙ no-mark-behind q c)
 
-      by : (q : ℕ) → p ≤ q → like p q ≡ true → Goes q s v (b ∷ l) ns t → On (st p s v k m) b l ns t
+      by : (q : ℕ) → p ≤ q → like p q ≡ true → Goes q s v (b ∷ l) ns t → On (st p s v k) b l ns t
       by q h e (spell z w i g) =
           let out : isMark (letterAt p) ≡ false = split (isMark (letterAt p)) refl w i in
           let at : past (letterAt p) s p ≡ p = rw (out, eq-eqb s 0 z) in
@@ -240,15 +242,15 @@ module _ (p s v k : ℕ) (m : List ℕ) (b t : ℕ) (l : List ℕ) where
           record {
             rest = ns;
             is = rw d;
-            acc = to ns (st p (begins s) (b - 48) k m) (push-begin p s v k m b d (ap isMark (mark-there p q h e c) ∙ c) n) (record { place = q; above = h; same = e; then = g });
+            acc = to ns (st p (begins s) (b - 48) k) (push-begin p s v k b d (ap isMark (mark-there p q h e c) ∙ c) n) (record { place = q; above = h; same = e; then = g });
           }
       by q h e (grow c d n f g) =
           record {
             rest = ns;
             is = rw d;
             acc =
-                to ns (st p s (tenfold v b) k m)
-                (push-grow p s v k m b d (ap isMark (mark-there p q h e c) ∙ c) n ∙ rw (le-leb (tenfold v b) 65535 f))
+                to ns (st p s (tenfold v b) k)
+                (push-grow p s v k b d (ap isMark (mark-there p q h e c) ∙ c) n ∙ rw (le-leb (tenfold v b) 65535 f))
                 (record { place = q; above = h; same = e; then = g });
           }
       by q h e (part n ns′ d f i g) =
@@ -257,45 +259,45 @@ module _ (p s v k : ℕ) (m : List ℕ) (b t : ℕ) (l : List ℕ) where
             rest = ns′;
             is = i ∙ rw (d, x .number);
             acc =
-                to ns′ (parted (stored (st p s v k m)) (suc n)) (push-part p s v k m b n d (ap (λ (c : ℕ). parts c s b) (mark-there p q h e (x .mark)) ∙ f))
-                (stored-on p s v k m b (suc n) t l ns′ (record { place = q; above = h; same = e; then = g }));
+                to ns′ (begun (kept (st p s v k)) (suc n) 0) (push-part p s v k b n d (ap (λ (c : ℕ). parts c s b) (mark-there p q h e (x .mark)) ∙ f))
+                (kept-on p s v k b (suc n) t l ns′ (record { place = q; above = h; same = e; then = g }));
           }
       by q h e (leave ns′ c f i g) = behind q ns′ h e c f i g
 
   -- ---- and back
-  pub push-back : (ns : List ℕ) → AccR (pushed (st p s v k m) b) l ns t → AccR (st p s v k m) (b ∷ l) (adds (st p s v k m) b ++ ns) t
+  pub push-back : (ns : List ℕ) → AccR (pushed (st p s v k) b) l ns t → AccR (st p s v k) (b ∷ l) (adds (st p s v k) b ++ ns) t
   push-back ns a = by (isDigit b) refl
     where
       R : Reader
-      R = st p s v k m
+      R = st p s v k
 
-      from : (r : Reader) → pushed (st p s v k m) b ≡ r → AccR r l ns t
+      from : (r : Reader) → pushed (st p s v k) b ≡ r → AccR r l ns t
       from r e = subst (λ (x : Reader). AccR x l ns t) e a
 
       grown : (x : Bool) → leb (tenfold v b) 65535 ≡ x → isDigit b ≡ true → isMark (letterAt p) ≡ true → inside s ≡ true → Acc p s v (b ∷ l) ns t
       grown true f d c i =
-          let y = from (st p s (tenfold v b) k m) (push-grow p s v k m b d c i ∙ rw f) in
+          let y = from (st p s (tenfold v b) k) (push-grow p s v k b d c i ∙ rw f) in
           record { place = y .place; above = y .above; same = y .same; then = grow {q = y .place} (rw (at-mark y c) c) d i (leb-true (tenfold v b) 65535 f) (y .then) }
-      grown false f d c i = none (from (st 0 0 v k m) (push-grow p s v k m b d c i ∙ rw f))
+      grown false f d c i = none (from (st 0 0 v k) (push-grow p s v k b d c i ∙ rw f))
 
       digit : (x y : Bool) → isMark (letterAt p) ≡ x → inside s ≡ y → isDigit b ≡ true → Acc p s v (b ∷ l) ns t
       digit true true c i d = grown (leb (tenfold v b) 65535) refl d c i
       digit true false c i d =
-          let y = from (st p (begins s) (b - 48) k m) (push-begin p s v k m b d c i) in
+          let y = from (st p (begins s) (b - 48) k) (push-begin p s v k b d c i) in
           record { place = y .place; above = y .above; same = y .same; then = begin {q = y .place} (rw (at-mark y c) c) d i (y .then) }
-      digit false y c i d = none (from (st 0 0 v k m) (push-dead p s v k m b d c))
+      digit false y c i d = none (from (st 0 0 v k) (push-dead p s v k b d c))
 
       other : (n : ℕ) → parts (letterAt p) s b ≡ n → (x : Bool) → isWord b ≡ x → isDigit b ≡ false → Acc p s v (b ∷ l) (held s v ++ ns) t
       other (suc n) e x w d =
           let z = parted-by (letterAt p) s b n e in
-          let y = stored-back p s v k m b (suc n) t l ns (from (parted (stored (st p s v k m)) (suc n)) (push-part p s v k m b n d e)) in
+          let y = kept-back p s v k b (suc n) t l ns (from (begun (kept (st p s v k)) (suc n) 0) (push-part p s v k b n d e)) in
           rw (z .number) (record { place = y .place; above = y .above; same = y .same; then = part {q = y .place} {s = s} {b = b} n ns d (rw (at-mark y (z .mark)) e) refl (y .then) })
       other zero e false w d =
-          none (subst (λ (x : ℕ). Acc x 0 (kept (st p s v k m) .value) l ns t) (rw w)
-          (from (placed (kept (st p s v k m)) (spelt (past (letterAt p) s p) b)) (push-spell p s v k m b d e)))
+          none (subst (λ (x : ℕ). Acc x 0 (kept (st p s v k) .value) l ns t) (rw w)
+          (from (placed (kept (st p s v k)) (spelt (past (letterAt p) s p) b)) (push-spell p s v k b d e)))
       other zero e true w d =
-          let y = from (placed (kept (st p s v k m)) (spelt (past (letterAt p) s p) b)) (push-spell p s v k m b d e) in
-          let z : Acc (seek (past (letterAt p) s p) b) 0 v l ns t = subst (λ (x : ℕ). Acc (seek (past (letterAt p) s p) b) 0 x l ns t) (kept-at (st p s v k m)) (rw w at y) in
+          let y = from (placed (kept (st p s v k)) (spelt (past (letterAt p) s p) b)) (push-spell p s v k b d e) in
+          let z : Acc (seek (past (letterAt p) s p) b) 0 v l ns t = subst (λ (x : ℕ). Acc (seek (past (letterAt p) s p) b) 0 x l ns t) (kept-at (st p s v k)) (rw w at y) in
           leave-back p s v t (b ∷ l) ns (spell-back (past (letterAt p) s p) v b t l ns w z)
 
       by : (x : Bool) → isDigit b ≡ x → Acc p s v (b ∷ l) (cond x [] (held s v) ++ ns) t

@@ -1,5 +1,6 @@
 pub mod Putting
 pub mod Lists
+pub mod Cells
 pub mod Classes
 pub mod Places
 pub mod Table

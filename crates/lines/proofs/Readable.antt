@@ -7,56 +7,58 @@ use mathlib.Core.Bool.{Bool, true, false, cond}
 use native.Mathlib.Omega.{arith}
 use borrow.Author.Tests.{le-leb, lt-leb, ltb-true, eqb-true, eqb-false}
 use lib.Dec.{eqb, ltb}
-use lib.ListN.{length, take}
+use lib.ListN.{length, take, replicate}
 use Rattle.machine.specs.State.{State}
 use Rattle.machine.specs.WellFormed.{pairsOk}
 use Rattle.machine.specs.Calls as machine
 use Rattle.machine.specs.Calls.{Pair, validChange, refused, decide}
 use Rattle.machine.specs.Step.{outcome, step}
 use Rattle.lines.specs.declared.reading.Call.{Call}
-use Rattle.lines.specs.declared.reading.Call.the-variants as call
 use Rattle.lines.specs.declared.reading.Call.the-variants.{Unreadable}
 use Rattle.lines.specs.declared.reading.Reader.{Reader}
 use Rattle.lines.specs.Forms.{Asked, calls}
 use Rattle.lines.specs.Grammar.{Says}
-use Rattle.lines.specs.Reading.{pushed, fresh, kept, tagOf, callOf, numbersOf, lineOf, plain, twoBytes, ten, finished, said}
+use Rattle.lines.specs.Reading.{twoBytes, pushed, fresh, kept, keptIn, tagOf, callOf, lineOf, finished, ran, said, saidIn}
 use Rattle.lines.specs.Handed.{Hands, callFor}
-use Rattle.lines.proofs.Goes.{Acc, AccR, goes-some}
-use Rattle.lines.proofs.Runs.{told, Told, run-on, run-back, Holds, holds-run}
+use Rattle.lines.proofs.Goes.{Acc, AccR}
+use Rattle.lines.proofs.Runs.{told, Told, run-on, run-back, firsts, Holds, ran-reader, holds-run}
 use Rattle.lines.proofs.Standing.{Start, Row-at, row-of, Row-there, row-from, like-start-of, tag-is, text-is}
 use Rattle.lines.proofs.Complete.{fits-go}
 use Rattle.lines.proofs.Sound.{Fitted, goes-fit}
 use Rattle.lines.proofs.Handing.{handed}
 
--- ---- a line that says something is handed on as what it says
-pub complete : {l : List ℕ} {x : Asked} → Says l x → Hands x (said l)
-complete {l} {x} s =
-    let f = s .of in
-    let r = row-of f (s .among) in
-    let g = fits-go (s .fits) (r .place) (f .tag) 0 (tag-is f (s .among)) (r .stands) in
-    let a : AccR fresh l (s .numbers) (f .tag) = record { place = r .place; above = omega (arith, r .start .is); same = like-start-of (r .place) (r .start); then = g } in
-    let y = run-on l fresh (s .numbers) (f .tag) a in
-    let h = holds-run l fresh [] (record { count = refl; first = refl }) in
-    let k = kept (foldl pushed fresh l) in
-    subst (λ (t : ℕ). Hands x (lineOf t k)) (sym (y .tag))
-    (handed f (s .among) (s .fits) k (subst (λ (ns : List ℕ). Holds ns (k .count) (k .numbers)) (sym (y .is)) h))
+module _ (m : List ℕ) (n : length m ≡ 20) where
+  -- a line that says something is handed on as what it says
+  pub complete : {l : List ℕ} {x : Asked} → Says l x → Hands x (said m l) (saidIn m l)
+  unfolding twoBytes
+  complete {l} {x} s =
+      let f = s .of in
+      let r = row-of f (s .among) in
+      let g = fits-go (s .fits) (r .place) (f .tag) 0 (tag-is f (s .among)) (r .stands) in
+      let a : AccR fresh l (s .numbers) (f .tag) =
+      record { place = r .place; above = omega (arith, r .start .is); same = like-start-of (r .place) (r .start); then = g } in
+      let y = run-on l fresh (s .numbers) (f .tag) a in
+      let u = kept (ran m l .0) .used in
+      let h = holds-run l fresh m [] (record { used = refl; first = refl; long = n }) in
+      subst (λ (t : ℕ). Hands x (lineOf t u (saidIn m l)) (saidIn m l)) (sym (ap tagOf (ran-reader l fresh m) ∙ y .tag))
+      (handed f (s .among) (s .fits) u (saidIn m l) (subst (λ (ns : List ℕ). Holds ns u (saidIn m l)) (sym (y .is)) h))
 
--- ---- every line says something, or is read as unreadable
-no-tag : (r : Reader) → tagOf r ≡ 0 → finished r .call ≡ Unreadable
+-- every line says something, or is read as unreadable
+no-tag : (r : Reader) (m : List ℕ) → tagOf r ≡ 0 → finished r m .call ≡ Unreadable
 unfolding callOf
-no-tag r e = ap (λ (t : ℕ). lineOf t (kept r) .call) e
+no-tag r m e = ap (λ (t : ℕ). lineOf t (kept r .used) (keptIn r m) .call) e
 
-pub sound : (l : List ℕ) → ((x : Asked) × Says l x) ⊎ (said l .call ≡ Unreadable)
-sound l = by (eqb t 0) refl
+pub sound : (m l : List ℕ) → ((x : Asked) × Says l x) ⊎ (said m l .call ≡ Unreadable)
+sound m l = by (eqb t 0) refl
   where
     t : ℕ
     t = tagOf (foldl pushed fresh l)
 
-    by : (b : Bool) → eqb t 0 ≡ b → ((x : Asked) × Says l x) ⊎ (said l .call ≡ Unreadable)
-    by true e = inr (no-tag (foldl pushed fresh l) (eqb-true t 0 e))
+    by : (b : Bool) → eqb t 0 ≡ b → ((x : Asked) × Says l x) ⊎ (said m l .call ≡ Unreadable)
+    by true e = inr (no-tag (ran m l .0) (ran m l .1) (ap tagOf (ran-reader l fresh m) ∙ eqb-true t 0 e))
     by false e =
         let a = run-back l fresh (eqb-false t 0 e) in
-        let r = row-from (a .place) (a .same) (a .above) (goes-some (a .then)) in
+        let r = row-from (a .place) (a .same) in
         let f = r .of in
         let y = goes-fit (f .form) (f .asks) (a .place) (f .tag) t 0 l (told fresh l) (text-is f (r .among)) (tag-is f (r .among)) (r .stands) (a .then) in
         inl (y .asked, record { of = f; among = r .among; numbers = told fresh l; fits = y .fits })
@@ -74,35 +76,36 @@ told-apart (calls (machine.sync n)) e = let z : _≡_ {A = ℕ} 0 1 = cc in omeg
 told-apart (calls (machine.work n j i o c)) e = let z : _≡_ {A = ℕ} 0 1 = cc in omega arith
 told-apart (calls (machine.foldTo n)) e = let z : _≡_ {A = ℕ} 0 1 = cc in omega arith
 
--- a readable line: the grammar has it as asking for something, and that is handed on
-pub record Readable (l : List ℕ) : Type 0 where
-  pub asked : Asked
-  pub says : Says l asked
-  pub hands : Hands asked (said l)
+module _ (m l : List ℕ) where
+  -- a readable line: the grammar has it as asking for something, and that is handed on
+  pub record Readable : Type 0 where
+    pub asked : Asked
+    pub says : Says l asked
+    pub hands : Hands asked (said m l) (saidIn m l)
 
--- an unreadable line: the grammar has it as asking for nothing, and the code says so
-pub record Unread (l : List ℕ) : Type 0 where
-  pub says : (x : Asked) → Says l x → ⊥
-  pub told : said l .call ≡ Unreadable
+  -- an unreadable line: the grammar has it as asking for nothing, and the code says so
+  pub record Unread : Type 0 where
+    pub says : (x : Asked) → Says l x → ⊥
+    pub told : said m l .call ≡ Unreadable
 
 -- every line is one or the other
-pub read-right : (l : List ℕ) → Readable l ⊎ Unread l
-read-right l = by (sound l)
+pub read-right : (m l : List ℕ) → length m ≡ 20 → Readable m l ⊎ Unread m l
+read-right m l n = by (sound m l)
   where
-    by : ((x : Asked) × Says l x) ⊎ (said l .call ≡ Unreadable) → Readable l ⊎ Unread l
-    by (inl x) = inl (record { asked = x .0; says = x .1; hands = complete (x .1) })
-    by (inr e) = inr (record { says = λ c x. told-apart c (sym (complete x .calls) ∙ e); told = e })
+    by : ((x : Asked) × Says l x) ⊎ (said m l .call ≡ Unreadable) → Readable m l ⊎ Unread m l
+    by (inl x) = inl (record { asked = x .0; says = x .1; hands = complete m n (x .1) })
+    by (inr e) = inr (record { says = λ c x. told-apart c (sym (complete m n x .calls) ∙ e); told = e })
 
 -- two things that one line says are handed on alike
 pub hands-once : {l : List ℕ} {c d : Asked} → Says l c → Says l d → callFor c ≡ callFor d
-hands-once x y = sym (complete x .calls) ∙ complete y .calls
+hands-once x y = sym (complete (replicate 20 0) refl x .calls) ∙ complete (replicate 20 0) refl y .calls
 
--- what is handed on of the pairs lies within their room
-pub within : (r : Reader) → finished r .length ≤ 20
-within r = by (eqb (tagOf r) 65) (ltb (kept r .count) 10) refl
+-- what is handed on of the pairs lies within the room
+pub within : (r : Reader) (m : List ℕ) → finished r m .length ≤ 20
+within r m = by (eqb (tagOf r) 65) (ltb (kept r .used) 20) refl
   where
-    by : (b t : Bool) → ltb (kept r .count) 10 ≡ t → cond b (record { call = call.Append; pairs = twoBytes (ten (kept r .numbers)); length = cond t (2 * kept r .count) 20 }) (plain (numbersOf (tagOf r) (kept r .numbers))) .length ≤ 20
-    by true true e = omega (arith, ltb-true (kept r .count) 10 e)
+    by : (b t : Bool) → ltb (kept r .used) 20 ≡ t → cond b (cond t (kept r .used) 20) 0 ≤ 20
+    by true true e = omega (arith, ltb-true (kept r .used) 20 e)
     by true false e = omega arith
     by false t e = omega arith
 

@@ -77,16 +77,26 @@ over-dots : (n o : ℕ) (l : List ℕ) → From o (replicate n 46 ++ l) → From
 over-dots zero o l h = subst (λ (x : ℕ). From x l) (omega arith) h
 over-dots (suc n) o l h = subst (λ (x : ℕ). From x l) (omega arith) (over-dots n (o + 1) l (from-tail o 46 (replicate n 46 ++ l) h))
 
--- a row of the table, and what is left of it behind its tag
+-- what is left of a row behind its tag, and the rows behind it
 abbrev tail : Form → List Form → List ℕ
-tail f fs = replicate (gap (f .form)) 46 ++ (10 ∷ rows fs)
+tail f fs = replicate (gap (f .form)) 46 ++ rows fs
 
--- where the newline stands behind a row from o on
+-- where the row behind that of f at o begins
 abbrev end : Form → ℕ → ℕ
-end f o = o + length (f .form) + 1 + gap (f .form)
+end f o = o + 1 + length (f .form) + 1 + gap (f .form)
 
-row-end : (f : Form) (fs : List Form) (o : ℕ) → From o (rows (f ∷ fs)) → From (end f o) (10 ∷ rows fs)
-row-end f fs o h = over-dots (gap (f .form)) (o + length (f .form) + 1) (10 ∷ rows fs) (behind-from (f .form) (f .tag) o (tail f fs) h)
+-- behind the newline
+text-from : (f : Form) (fs : List Form) (o : ℕ) → From o (rows (f ∷ fs)) → From (o + 1) (bytes (f .form) ++ (f .tag ∷ tail f fs))
+text-from f fs o h = from-tail o 10 (bytes (f .form) ++ (f .tag ∷ tail f fs)) h
+
+dots-from : (f : Form) (fs : List Form) (o : ℕ) → From o (rows (f ∷ fs)) → From (o + 1 + length (f .form) + 1) (tail f fs)
+dots-from f fs o h = behind-from (f .form) (f .tag) (o + 1) (tail f fs) (text-from f fs o h)
+
+row-end : (f : Form) (fs : List Form) (o : ℕ) → From o (rows (f ∷ fs)) → From (end f o) (rows fs)
+row-end f fs o h = over-dots (gap (f .form)) (o + 1 + length (f .form) + 1) (rows fs) (dots-from f fs o h)
+
+row-stands : (f : Form) (fs : List Form) (o : ℕ) → From o (rows (f ∷ fs)) → Stands (f .form) (f .tag) (o + 1)
+row-stands f fs o h = stands-from (f .form) (f .tag) (o + 1) (tail f fs) (text-from f fs o h)
 
 -- behind a newline
 pub record Start (q : ℕ) : Type 0 where
@@ -99,24 +109,24 @@ pub record Row-at (f : Form) : Type 0 where
   pub start : Start place
   pub stands : Stands (f .form) (f .tag) place
 
-row-at : (f : Form) (fs : List Form) → Among f fs → (o : ℕ) → Start o → From o (rows fs) → Row-at f
-row-at f (g ∷ fs) here o s h = record { place = o; start = s; stands = stands-from (f .form) (f .tag) o (tail f fs) h }
-row-at f (g ∷ fs) (there a) o s h =
-    let x = row-end g fs o h in
-    row-at f fs a (end g o + 1) (record { place = end g o; is = refl; newline = from-head (end g o) 10 (rows fs) x }) (from-tail (end g o) 10 (rows fs) x)
+row-at : (f : Form) (fs : List Form) → Among f fs → (o : ℕ) → From o (rows fs) → Row-at f
+row-at f (g ∷ fs) here o h =
+    record {
+      place = o + 1;
+      start = record { place = o; is = refl; newline = from-head o 10 (bytes (f .form) ++ (f .tag ∷ tail f fs)) h };
+      stands = row-stands f fs o h;
+    }
+row-at f (g ∷ fs) (there a) o h = row-at f fs a (end g o) (row-end g fs o h)
 
-table-from : From 1 (rows forms)
+table-from : From 0 (rows forms)
 unfolding letterAt
-table-from j = ap letterAt (one-add j)
+table-from j = ap letterAt (zero-add j)
   where
-    one-add : (j : ℕ) → 1 + j ≡ suc j
-    one-add j = omega arith
-
-start-one : Start 1
-start-one = record { place = 0; is = refl; newline = first-newline }
+    zero-add : (j : ℕ) → 0 + j ≡ j
+    zero-add j = omega arith
 
 pub row-of : (f : Form) → Among f forms → Row-at f
-row-of f a = row-at f forms a 1 start-one table-from
+row-of f a = row-at f forms a 0 table-from
 
 -- ---- and back
 no-newline : (k : Token) → wordy k ≡ true → byteOf k ≡ 10 → ⊥
@@ -153,34 +163,29 @@ pub record Row-there (q : ℕ) (fs : List Form) : Type 0 where
   pub among : Among of fs
   pub stands : Stands (of .form) (of .tag) q
 
-nowhere : (o q : ℕ) → From o [] → o ≤ q → 1 ≤ letterAt q → ⊥
-nowhere o q h g s = let e : letterAt q ≡ 0 = ap letterAt (split o q g) ∙ h (q - o) in omega arith
+nowhere : (o n : ℕ) → From o [] → o ≤ n → letterAt n ≡ 10 → ⊥
+nowhere o n h g e = let z : letterAt n ≡ 0 = ap letterAt (split o n g) ∙ h (n - o) in omega arith
   where
     split : (o q : ℕ) → o ≤ q → q ≡ o + (q - o)
     split o q g = omega arith
 
-row-there : (fs : List Form) → sound-rows fs ≡ true → (o q : ℕ) → From o (rows fs) → o ≤ q → 1 ≤ letterAt q → (o ≡ q) ⊎ Start q → Row-there q fs
+row-there : (fs : List Form) → sound-rows fs ≡ true → (o n : ℕ) → From o (rows fs) → o ≤ n → letterAt n ≡ 10 → Row-there (n + 1) fs
 unfolding sound-rows
-row-there [] s o q h g k x = absurd (nowhere o q h g k)
-row-there (f ∷ fs) s o q h g k (inl e) =
-    record { of = f; among = here; stands = subst (Stands (f .form) (f .tag)) e (stands-from (f .form) (f .tag) o (tail f fs) h) }
-row-there (f ∷ fs) s o q h g k (inr x) =
-    by (eqb o q) refl (λ y z. row-there fs (and-right (sound-row f) (sound-rows fs) s) (end f o + 1) q (from-tail (end f o) 10 (rows fs) (row-end f fs o h)) y k z)
+row-there [] s o n h g e = absurd (nowhere o n h g e)
+row-there (f ∷ fs) s o n h g e = by (eqb o n) refl (λ y. row-there fs (and-right (sound-row f) (sound-rows fs) s) (end f o) n (row-end f fs o h) y e)
   where
     good : sound-row f ≡ true
     good = and-left (sound-row f) (sound-rows fs) s
 
-    over : Row-there q fs → Row-there q (f ∷ fs)
+    over : Row-there (n + 1) fs → Row-there (n + 1) (f ∷ fs)
     over r = record { of = r .of; among = there (r .among); stands = r .stands }
 
-    by : (t : Bool) → eqb o q ≡ t → (end f o + 1 ≤ q → (end f o + 1 ≡ q) ⊎ Start q → Row-there q fs) → Row-there q (f ∷ fs)
-    by true e r =
-        record { of = f; among = here; stands = subst (Stands (f .form) (f .tag)) (eqb-true o q e) (stands-from (f .form) (f .tag) o (tail f fs) h) }
-    by false e r =
-        let i = not-here o q g (eqb-false o q e) in
-        let j = past-row (f .form) (f .tag) o (tail f fs) h (and-right (isTag (f .tag)) (sound-text (f .form)) good) (and-left (isTag (f .tag)) (sound-text (f .form)) good) (x .place) (omega (arith, x .is)) (x .newline) in
-        let d = past-dots (gap (f .form)) (o + length (f .form) + 1) (10 ∷ rows fs) (behind-from (f .form) (f .tag) o (tail f fs) h) (x .place) j (x .newline) in
-        over (r (omega (arith, x .is)) (inr x))
+    by : (t : Bool) → eqb o n ≡ t → (end f o ≤ n → Row-there (n + 1) fs) → Row-there (n + 1) (f ∷ fs)
+    by true i r = record { of = f; among = here; stands = subst (λ (x : ℕ). Stands (f .form) (f .tag) (x + 1)) (eqb-true o n i) (row-stands f fs o h) }
+    by false i r =
+        let a = not-here o n g (eqb-false o n i) in
+        let b = past-row (f .form) (f .tag) (o + 1) (tail f fs) (text-from f fs o h) (and-right (isTag (f .tag)) (sound-text (f .form)) good) (and-left (isTag (f .tag)) (sound-text (f .form)) good) n a e in
+        over (r (past-dots (gap (f .form)) (o + 1 + length (f .form) + 1) (rows fs) (dots-from f fs o h) n b e))
 
 -- a place like the first
 pub start-of : (q : ℕ) → like 1 q ≡ true → Start q
@@ -191,5 +196,7 @@ start-of q h =
 pub like-start-of : (q : ℕ) → Start q → like 1 q ≡ true
 like-start-of q s = rw (s .is) (like-newline 0 (s .place) first-newline (s .newline))
 
-pub row-from : (q : ℕ) → like 1 q ≡ true → 1 ≤ q → 1 ≤ letterAt q → Row-there q forms
-row-from q h g k = row-there forms all-sound 1 q table-from g k (inr (start-of q h))
+pub row-from : (q : ℕ) → like 1 q ≡ true → Row-there q forms
+row-from q h =
+    let x = start-of q h in
+    subst (λ (p : ℕ). Row-there p forms) (sym (x .is)) (row-there forms all-sound 0 (x .place) table-from (omega arith) (x .newline))

@@ -10,15 +10,15 @@ use native.Mathlib.Numerals.{add-one}
 use borrow.Author.Tests.{eqb-true, eq-eqb, ltb-true, ltb-false}
 use lib.Dec.{eqb, ltb}
 use Rattle.lines.specs.Reading.{size, letterAt, like, takes, seekIn, left, isMark, isTag}
-use Rattle.lines.proofs.Classes.{differ, and-left, and-right, and-both, tag-some, mark-some}
-use Rattle.lines.proofs.Places.{within, zero-like, like-zero, Before, before, like-next, like-newline, seek-here}
+use Rattle.lines.proofs.Classes.{differ, and-left, and-right, and-both, or-split, tag-some, mark-some}
+use Rattle.lines.proofs.Places.{within, zero-like, like-zero, Before, before, like-next, like-newline, seek-here, seek-end, seek-nowhere}
 
 -- p at every number below n
-all : ℕ → (ℕ → Bool) → Bool
+unfoldable pub all : ℕ → (ℕ → Bool) → Bool
 all zero f = true
 all (suc n) f = f n && all n f
 
-all-at : (n : ℕ) (f : ℕ → Bool) → all n f ≡ true → (i : ℕ) → i < n → f i ≡ true
+pub all-at : (n : ℕ) (f : ℕ → Bool) → all n f ≡ true → (i : ℕ) → i < n → f i ≡ true
 unfolding all
 all-at zero f h i g = absurd (omega arith)
 all-at (suc n) f h i g = by (λ x. all-at n f (and-right (f n) (all n f) h) i x) (ltb i n) refl
@@ -54,6 +54,10 @@ lone-all : all size loneAt ≡ true
 unfolding all size letterAt like
 lone-all = refl
 
+some-all : all size (λ p. ltb 0 (letterAt p)) ≡ true
+unfolding all size letterAt
+some-all = refl
+
 parted-all : all size partedAt ≡ true
 unfolding all size letterAt
 parted-all = refl
@@ -67,11 +71,43 @@ like-itself : (p : ℕ) → like (suc p) (suc p) ≡ true
 like-itself zero = like-newline 0 0 first-newline first-newline
 like-itself (suc p) = subst (λ (k : ℕ). like k k ≡ true) (add-one (suc p)) (like-next (suc p) (suc p) (like-itself p) refl)
 
+beyond-table : (p : ℕ) → letterAt p ≡ 0 → size ≤ p
+beyond-table p e = by (ltb p size) refl
+  where
+    by : (t : Bool) → ltb p size ≡ t → size ≤ p
+    by true h = absurd (omega (arith, ltb-true 0 (letterAt p) (all-at size (λ (p : ℕ). ltb 0 (letterAt p)) some-all p (ltb-true p size h))))
+    by false h = ltb-false p size h
+
+-- nothing is looked for from the place 0, or past the table
+pub seek-stops : (p b c : ℕ) → c ≡ letterAt p → eqb p 0 || eqb c 0 ≡ true → seekIn (left p) p b p ≡ 0
+seek-stops p b c e h = by (or-split (eqb p 0) (eqb c 0) h)
+  where
+    by : (eqb p 0 ≡ true) ⊎ (eqb c 0 ≡ true) → seekIn (left p) p b p ≡ 0
+    by (inl x) = ap (λ (k : ℕ). seekIn (left k) k b k) (eqb-true p 0 x) ∙ seek-nowhere (left 0) b 0
+    by (inr x) = seek-end p b p (beyond-table p (sym e ∙ eqb-true c 0 x))
+
+or-none : (a b : Bool) → a || b ≡ false → (a ≡ false) × (b ≡ false)
+or-none false b h = (refl, h)
+or-none true b h = differ h
+
+some-letter : (p c : ℕ) → c ≡ letterAt p → eqb c 0 ≡ false → p < size
+some-letter p zero e h = differ h
+some-letter p (suc c) e h = within p (omega arith)
+
+pub in-table : (p c : ℕ) → c ≡ letterAt p → 0 < c → p < size
+in-table p c e h = within p (omega arith)
+
+pub in-place : (p c : ℕ) → c ≡ letterAt p → eqb p 0 || eqb c 0 ≡ false → p < size
+in-place p c e h = some-letter p c e (or-none (eqb p 0) (eqb c 0) h .1)
+
+pub at-end : (p c : ℕ) → c ≡ letterAt p → c ≤ 0 → size ≤ p
+at-end p c e h = beyond-table p (omega arith)
+
 pub seek-itself :
-    (p b c : ℕ) (t : Bool) → (p ≡ 0 → ⊥) → p < size → c ≡ letterAt p → t ≡ takes c b → t ≡ true → seekIn (left p) p b p ≡ p + 1
-seek-itself zero b c t n h e f g = absurd (n refl)
-seek-itself (suc p) b c t n h e f g =
-    seek-here (suc p) b (suc p) h
+    (p b c : ℕ) (t : Bool) → c ≡ letterAt p → eqb p 0 || eqb c 0 ≡ false → t ≡ takes c b → t ≡ true → seekIn (left p) p b p ≡ p + 1
+seek-itself zero b c t e h f g = differ (or-none (eqb 0 0) (eqb c 0) h .0)
+seek-itself (suc p) b c t e h f g =
+    seek-here (suc p) b (suc p) (in-place (suc p) c e h)
     (and-both (like (suc p) (suc p)) (takes (letterAt (suc p)) b) (like-itself p) (ap (λ (x : ℕ). takes x b) (sym e) ∙ sym f ∙ g))
 
 -- ---- the rules

@@ -66,18 +66,18 @@ forms =
     ∷ row "call=fold number=#" "F" (λ n. calls (machine.foldTo n))
     ∷ []
 
--- ---- the table as the code has it: a newline, and for each row 64 bytes: its text, its tag, dots and a newline
+-- ---- the table as the code has it: for each row 64 letters, a newline, its text, its tag and dots
 abbrev pub bytes : List Token → List ℕ
 bytes [] = []
 bytes (k ∷ f) = byteOf k ∷ bytes f
 
--- a form of 62 letters has none
+-- a form of 62 letters has no dots
 abbrev pub gap : List Token → ℕ
 gap f = 62 - length f
 
 abbrev pub rows : List Form → List ℕ
 rows [] = []
-rows (f ∷ fs) = bytes (f .form) ++ (f .tag ∷ (replicate (gap (f .form)) 46 ++ (10 ∷ rows fs)))
+rows (f ∷ fs) = 10 ∷ (bytes (f .form) ++ (f .tag ∷ (replicate (gap (f .form)) 46 ++ rows fs)))
 
 abbrev pub table : List ℕ
-table = 10 ∷ rows forms
+table = rows forms

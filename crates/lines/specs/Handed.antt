@@ -48,7 +48,8 @@ abbrev pub Small : List Pair → Type 0
 Small [] = T true
 Small (p ∷ ps) = (p .path ≤ 65535) × (p .value ≤ 65535) × Small ps
 
-pub record Hands (x : Asked) (r : Line) : Type 0 where
+-- the line r, read in the room m
+pub record Hands (x : Asked) (r : Line) (m : List ℕ) : Type 0 where
   pub calls : r .call ≡ callFor x
-  pub bytes : take (r .length) (r .pairs) ≡ pairsFor x
+  pub bytes : take (r .length) m ≡ pairsFor x
   pub small : Small (pairsIn x)

@@ -1,12 +1,13 @@
--- How a line is read, byte by byte, in a state of a few numbers: the code's own steps as definitions. A reader stands at a
--- place of the table: the text of that row before the place is what the line so far has, and every row from there on with
--- the same text may still be the line's. That this reads just what the grammar says is proved in `proofs/Readable.antt`.
+-- How a line is read, byte by byte, in a state of a few numbers and a room of twenty bytes: the code's own steps as
+-- definitions. A reader stands at a place of the table: the text of that row before the place is what the line so far has,
+-- and every row from there on with the same text may still be the line's. The room has the numbers that ended, two bytes
+-- each. That this reads just what the grammar says is proved in `proofs/Readable.antt`.
 -- Assumes nothing.
 use Prim.Native.Nat.{ℕ, zero, suc, _+_, _-_, _*_, _/_, _%_}
 use mathlib.Core.List.{List, [], _∷_, foldl}
 use mathlib.Core.Bool.{Bool, true, false, cond, _&&_, _||_}
 use lib.Dec.{eqb, ltb, leb}
-use lib.ListN.{length, getD, set, replicate}
+use lib.ListN.{length, getD, set}
 use Rattle.lines.specs.declared.reading.Reader.{Reader}
 use Rattle.lines.specs.declared.reading.Line.{Line}
 use Rattle.lines.specs.declared.reading.Call.{Call}
@@ -18,6 +19,10 @@ use Rattle.lines.specs.Grammar.{isWord}
 -- ---- places of the table
 unfoldable pub size : ℕ
 size = length table
+
+-- the letter of a row with the text t, its tag behind it, in a column: a newline comes before, dots come behind
+abbrev pub cell : List ℕ → ℕ → ℕ
+cell t j = cond (eqb j 0) 10 (getD t (j - 1) 46)
 
 unfoldable pub letterAt : ℕ → ℕ
 letterAt p = getD table p 0
@@ -74,10 +79,10 @@ past c s p = cond (isMark c) (cond (mayEnd c s) (p + 1) 0) (cond (eqb s 0) p 0)
 
 -- ---- the reader
 abbrev pub placed : Reader → ℕ → Reader
-placed r p = record { at = p; sub = 0; value = r .value; count = r .count; numbers = r .numbers }
+placed r p = record { at = p; sub = 0; value = r .value; used = r .used }
 
 abbrev pub begun : Reader → ℕ → ℕ → Reader
-begun r s d = record { at = r .at; sub = s; value = d; count = r .count; numbers = r .numbers }
+begun r s d = record { at = r .at; sub = s; value = d; used = r .used }
 
 -- a further digit; a number above 65,535 is unreadable
 abbrev pub grownIf : Bool → Reader → ℕ → Reader
@@ -87,45 +92,7 @@ grownIf false r v = placed r 0
 abbrev pub grown : Reader → ℕ → Reader
 grown r d = grownIf (leb (10 * r .value + d) 65535) r (10 * r .value + d)
 
--- a number that has ended is kept, if it is one of the first ten
-abbrev pub storedIf : Bool → Reader → Reader
-storedIf true r = record { at = r .at; sub = r .sub; value = r .value; count = r .count + 1; numbers = set (r .numbers) (r .count) (r .value) }
-storedIf false r = r
-
-abbrev pub stored : Reader → Reader
-stored r = storedIf (ltb (r .count) 10) r
-
-abbrev pub kept : Reader → Reader
-kept r = cond (inside (r .sub)) (stored r) r
-
-abbrev pub withDigit : Reader → ℕ → Reader
-withDigit r d = cond (isMark (letterAt (r .at))) (cond (inside (r .sub)) (grown r d) (begun r (begins (r .sub)) d)) (placed r 0)
-
-abbrev pub parted : Reader → ℕ → Reader
-parted r s = begun r s 0
-
--- the letter b in a row's text from p on
-abbrev pub spelt : ℕ → ℕ → ℕ
-spelt p b = cond (isWord b) (seek p b) 0
-
-abbrev pub withText : Reader → ℕ → Reader
-withText r b =
-    cond (eqb (parts (letterAt (r .at)) (r .sub) b) 0)
-    (placed (kept r) (spelt (past (letterAt (r .at)) (r .sub) (r .at)) b))
-    (parted (stored r) (parts (letterAt (r .at)) (r .sub) b))
-
--- one byte more
-unfoldable pub pushed : Reader → ℕ → Reader
-pushed r b = cond (isDigit b) (withDigit r (b - 48)) (withText r b)
-
-abbrev pub fresh : Reader
-fresh = record { at = 1; sub = 0; value = 0; count = 0; numbers = replicate 10 0 }
-
--- ---- the line's end
--- the tag before a place; 0 where there is none
-abbrev pub tagBefore : ℕ → ℕ
-tagBefore e = cond (eqb e 0) 0 (letterAt (e - 1))
-
+-- ---- the room
 abbrev pub low : ℕ → ℕ
 low n = n % 256
 
@@ -137,43 +104,101 @@ unfoldable pub twoBytes : List ℕ → List ℕ
 twoBytes [] = []
 twoBytes (n ∷ ns) = low n ∷ high n ∷ twoBytes ns
 
--- the first ten elements, 0 where there are fewer
-abbrev pub ten : List ℕ → List ℕ
-ten l =
-    getD l 0 0 ∷ getD l 1 0 ∷ getD l 2 0 ∷ getD l 3 0 ∷ getD l 4 0 ∷ getD l 5 0 ∷ getD l 6 0 ∷ getD l 7 0 ∷ getD l 8 0 ∷ getD l 9 0 ∷ []
+-- a number that has ended is kept, if the room has two bytes left
+abbrev pub storedIf : Bool → Reader → Reader
+storedIf true r = record { at = r .at; sub = r .sub; value = r .value; used = r .used + 2 }
+storedIf false r = r
 
-abbrev pub plain : Call → Line
-plain c = record { call = c; pairs = replicate 20 0; length = 0 }
+abbrev pub stored : Reader → Reader
+stored r = storedIf (ltb (r .used) 19) r
 
--- the bytes of n numbers, ten at most
-abbrev pub bytesOf : ℕ → ℕ
-bytesOf n = cond (ltb n 10) (2 * n) 20
+abbrev pub storedIn : Reader → List ℕ → List ℕ
+storedIn r m = cond (ltb (r .used) 19) (set (set m (r .used) (low (r .value))) (r .used + 1) (high (r .value))) m
 
-abbrev pub withPairs : Reader → Line
-withPairs r = record { call = call.Append; pairs = twoBytes (ten (r .numbers)); length = bytesOf (r .count) }
+abbrev pub kept : Reader → Reader
+kept r = cond (inside (r .sub)) (stored r) r
 
--- the call that a tag stands for, with its numbers
-unfoldable pub callOf : (t a b c d e : ℕ) → Call
-callOf t a b c d e =
-    cond (eqb t 67) (call.Connect a)
-    (cond (eqb t 68) (call.Disconnect a)
-    (cond (eqb t 77) (call.Master a)
-    (cond (eqb t 82) (call.Rollback a)
-    (cond (eqb t 83) call.Start
-    (cond (eqb t 84) call.Stop (cond (eqb t 89) (call.Sync a) (cond (eqb t 87) (call.Work a b c d e) (cond (eqb t 70) (call.Fold a) call.Unreadable))))))))
+abbrev pub keptIn : Reader → List ℕ → List ℕ
+keptIn r m = cond (inside (r .sub)) (storedIn r m) m
 
-abbrev pub numbersOf : ℕ → List ℕ → Call
-numbersOf t n = callOf t (getD n 0 0) (getD n 1 0) (getD n 2 0) (getD n 3 0) (getD n 4 0)
+-- ---- one byte more
+abbrev pub withDigit : Reader → ℕ → Reader
+withDigit r d = cond (isMark (letterAt (r .at))) (cond (inside (r .sub)) (grown r d) (begun r (begins (r .sub)) d)) (placed r 0)
 
-abbrev pub lineOf : ℕ → Reader → Line
-lineOf t r = cond (eqb t 65) (withPairs r) (plain (numbersOf t (r .numbers)))
+-- the letter b in a row's text from p on
+abbrev pub spelt : ℕ → ℕ → ℕ
+spelt p b = cond (isWord b) (seek p b) 0
+
+abbrev pub withText : Reader → ℕ → Reader
+withText r b =
+    cond (eqb (parts (letterAt (r .at)) (r .sub) b) 0)
+    (placed (kept r) (spelt (past (letterAt (r .at)) (r .sub) (r .at)) b))
+    (begun (kept r) (parts (letterAt (r .at)) (r .sub) b) 0)
+
+unfoldable pub pushed : Reader → ℕ → Reader
+pushed r b = cond (isDigit b) (withDigit r (b - 48)) (withText r b)
+
+abbrev pub pushedIn : Reader → ℕ → List ℕ → List ℕ
+pushedIn r b m = cond (isDigit b) m (keptIn r m)
+
+abbrev pub stepped : Reader × List ℕ → ℕ → Reader × List ℕ
+stepped x b = (pushed (x .0) b, pushedIn (x .0) b (x .1))
+
+abbrev pub fresh : Reader
+fresh = record { at = 1; sub = 0; value = 0; used = 0 }
+
+-- ---- the line's end
+-- the tag before a place; 0 where there is none
+abbrev pub tagBefore : ℕ → ℕ
+tagBefore e = cond (eqb e 0) 0 (letterAt (e - 1))
 
 abbrev pub tagOf : Reader → ℕ
 tagOf r = tagBefore (seek (past (letterAt (r .at)) (r .sub) (r .at)) 10)
 
-abbrev pub finished : Reader → Line
-finished r = lineOf (tagOf r) (kept r)
+-- the number at a place of a room of which u bytes are used
+abbrev pub numberIn : ℕ → List ℕ → ℕ → ℕ
+numberIn u m at = cond (ltb at u) (getD m at 0 + 256 * getD m (at + 1) 0) 0
 
--- a whole line
-abbrev pub said : List ℕ → Line
-said l = finished (foldl pushed fresh l)
+-- the call that a tag stands for, with its numbers
+unfoldable pub callOf : (t a b c d e : ℕ) → Call
+callOf t a b c d e =
+    cond (eqb t 65) call.Append
+    (cond (eqb t 67) (call.Connect a)
+    (cond (eqb t 68) (call.Disconnect a)
+    (cond (eqb t 77) (call.Master a)
+    (cond (eqb t 82) (call.Rollback a)
+    (cond (eqb t 83) call.Start
+    (cond (eqb t 84) call.Stop
+    (cond (eqb t 89) (call.Sync a)
+    (cond (eqb t 87) (call.Work a b c d e)
+    (cond (eqb t 70) (call.Fold a)
+    call.Unreadable)))))))))
+
+-- the bytes of the room that are lent on: all there are, at most
+abbrev pub bytesOf : ℕ → ℕ
+bytesOf u = cond (ltb u 20) u 20
+
+-- the bytes that go with a call: those of an append's pairs
+abbrev pub lengthOf : ℕ → ℕ → ℕ
+lengthOf t u = cond (eqb t 65) (bytesOf u) 0
+
+abbrev pub lineOf : ℕ → ℕ → List ℕ → Line
+lineOf t u m =
+    record {
+      call = callOf t (numberIn u m 0) (numberIn u m 2) (numberIn u m 4) (numberIn u m 6) (numberIn u m 8);
+      length = lengthOf t u;
+    }
+
+abbrev pub finished : Reader → List ℕ → Line
+finished r m = lineOf (tagOf r) (kept r .used) (keptIn r m)
+
+-- ---- a whole line, read in the room m
+abbrev pub ran : List ℕ → List ℕ → Reader × List ℕ
+ran m l = foldl stepped (fresh, m) l
+
+abbrev pub said : List ℕ → List ℕ → Line
+said m l = finished (ran m l .0) (ran m l .1)
+
+-- the room behind it
+abbrev pub saidIn : List ℕ → List ℕ → List ℕ
+saidIn m l = keptIn (ran m l .0) (ran m l .1)

@@ -1,39 +1,25 @@
-// A call's line, read byte by byte in a state of a few numbers: a line of any length needs no more memory. What can be read
-// is the table of forms; a new line is a new row of it, and an arm of `call_of` that hands its numbers on.
+// A call's line, read byte by byte in a state of a few numbers and a room that the caller lends: a line of any length needs no
+// more memory. What can be read is the table of forms; a new line is a new row of it, and an arm of `call_of` that hands its
+// numbers on.
 ghost use mathlib.Core.Path.{_≡_};
+ghost use Prim.Native.Nat.{_<_};
 ghost use Rattle.lines.specs.Grammar.{isWord};
-ghost use Rattle.lines.specs.Reading.{letterAt, isMark, isTag, like, takes, goes, seek, inside, begins, parts, mayEnd, past, placed, begun, grown, stored, kept, withDigit, spelt, withText, tagBefore, twoBytes, ten, plain, bytesOf, withPairs, callOf, lineOf};
+ghost use Rattle.lines.specs.Reading.{cell, letterAt, isMark, isTag, like, takes, goes, seek, inside, begins, parts, mayEnd, past, placed, begun, grown, stored, storedIn, kept, keptIn, withDigit, spelt, withText, tagBefore, numberIn, bytesOf, callOf, lineOf};
 ghost use Rattle.lines.specs.Promises.{StartsFresh, Pushes, Finishes, ReadsLine};
 
-// The columns of the table, with the newline.
+// The letters of a row of the table: letters in one column of two rows are so far apart.
 const WIDTH: usize = 64;
 
-// A row for each form: its text, in which `#` is a number and `%` are pairs, its tag, and dots up to the last column. Letters
-// of two rows that stand in one column are `WIDTH` apart.
-const FORMS: [u8; 641] = *b"
-call=append pairs=%A...........................................
-call=connect node=#C...........................................
-call=disconnect node=#D........................................
-call=master node=#M............................................
-call=rollback number=#R........................................
-call=startS....................................................
-call=stopT.....................................................
-call=sync node=#Y..............................................
-call=work node=# job=# number=# outcome=# cut=#W...............
-call=fold number=#F............................................
-";
-
 // Where the line so far leads: a place of the table; how much has come of what a mark there takes; the number that is being
-// read; the first ten numbers that ended.
+// read; how many bytes of the room the numbers take that ended.
 pub struct Reader {
     at: usize,
     sub: u8,
     value: u16,
-    count: usize,
-    numbers: [u16; 10],
+    used: usize,
 }
 
-// What a line asks for, with its numbers; the pairs of an append stand beside it, in `Line`.
+// What a line asks for, with its numbers; the pairs of an append stand in the room.
 pub enum Call {
     Unreadable,
     Append,
@@ -54,21 +40,47 @@ pub enum Call {
     Fold(u16),
 }
 
-// A line that was read. The first `length` bytes of `pairs` are the pairs of an append, the first five of them at most, four
+// A line that was read. The pairs of an append, the first five of them at most, are the first `length` bytes of the room, four
 // bytes each: path and value, low byte first. Five are refused as more are, so that no answer tells the difference.
 pub struct Line {
     pub call: Call,
-    pub pairs: [u8; 20],
     pub length: usize,
 }
 
+// A row's letter in a column: a newline comes before its text, dots come behind it.
+fn cell(text: &[u8], column: usize) -> u8
+    ensures { λ r. ⌜ r ≡ cell (now (text .entry)) column ⌝ }
+{
+    if column == 0 {
+        return 10;
+    }
+    let i = column - 1;
+    if i < text.len() {
+        return text[i];
+    }
+    46
+}
+
+// The letter at a place of the table of forms: a row for each, with its text, in which `#` is a number and `%` are pairs, and
+// its tag; 0 past the table.
 fn letter(at: usize) -> u8
     ensures { λ r. ⌜ r ≡ letterAt at ⌝ }
 {
-    if at < FORMS.len() {
-        return FORMS[at];
+    let row = at / WIDTH;
+    let column = at % WIDTH;
+    match row {
+        0 => cell(b"call=append pairs=%A", column),
+        1 => cell(b"call=connect node=#C", column),
+        2 => cell(b"call=disconnect node=#D", column),
+        3 => cell(b"call=master node=#M", column),
+        4 => cell(b"call=rollback number=#R", column),
+        5 => cell(b"call=startS", column),
+        6 => cell(b"call=stopT", column),
+        7 => cell(b"call=sync node=#Y", column),
+        8 => cell(b"call=work node=# job=# number=# outcome=# cut=#W", column),
+        9 => cell(b"call=fold number=#F", column),
+        _ => 0,
     }
-    0
 }
 
 fn is_mark(c: u8) -> bool
@@ -122,10 +134,11 @@ fn takes(c: u8, b: u8) -> bool
     c == b
 }
 
-fn goes(p: usize, b: u8, q: usize) -> bool
+fn goes(p: usize, q: usize, c: u8, b: u8) -> bool
+    requires { ⌜ c ≡ letterAt q ⌝ }
     ensures { λ r. ⌜ r ≡ goes p b q ⌝ }
 {
-    if takes(letter(q), b) {
+    if takes(c, b) {
         return like(p, q);
     }
     false
@@ -135,20 +148,20 @@ fn goes(p: usize, b: u8, q: usize) -> bool
 fn seek(p: usize, b: u8) -> usize
     ensures { λ r. ⌜ r ≡ seek p b ⌝ }
 {
-    if p == 0 {
+    let mut c = letter(p);
+    if (p == 0) | (c == 0) {
         return 0;
     }
-    if p < FORMS.len() {
-        if takes(letter(p), b) {
-            return p + 1;
-        }
+    if takes(c, b) {
+        return p + 1;
     }
     let mut q = p;
-    while q < FORMS.len() {
-        if goes(p, b, q) {
+    while 0 < c {
+        if goes(p, q, c, b) {
             return q + 1;
         }
         q += WIDTH;
+        c = letter(q);
     }
     0
 }
@@ -231,26 +244,28 @@ fn grown(r: Reader, d: u8) -> Reader
     placed(r, 0)
 }
 
-fn stored(r: Reader) -> Reader
-    ensures { λ q. ⌜ q ≡ stored r ⌝ }
+// The number that was being read is put into the room, in two bytes, the low one first, if there are two.
+fn stored(r: Reader, room: &mut [u8; 20]) -> Reader
+    ensures { λ q. ⌜ (q ≡ stored r) × (now (room .exit) ≡ storedIn r (now (room .entry))) ⌝ }
 {
-    let k = r.count;
-    if k < 10 {
+    let k = r.used;
+    if k < 19 {
         let v = r.value;
+        room[k] = (v % 256) as u8;
+        room[k + 1] = (v / 256 % 256) as u8;
         let mut next = r;
-        next.numbers[k] = v;
-        next.count = k + 1;
+        next.used = k + 2;
         return next;
     }
     r
 }
 
-// The number that was being read has ended.
-fn kept(r: Reader) -> Reader
-    ensures { λ q. ⌜ q ≡ kept r ⌝ }
+// The number that was being read, if there is one, has ended.
+fn kept(r: Reader, room: &mut [u8; 20]) -> Reader
+    ensures { λ q. ⌜ (q ≡ kept r) × (now (room .exit) ≡ keptIn r (now (room .entry))) ⌝ }
 {
     if inside(r.sub) {
-        return stored(r);
+        return stored(r, room);
     }
     r
 }
@@ -276,40 +291,39 @@ fn spelt(p: usize, b: u8) -> usize
     0
 }
 
-fn with_text(r: Reader, b: u8) -> Reader
-    ensures { λ q. ⌜ q ≡ withText r b ⌝ }
+fn with_text(r: Reader, room: &mut [u8; 20], b: u8) -> Reader
+    ensures { λ q. ⌜ (q ≡ withText r b) × (now (room .exit) ≡ keptIn r (now (room .entry))) ⌝ }
 {
     let s = parts(letter(r.at), r.sub, b);
+    let to = spelt(past(r.sub, r.at), b);
+    let next = kept(r, room);
     if s == 0 {
-        let to = spelt(past(r.sub, r.at), b);
-        return placed(kept(r), to);
+        return placed(next, to);
     }
-    begun(stored(r), s, 0)
+    begun(next, s, 0)
 }
 
 // A reader at a line's start.
 pub fn fresh() -> Reader
     ensures { λ r. ⌜ StartsFresh r ⌝ }
 {
-    let numbers = [0u16; 10];
     Reader {
         at: 1,
         sub: 0,
         value: 0,
-        count: 0,
-        numbers,
+        used: 0,
     }
 }
 
 // The reader after one byte more of the line.
-pub fn push(r: Reader, b: u8) -> Reader
-    ensures { λ q. ⌜ Pushes r b q ⌝ }
+pub fn push(r: Reader, room: &mut [u8; 20], b: u8) -> Reader
+    ensures { λ q. ⌜ Pushes r (now (room .entry)) b q (now (room .exit)) ⌝ }
 {
     if b < 48 {
-        return with_text(r, b);
+        return with_text(r, room, b);
     }
     if 57 < b {
-        return with_text(r, b);
+        return with_text(r, room, b);
     }
     with_digit(r, b - 48)
 }
@@ -323,65 +337,32 @@ fn tag_before(e: usize) -> u8
     letter(e - 1)
 }
 
-fn two_bytes(n: [u16; 10]) -> [u8; 20]
-    ensures { λ r. ⌜ r ≡ twoBytes (ten n) ⌝ }
+fn wide(x: u8) -> u16
+    ensures { λ r. ⌜ (r ≡ x) × (r < 256) ⌝ }
 {
-    [
-        (n[0] % 256) as u8,
-        (n[0] / 256 % 256) as u8,
-        (n[1] % 256) as u8,
-        (n[1] / 256 % 256) as u8,
-        (n[2] % 256) as u8,
-        (n[2] / 256 % 256) as u8,
-        (n[3] % 256) as u8,
-        (n[3] / 256 % 256) as u8,
-        (n[4] % 256) as u8,
-        (n[4] / 256 % 256) as u8,
-        (n[5] % 256) as u8,
-        (n[5] / 256 % 256) as u8,
-        (n[6] % 256) as u8,
-        (n[6] / 256 % 256) as u8,
-        (n[7] % 256) as u8,
-        (n[7] / 256 % 256) as u8,
-        (n[8] % 256) as u8,
-        (n[8] / 256 % 256) as u8,
-        (n[9] % 256) as u8,
-        (n[9] / 256 % 256) as u8,
-    ]
+    x as u16
 }
 
-fn plain(call: Call) -> Line
-    ensures { λ r. ⌜ r ≡ plain call ⌝ }
+// The number in the two bytes from `at` on, if they are among the `used`; else 0.
+fn number_in(room: &[u8; 20], used: usize, at: usize) -> u16
+    requires { ⌜ at < 19 ⌝ }
+    ensures { λ r. ⌜ r ≡ numberIn used (now (room .entry)) at ⌝ }
 {
-    let pairs = [0u8; 20];
-    Line {
-        call,
-        pairs,
-        length: 0,
+    if at < used {
+        let low = wide(room[at]);
+        let high = wide(room[at + 1]);
+        return low + 256 * high;
     }
+    0
 }
 
 fn bytes_of(n: usize) -> usize
     ensures { λ r. ⌜ r ≡ bytesOf n ⌝ }
 {
-    if n < 10 {
-        return 2 * n;
+    if n < 20 {
+        return n;
     }
     20
-}
-
-fn with_pairs(r: Reader) -> Line
-    ensures { λ q. ⌜ q ≡ withPairs r ⌝ }
-{
-    let numbers = r.numbers;
-    let pairs = two_bytes(numbers);
-    let length = bytes_of(r.count);
-    let call = Call::Append;
-    Line {
-        call,
-        pairs,
-        length,
-    }
 }
 
 // The call that a tag stands for, with its numbers.
@@ -389,6 +370,7 @@ fn call_of(tag: u8, a: u16, b: u16, c: u16, d: u16, e: u16) -> Call
     ensures { λ r. ⌜ r ≡ callOf tag a b c d e ⌝ }
 {
     match tag {
+        b'A' => Call::Append,
         b'C' => Call::Connect(a),
         b'D' => Call::Disconnect(a),
         b'M' => Call::Master(a),
@@ -408,33 +390,42 @@ fn call_of(tag: u8, a: u16, b: u16, c: u16, d: u16, e: u16) -> Call
     }
 }
 
-fn line_of(tag: u8, r: Reader) -> Line
-    ensures { λ q. ⌜ q ≡ lineOf tag r ⌝ }
+fn line_of(tag: u8, used: usize, room: &[u8; 20]) -> Line
+    ensures { λ q. ⌜ q ≡ lineOf tag used (now (room .entry)) ⌝ }
 {
+    let a = number_in(room, used, 0);
+    let b = number_in(room, used, 2);
+    let c = number_in(room, used, 4);
+    let d = number_in(room, used, 6);
+    let e = number_in(room, used, 8);
+    let call = call_of(tag, a, b, c, d, e);
     if tag == b'A' {
-        return with_pairs(r);
+        return Line {
+            call,
+            length: bytes_of(used),
+        };
     }
-    let n = r.numbers;
-    plain(call_of(tag, n[0], n[1], n[2], n[3], n[4]))
+    Line { call, length: 0 }
 }
 
 // What the line says that the reader was given.
-pub fn finish(r: Reader) -> Line
-    ensures { λ q. ⌜ Finishes r q ⌝ }
+pub fn finish(r: Reader, room: &mut [u8; 20]) -> Line
+    ensures { λ q. ⌜ Finishes r (now (room .entry)) q (now (room .exit)) ⌝ }
 {
     let tag = tag_before(seek(past(r.sub, r.at), 10));
-    line_of(tag, kept(r))
+    let last = kept(r, room);
+    line_of(tag, last.used, room)
 }
 
 // What a whole line says.
-pub fn read(line: &[u8]) -> Line
-    ensures { λ r. ⌜ ReadsLine (now (line .entry)) r ⌝ }
+pub fn read(line: &[u8], room: &mut [u8; 20]) -> Line
+    ensures { λ r. ⌜ ReadsLine (now (line .entry)) (now (room .entry)) r (now (room .exit)) ⌝ }
 {
     let mut r = fresh();
     let mut i = 0;
     while i < line.len() {
-        r = push(r, line[i]);
+        r = push(r, room, line[i]);
         i += 1;
     }
-    finish(r)
+    finish(r, room)
 }

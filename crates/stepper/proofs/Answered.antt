@@ -8,5 +8,7 @@ use Rattle.lines.specs.declared.reading.Line.{Line}
 use Rattle.lines.specs.declared.reading.Call.{Call}
 use Rattle.stepper.specs.Answers.{AnswersCall, Answers}
 
-pub asked : (line : Line) (c : Call) (l : List ℕ) (r : Reply) (m : List ℕ) → line .call ≡ c → AnswersCall c (take (line .length) (line .pairs)) l r m → Answers l line r m
-asked line c l r m e p = subst (λ (k : Call). AnswersCall k (take (line .length) (line .pairs)) l r m) (sym e) p
+pub asked :
+    (line : Line) (c : Call) (room l : List ℕ) (r : Reply) (m : List ℕ) → line .call ≡ c → AnswersCall c (take (line .length) room) l r m →
+    Answers l line room r m
+asked line c room l r m e p = subst (λ (k : Call). AnswersCall k (take (line .length) room) l r m) (sym e) p

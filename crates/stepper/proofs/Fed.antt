@@ -14,86 +14,93 @@ use Rattle.machine.specs.Calls.{Call}
 use Rattle.lines.specs.declared.reading.Reader.{Reader}
 use Rattle.lines.specs.Forms.{Asked, calls}
 use Rattle.lines.specs.Grammar.{Says}
-use Rattle.lines.specs.Reading.{fresh, pushed, finished, said}
+use Rattle.lines.specs.Reading.{fresh, pushed, pushedIn, stepped, keptIn, finished, said, saidIn}
 use Rattle.lines.specs.Replies.{replyLine}
 use Rattle.lines.proofs.Classes.{and-left, and-right}
 use Rattle.stepper.specs.declared.Session.{Session}
 use Rattle.stepper.specs.Ended.{waiting, Ends}
-use Rattle.stepper.specs.Fed.{TakesIf, Takes, Feeds, none, next, EndsLast, unbroken, Replied}
+use Rattle.stepper.specs.Fed.{EndsLine, TakesIf, Takes, Feeds, none, next, EndsLast, unbroken, Replied}
 use Rattle.stepper.proofs.Joint.{answers-said, refuses-unsaid}
 use Rattle.stepper.proofs.Waiting.{waits-behind}
 
 -- ---- one byte
 pub newline :
-    (l out : List ℕ) (s : Session) (b n : ℕ) (f : Reader) (m after : List ℕ) → b ≡ 10 → Ends l (finished (s .line)) out (s .used) n m after → f ≡ fresh →
-    Takes l out s b (record { line = f; begun = false; used = n }) m after
-newline l out s b n f m after e x h = rw (eq-eqb b 10 e) (x, h, refl)
+    (l out room : List ℕ) (s : Session) (b n : ℕ) (f : Reader) (m after kept : List ℕ) → b ≡ 10 → EndsLine l out room s n m after →
+    kept ≡ keptIn (s .line) room → f ≡ fresh → Takes l out room s b (record { line = f; begun = false; used = n }) m after kept
+newline l out room s b n f m after kept e x k h = rw (eq-eqb b 10 e) (x, h, refl, k)
 
 pub other :
-    (l out : List ℕ) (s : Session) (b : ℕ) (f : Reader) → (b ≡ 10 → ⊥) → f ≡ pushed (s .line) b →
-    Takes l out s b (record { line = f; begun = true; used = s .used }) l out
-other l out s b f e h = rw (ne-eqb b 10 e) (ap (λ (x : Reader). record { line = x; begun = true; used = s .used }) h, refl, refl)
+    (l out room : List ℕ) (s : Session) (b : ℕ) (f : Reader) (kept : List ℕ) → (b ≡ 10 → ⊥) → f ≡ pushed (s .line) b → kept ≡ pushedIn (s .line) b room →
+    Takes l out room s b (record { line = f; begun = true; used = s .used }) l out kept
+other l out room s b f kept e h k = rw (ne-eqb b 10 e) (ap (λ (x : Reader). record { line = x; begun = true; used = s .used }) h, refl, refl, k)
 
 -- ---- the input's end
 pub last-line :
-    (l out : List ℕ) (s : Session) (end : ℕ) (m after : List ℕ) → s .begun ≡ true → Ends l (finished (s .line)) out (s .used) end m after →
-    EndsLast l out s end m after
-last-line l out s end m after e x = rw e x
+    (l out room : List ℕ) (s : Session) (end : ℕ) (m after kept : List ℕ) → s .begun ≡ true → EndsLine l out room s end m after →
+    kept ≡ keptIn (s .line) room → EndsLast l out room s end m after kept
+last-line l out room s end m after kept e x k = rw e (x, k)
 
-pub no-line : (l out : List ℕ) (s : Session) → s .begun ≡ false → EndsLast l out s (s .used) l out
-no-line l out s e = rw e (refl, refl, refl)
+pub no-line : (l out room : List ℕ) (s : Session) → s .begun ≡ false → EndsLast l out room s (s .used) l out room
+no-line l out room s e = rw e (refl, refl, refl, refl)
 
 -- ---- a byte more
 feeds-more :
-    {l out bs k a : List ℕ} {s r : Session} → Feeds l out s bs r k a → (b : ℕ) (q : Session) (m after : List ℕ) → Takes k a r b q m after →
-    Feeds l out s (bs ++ (b ∷ [])) q m after
-feeds-more none b q m after t = next b t none
-feeds-more (next c u f) b q m after t = next c u (feeds-more f b q m after t)
+    {l out room bs k a n : List ℕ} {s r : Session} → Feeds l out room s bs r k a n → (b : ℕ) (q : Session) (m after kept : List ℕ) →
+    Takes k a n r b q m after kept → Feeds l out room s (bs ++ (b ∷ [])) q m after kept
+feeds-more none b q m after kept t = next b t none
+feeds-more (next c u f) b q m after kept t = next c u (feeds-more f b q m after kept t)
 
 pub fed-more :
-    (l out : List ℕ) (s : Session) (bs : List ℕ) (i : ℕ) (r : Session) (k a : List ℕ) (q : Session) (m after : List ℕ) → i < length bs →
-    Feeds l out s (take i bs) r k a → Takes k a r (getD bs i 0) q m after → Feeds l out s (take (i + 1) bs) q m after
-fed-more l out s bs i r k a q m after h f t =
-    subst (λ (x : List ℕ). Feeds l out s x q m after) (sym (ap (λ (n : ℕ). take n bs) (add-one i) ∙ take-suc bs i 0 h)) (feeds-more f (getD bs i 0) q m after t)
+    (l out room : List ℕ) (s : Session) (bs : List ℕ) (i : ℕ) (r : Session) (k a n : List ℕ) (q : Session) (m after kept : List ℕ) → i < length bs →
+    Feeds l out room s (take i bs) r k a n → Takes k a n r (getD bs i 0) q m after kept → Feeds l out room s (take (i + 1) bs) q m after kept
+fed-more l out room s bs i r k a n q m after kept h f t =
+    subst (λ (x : List ℕ). Feeds l out room s x q m after kept) (sym (ap (λ (n : ℕ). take n bs) (add-one i) ∙ take-suc bs i 0 h))
+    (feeds-more f (getD bs i 0) q m after kept t)
 
 -- all of them
 pub fed-all :
-    (l out : List ℕ) (s : Session) (bs : List ℕ) (i : ℕ) (q : Session) (m after : List ℕ) → length bs ≤ i → Feeds l out s (take i bs) q m after →
-    Feeds l out s bs q m after
-fed-all l out s bs i q m after h f = subst (λ (x : List ℕ). Feeds l out s x q m after) (take-all i bs h) f
+    (l out room : List ℕ) (s : Session) (bs : List ℕ) (i : ℕ) (q : Session) (m after kept : List ℕ) → length bs ≤ i →
+    Feeds l out room s (take i bs) q m after kept → Feeds l out room s bs q m after kept
+fed-all l out room s bs i q m after kept h f = subst (λ (x : List ℕ). Feeds l out room s x q m after kept) (take-all i bs h) f
 
 -- ---- a line and its newline
 not-true : (b : Bool) → not b ≡ true → b ≡ false
 not-true false e = refl
 not-true true e = sym e
 
-line-ends :
-    (t l out : List ℕ) (s q : Session) (m after : List ℕ) → unbroken t ≡ true → Feeds l out s (t ++ (10 ∷ [])) q m after →
-    Ends l (finished (foldl pushed (s .line) t)) out (s .used) (q .used) m after × (q .line ≡ fresh)
-unfolding unbroken
-line-ends [] l out s q m after e (next b u none) = (u .0, u .1)
-line-ends (c ∷ t) l out s q m after e (next {k = k} {a = a} {r = r} b u f) =
-    let v : TakesIf false l out s c r k a = subst (λ (x : Bool). TakesIf x l out s c r k a) (not-true (eqb c 10) (and-left (not (eqb c 10)) (unbroken t) e)) u in
-    let w = line-ends t k a r q m after (and-right (not (eqb c 10)) (unbroken t) e) f in
-    let y = subst (λ (z : Session). Ends k (finished (foldl pushed (z .line) t)) a (z .used) (q .used) m after) (v .0) (w .0) in
-    let z = subst (λ (x : List ℕ). Ends x (finished (foldl pushed (pushed (s .line) c) t)) a (s .used) (q .used) m after) (v .1) y in
-    (subst (λ (x : List ℕ). Ends l (finished (foldl pushed (pushed (s .line) c) t)) x (s .used) (q .used) m after) (v .2) z, w .1)
+-- the bytes t of a line, read on from a reader and its room, have ended
+abbrev EndsRun : List ℕ → List ℕ → Reader × List ℕ → List ℕ → ℕ → ℕ → List ℕ → List ℕ → Type 0
+EndsRun l out x t used end m after =
+    Ends l (finished (foldl stepped x t .0) (foldl stepped x t .1)) (keptIn (foldl stepped x t .0) (foldl stepped x t .1)) out used end m after
 
-module _ (t l out : List ℕ) (s q : Session) (m after : List ℕ) (e : unbroken t ≡ true) (b : s .line ≡ fresh) (f : Feeds l out s (t ++ (10 ∷ [])) q m after) where
+line-ends :
+    (t l out room : List ℕ) (s q : Session) (m after kept : List ℕ) → unbroken t ≡ true → Feeds l out room s (t ++ (10 ∷ [])) q m after kept →
+    EndsRun l out (s .line, room) t (s .used) (q .used) m after × (q .line ≡ fresh)
+unfolding unbroken
+line-ends [] l out room s q m after kept e (next b u none) = (u .0, u .1)
+line-ends (c ∷ t) l out room s q m after kept e (next {k = k} {a = a} {n = n} {r = r} b u f) =
+    let v : TakesIf false l out room s c r k a n = subst (λ (x : Bool). TakesIf x l out room s c r k a n) (not-true (eqb c 10) (and-left (not (eqb c 10)) (unbroken t) e)) u in
+    let w = line-ends t k a n r q m after kept (and-right (not (eqb c 10)) (unbroken t) e) f in
+    let y = subst (λ (z : Session). EndsRun k a (z .line, n) t (z .used) (q .used) m after) (v .0) (w .0) in
+    let z = subst (λ (x : List ℕ). EndsRun k a (pushed (s .line) c, x) t (s .used) (q .used) m after) (v .3) y in
+    let o = subst (λ (x : List ℕ). EndsRun x a (pushed (s .line) c, pushedIn (s .line) c room) t (s .used) (q .used) m after) (v .1) z in
+    (subst (λ (x : List ℕ). EndsRun l x (pushed (s .line) c, pushedIn (s .line) c room) t (s .used) (q .used) m after) (v .2) o, w .1)
+
+module _ (t l out room : List ℕ) (s q : Session) (m after kept : List ℕ) (e : unbroken t ≡ true) (b : s .line ≡ fresh) (f : Feeds l out room s (t ++ (10 ∷ [])) q m after kept) where
   -- the bytes of a line and a newline, taken where a line begins: that line has ended, and a line begins
-  pub line-ended : Ends l (said t) out (s .used) (q .used) m after × (q .line ≡ fresh)
+  pub line-ended : Ends l (said room t) (saidIn room t) out (s .used) (q .used) m after × (q .line ≡ fresh)
   line-ended =
-      let x = line-ends t l out s q m after e f in
-      (subst (λ (r : Reader). Ends l (finished (foldl pushed r t)) out (s .used) (q .used) m after) b (x .0), x .1)
+      let x = line-ends t l out room s q m after kept e f in
+      (subst (λ (r : Reader). EndsRun l out (r, room) t (s .used) (q .used) m after) b (x .0), x .1)
 
   -- where the line says a call, the reply that is decided for that call stands behind the answers that wait
-  pub line-replied : (c : Call) → Says t (calls c) → Replied l out (s .used) c (q .used) m after
-  line-replied c x =
+  pub line-replied : length room ≡ 20 → (c : Call) → Says t (calls c) → Replied l out (s .used) c (q .used) m after
+  line-replied n c x =
       let y = line-ended .0 in
       record {
         reply = y .reply;
-        claims = answers-said t l (y .reply) m (y .answers) c x;
-        waits = waits-behind l (said t) out (s .used) (q .used) m after y;
+        claims = answers-said t room l (y .reply) m (y .answers) n c x;
+        waits = waits-behind l (said room t) (saidIn room t) out (s .used) (q .used) m after y;
       }
 
   -- where it says none, the line of refusal 2 does, and every byte of the image is what it had been
@@ -102,7 +109,7 @@ module _ (t l out : List ℕ) (s q : Session) (m after : List ℕ) (e : unbroken
       (96 ≤ length out → take (q .used) after ≡ take (waiting (length out) (s .used)) out ++ replyLine (refusal 2)) × (m ≡ l)
   line-refused n =
       let y = line-ended .0 in
-      let z = refuses-unsaid t l (y .reply) m (y .answers) n in (
-        λ h. waits-behind l (said t) out (s .used) (q .used) m after y h ∙ ap (λ (r : Reply). take (waiting (length out) (s .used)) out ++ replyLine r) (z .0),
+      let z = refuses-unsaid t room l (y .reply) m (y .answers) n in (
+        λ h. waits-behind l (said room t) (saidIn room t) out (s .used) (q .used) m after y h ∙ ap (λ (r : Reply). take (waiting (length out) (s .used)) out ++ replyLine r) (z .0),
         z .1,
       )

@@ -17,7 +17,7 @@ use Rattle.lines.specs.declared.reading.Call.{Call}
 use Rattle.lines.specs.declared.reading.Call.the-variants.{Unreadable}
 use Rattle.lines.specs.Forms.{Asked, calls}
 use Rattle.lines.specs.Grammar.{flat, pair, Says}
-use Rattle.lines.specs.Reading.{low, high, twoBytes, said}
+use Rattle.lines.specs.Reading.{low, high, twoBytes, said, saidIn}
 use Rattle.lines.specs.Handed.{callFor, pairsIn, pairsFor, Small}
 use Rattle.lines.proofs.Readable.{complete, sound, decides-five}
 use Rattle.controller.specs.Bytes.{pairsOf, pairsIf, appendOf}
@@ -68,19 +68,19 @@ claimed (machine.work n j i o c) x l r m p = p
 claimed (machine.foldTo n) x l r m p = p
 
 -- ---- each line
-module _ (t l : List ℕ) (r : Reply) (m : List ℕ) (p : Answers l (said t) r m) where
+module _ (t room l : List ℕ) (r : Reply) (m : List ℕ) (p : Answers l (said room t) (saidIn room t) r m) where
   -- a line that says a call is answered with that call's outcome
-  pub answers-said : (c : machine.Call) → Says t (calls c) → Claims l c r m
-  answers-said c x =
-      let h = complete x in
+  pub answers-said : length room ≡ 20 → (c : machine.Call) → Says t (calls c) → Claims l c r m
+  answers-said n c x =
+      let h = complete room n x in
       claimed c (h .small) l r m
       (subst (λ (b : List ℕ). AnswersCall (callFor (calls c)) b l r m) (h .bytes)
-      (subst (λ (k : Call). AnswersCall k (take (said t .length) (said t .pairs)) l r m) (h .calls) p))
+      (subst (λ (k : Call). AnswersCall k (take (said room t .length) (saidIn room t)) l r m) (h .calls) p))
 
   -- a line that says none is refused with 2, and every byte is what it had been
   pub refuses-unsaid : ((x : Asked) → Says t x → ⊥) → (r ≡ refusal 2) × (m ≡ l)
-  refuses-unsaid n = by (sound t)
+  refuses-unsaid n = by (sound room t)
     where
-      by : ((x : Asked) × Says t x) ⊎ (said t .call ≡ Unreadable) → (r ≡ refusal 2) × (m ≡ l)
+      by : ((x : Asked) × Says t x) ⊎ (said room t .call ≡ Unreadable) → (r ≡ refusal 2) × (m ≡ l)
       by (inl x) = absurd (n (x .0) (x .1))
-      by (inr e) = subst (λ (k : Call). AnswersCall k (take (said t .length) (said t .pairs)) l r m) e p
+      by (inr e) = subst (λ (k : Call). AnswersCall k (take (said room t .length) (saidIn room t)) l r m) e p

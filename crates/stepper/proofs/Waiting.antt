@@ -27,21 +27,22 @@ module _ (out : List ℕ) (used : ℕ) where
 
 -- ---- the part lent is all that lies behind those that wait
 pub ended :
-    (l : List ℕ) (line read : Line) (out : List ℕ) (used at size : ℕ) (r : Reply) (m rest : List ℕ) → read ≡ line → Answers l read r m → MakesRoom out used at →
+    (l : List ℕ) (line read : Line) (room kept out : List ℕ) (used at size : ℕ) (r : Reply) (m rest : List ℕ) → read ≡ line → kept ≡ room →
+    Answers l read kept r m → MakesRoom out used at →
     Written (take (length out - at) (drop at out)) (replyLine r) size rest →
-    Ends l line out used (at + size) m (take at out ++ (rest ++ drop (length out - at) (drop at out)))
-ended l line read out used at size r m rest e a room w =
-    let n : length (drop at out) ≤ length out - at = omega (arith, length-drop at out) in
+    Ends l line room out used (at + size) m (take at out ++ (rest ++ drop (length out - at) (drop at out)))
+ended l line read room kept out used at size r m rest e k a n w =
+    let s : length (drop at out) ≤ length out - at = omega (arith, length-drop at out) in
     record {
       reply = r;
-      answers = subst (λ (x : Line). Answers l x r m) e a;
+      answers = subst (λ (x : Line). Answers l x room r m) e (subst (λ (x : List ℕ). Answers l read x r m) k a);
       size = size;
       rest = rest;
-      written = subst (λ (x : List ℕ). Written x (replyLine r) size rest) (take-all (length out - at) (drop at out) n ∙ ap (λ (k : ℕ). drop k out) (room .waits)) w;
-      ends = ap (λ (k : ℕ). k + size) (room .waits);
+      written = subst (λ (x : List ℕ). Written x (replyLine r) size rest) (take-all (length out - at) (drop at out) s ∙ ap (λ (k : ℕ). drop k out) (n .waits)) w;
+      ends = ap (λ (k : ℕ). k + size) (n .waits);
       holds =
-          ap (λ (x : List ℕ). take at out ++ (rest ++ x)) (drop-of-length-le (drop at out) n)
-          ∙ ap₂ (λ (k : ℕ) (x : List ℕ). take k out ++ x) (room .waits) (append-nil rest);
+          ap (λ (x : List ℕ). take at out ++ (rest ++ x)) (drop-of-length-le (drop at out) s)
+          ∙ ap₂ (λ (k : ℕ) (x : List ℕ). take k out ++ x) (n .waits) (append-nil rest);
     }
 
 -- ---- in a buffer that has room for an answer, what waits then is what waited, and the reply's line
@@ -53,7 +54,7 @@ room-behind n used h = by (ltb n used) (leb 96 (n - used)) refl refl
     by false true d e = (ltb-false n used d, leb-true 96 (n - used) e)
     by false false d e = (omega arith, omega arith)
 
-module _ (l : List ℕ) (line : Line) (out : List ℕ) (used end : ℕ) (m after : List ℕ) (x : Ends l line out used end m after) where
+module _ (l : List ℕ) (line : Line) (room out : List ℕ) (used end : ℕ) (m after : List ℕ) (x : Ends l line room out used end m after) where
   pub waits-behind : 96 ≤ length out → take end after ≡ take (waiting (length out) used) out ++ replyLine (x .reply)
   waits-behind h =
       let at = waiting (length out) used in

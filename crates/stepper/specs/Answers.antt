@@ -29,9 +29,9 @@ AnswersCall (Sync n) b l r m = Claims l (machine.sync n) r m
 AnswersCall (Work n j i o c) b l r m = Claims l (machine.work n j i o c) r m
 AnswersCall (Fold n) b l r m = Claims l (machine.foldTo n) r m
 
--- the pairs are the first `length` bytes of those that the line holds
-abbrev pub Answers : List ℕ → Line → Reply → List ℕ → Type 0
-Answers l line r m = AnswersCall (line .call) (take (line .length) (line .pairs)) l r m
+-- the pairs are the first `length` bytes of the room
+abbrev pub Answers : List ℕ → Line → List ℕ → Reply → List ℕ → Type 0
+Answers l line room r m = AnswersCall (line .call) (take (line .length) room) l r m
 
 -- ---- no second outcome
 answers-call-only : (c : Call) (b l : List ℕ) (r q : Reply) (m n : List ℕ) → AnswersCall c b l r m → AnswersCall c b l q n → (r ≡ q) × (m ≡ n)
@@ -47,5 +47,6 @@ answers-call-only (Sync i) b l r q m n = both
 answers-call-only (Work i j k o c) b l r q m n = both
 answers-call-only (Fold i) b l r q m n = both
 
-pub answers-only : (l : List ℕ) (line : Line) (r q : Reply) (m n : List ℕ) → Answers l line r m → Answers l line q n → (r ≡ q) × (m ≡ n)
-answers-only l line r q m n = answers-call-only (line .call) (take (line .length) (line .pairs)) l r q m n
+pub answers-only :
+    (l : List ℕ) (line : Line) (room : List ℕ) (r q : Reply) (m n : List ℕ) → Answers l line room r m → Answers l line room q n → (r ≡ q) × (m ≡ n)
+answers-only l line room r q m n = answers-call-only (line .call) (take (line .length) room) l r q m n

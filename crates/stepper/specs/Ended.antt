@@ -21,10 +21,11 @@ pub record MakesRoom (out : List ℕ) (used r : ℕ) : Type 0 where
   pub waits : r ≡ waiting (length out) used
   pub fits : r ≤ length out
 
--- the line on the image l is answered with a reply and leaves m; behind those that wait stands the line of that reply
-pub record Ends (l : List ℕ) (line : Line) (out : List ℕ) (used end : ℕ) (m after : List ℕ) : Type 0 where
+-- the line, with its room, on the image l is answered with a reply and leaves m; behind those that wait stands the line of
+-- that reply
+pub record Ends (l : List ℕ) (line : Line) (room out : List ℕ) (used end : ℕ) (m after : List ℕ) : Type 0 where
   pub reply : Reply
-  pub answers : Answers l line reply m
+  pub answers : Answers l line room reply m
   pub size : ℕ
   pub rest : List ℕ
   pub written : Written (drop (waiting (length out) used) out) (replyLine reply) size rest
@@ -36,10 +37,10 @@ pub makes-room-only : (out : List ℕ) (used r q : ℕ) → MakesRoom out used r
 makes-room-only out used r q a b = one (a .waits) (b .waits)
 
 pub ends-only :
-    (l : List ℕ) (line : Line) (out : List ℕ) (used e f : ℕ) (m n a b : List ℕ) → Ends l line out used e m a → Ends l line out used f n b →
+    (l : List ℕ) (line : Line) (room out : List ℕ) (used e f : ℕ) (m n a b : List ℕ) → Ends l line room out used e m a → Ends l line room out used f n b →
     (e ≡ f) × (m ≡ n) × (a ≡ b)
-ends-only l line out used e f m n a b x y =
-    let s = answers-only l line (x .reply) (y .reply) m n (x .answers) (y .answers) in
+ends-only l line room out used e f m n a b x y =
+    let s = answers-only l line room (x .reply) (y .reply) m n (x .answers) (y .answers) in
     let at = waiting (length out) used in
     let w = subst (λ (r : Reply). Written (drop at out) (replyLine r) (x .size) (x .rest)) (s .0) (x .written) in
     let t = written-only (drop at out) (replyLine (y .reply)) (x .size) (y .size) (x .rest) (y .rest) w (y .written) in

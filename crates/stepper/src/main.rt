@@ -1,14 +1,15 @@
 // The stepper: calls from standard input, one to a line, an answer to a line on standard output, and a closing line (paper:
-// Program and host). It reads and writes by blocks and keeps one image, one block, one buffer of answers and the reader of
-// one line, whatever the input's length and its lines' length.
+// Program and host). It reads and writes by blocks and keeps one image, one block, one buffer of answers, the reader of one
+// line and the room that it is lent, whatever the input's length and its lines' length.
 ghost use Prim.Native.Nat.{_≤_};
-ghost use lib.ListN.{take};
-ghost use Rattle.lines.specs.Reading.{finished};
+ghost use mathlib.Core.Path.{_≡_};
+ghost use lib.ListN.{length, take};
+ghost use Rattle.lines.specs.Reading.{keptIn};
 ghost use Rattle.controller.specs.Bytes.{appendOf};
 ghost use Rattle.controller.specs.Claims.{Claims};
 ghost use Rattle.stepper.specs.Answers.{Answers};
-ghost use Rattle.stepper.specs.Ended.{MakesRoom, Ends};
-ghost use Rattle.stepper.specs.Fed.{Takes, Feeds, EndsLast};
+ghost use Rattle.stepper.specs.Ended.{MakesRoom};
+ghost use Rattle.stepper.specs.Fed.{EndsLine, Takes, Feeds, EndsLast};
 use kinds::Reply;
 use libc::STDIN_FILENO;
 use libc::STDOUT_FILENO;
@@ -28,25 +29,22 @@ struct Turn {
     session: Session,
 }
 
-fn append(image: &mut [u8], pairs: [u8; 20], n: usize) -> Reply
-    requires { ⌜ n ≤ 20 ⌝ }
-    ensures { λ r. ⌜ Claims (now (image .entry)) (appendOf (take n pairs)) r (now (image .exit)) ⌝ }
+fn append(image: &mut [u8], room: &[u8], n: usize) -> Reply
+    requires { ⌜ n ≤ length (now room) ⌝ }
+    ensures { λ r. ⌜ Claims (now (image .entry)) (appendOf (take n (now (room .entry)))) r (now (image .exit)) ⌝ }
 {
-    controller::append(image, &pairs[..n])
+    controller::append(image, &room[..n])
 }
 
-// The call that a line says, made on the image; an unreadable line is refused with 2.
-fn answer(image: &mut [u8], line: Line) -> Reply
-    requires { ⌜ line .length ≤ 20 ⌝ }
-    ensures { λ r. ⌜ Answers (now (image .entry)) line r (now (image .exit)) ⌝ }
+// The call that a line says, made on the image; an append's pairs stand in the room; an unreadable line is refused with 2.
+fn answer(image: &mut [u8], line: Line, room: &[u8]) -> Reply
+    requires { ⌜ line .length ≤ length (now room) ⌝ }
+    ensures { λ r. ⌜ Answers (now (image .entry)) line (now (room .entry)) r (now (image .exit)) ⌝ }
 {
     let call = line.call;
     match call {
         Call::Unreadable => Reply::of(2),
-        Call::Append => {
-            let pairs = line.pairs;
-            append(image, pairs, line.length)
-        }
+        Call::Append => append(image, room, line.length),
         Call::Rollback(number) => controller::rollback(image, number),
         Call::Start => controller::start(image),
         Call::Stop => controller::stop(image),
@@ -66,7 +64,7 @@ fn answer(image: &mut [u8], line: Line) -> Reply
 }
 
 // Writes the answers that wait, if another might not fit behind them; answers how many bytes wait.
-fn room(out: &[u8], used: usize) -> usize
+fn space(out: &[u8], used: usize) -> usize
     ensures { λ r. ⌜ MakesRoom (now (out .entry)) used r ⌝ }
 {
     if out.len() < used {
@@ -87,21 +85,21 @@ fn flush(out: &[u8], used: usize) {
 }
 
 // A line has ended: its call is made, and its answer put behind those that wait.
-fn end_line(image: &mut [u8], out: &mut [u8], s: Session) -> usize
-    ensures { λ r. ⌜ Ends (now (image .entry)) (finished (s .line)) (now (out .entry)) (s .used) r (now (image .exit)) (now (out .exit)) ⌝ }
+fn end_line(image: &mut [u8], out: &mut [u8], room: &mut [u8; 20], s: Session) -> usize
+    ensures { λ r. ⌜ EndsLine (now (image .entry)) (now (out .entry)) (now (room .entry)) s r (now (image .exit)) (now (out .exit)) × (now (room .exit) ≡ keptIn (s .line) (now (room .entry))) ⌝ }
 {
-    let line = lines::finish(s.line);
-    let reply = answer(image, line);
-    let at = room(out, s.used);
+    let line = lines::finish(s.line, room);
+    let reply = answer(image, line, &room[..]);
+    let at = space(out, s.used);
     let n = lines::write_reply(&mut out[at..], reply);
     at + n
 }
 
-fn take_byte(image: &mut [u8], out: &mut [u8], s: Session, b: u8) -> Session
-    ensures { λ r. ⌜ Takes (now (image .entry)) (now (out .entry)) s b r (now (image .exit)) (now (out .exit)) ⌝ }
+fn take_byte(image: &mut [u8], out: &mut [u8], room: &mut [u8; 20], s: Session, b: u8) -> Session
+    ensures { λ r. ⌜ Takes (now (image .entry)) (now (out .entry)) (now (room .entry)) s b r (now (image .exit)) (now (out .exit)) (now (room .exit)) ⌝ }
 {
     if b == b'\n' {
-        let used = end_line(image, out, s);
+        let used = end_line(image, out, room, s);
         let line = lines::fresh();
         return Session {
             line,
@@ -109,7 +107,7 @@ fn take_byte(image: &mut [u8], out: &mut [u8], s: Session, b: u8) -> Session
             used,
         };
     }
-    let line = lines::push(s.line, b);
+    let line = lines::push(s.line, room, b);
     Session {
         line,
         begun: true,
@@ -118,20 +116,20 @@ fn take_byte(image: &mut [u8], out: &mut [u8], s: Session, b: u8) -> Session
 }
 
 // The bytes of one read.
-fn feed(image: &mut [u8], out: &mut [u8], s: Session, block: &[u8]) -> Session
-    ensures { λ r. ⌜ Feeds (now (image .entry)) (now (out .entry)) s (now (block .entry)) r (now (image .exit)) (now (out .exit)) ⌝ }
+fn feed(image: &mut [u8], out: &mut [u8], room: &mut [u8; 20], s: Session, block: &[u8]) -> Session
+    ensures { λ r. ⌜ Feeds (now (image .entry)) (now (out .entry)) (now (room .entry)) s (now (block .entry)) r (now (image .exit)) (now (out .exit)) (now (room .exit)) ⌝ }
 {
     let mut session = s;
     let mut i = 0;
     while i < block.len() {
-        session = take_byte(image, out, session, block[i]);
+        session = take_byte(image, out, room, session, block[i]);
         i += 1;
     }
     session
 }
 
 // Reads once, answers every line that ended, and says whether to go on: who types a line sees its answer.
-fn read_once(image: &mut [u8], out: &mut [u8], s: Session) -> Turn {
+fn read_once(image: &mut [u8], out: &mut [u8], room: &mut [u8; 20], s: Session) -> Turn {
     let mut block = io::large_buffer();
     let got = libc::read(STDIN_FILENO, &mut block);
     if got <= 0 {
@@ -141,7 +139,7 @@ fn read_once(image: &mut [u8], out: &mut [u8], s: Session) -> Turn {
         };
     }
     let n = io::count(got, &block);
-    let fed = feed(image, out, s, &block[..n]);
+    let fed = feed(image, out, room, s, &block[..n]);
     flush(out, fed.used);
     let line = fed.line;
     let session = Session {
@@ -156,7 +154,7 @@ fn read_once(image: &mut [u8], out: &mut [u8], s: Session) -> Turn {
 }
 
 // Nothing says that the input ends, so the reads are counted down, from a number that no run uses up.
-fn read_all(image: &mut [u8], out: &mut [u8]) -> Session {
+fn read_all(image: &mut [u8], out: &mut [u8], room: &mut [u8; 20]) -> Session {
     let line = lines::fresh();
     let mut session = Session {
         line,
@@ -165,7 +163,7 @@ fn read_all(image: &mut [u8], out: &mut [u8]) -> Session {
     };
     let mut reads = u64::MAX;
     while reads > 0 {
-        let turn = read_once(image, out, session);
+        let turn = read_once(image, out, room, session);
         session = turn.session;
         if !turn.more {
             return session;
@@ -176,11 +174,11 @@ fn read_all(image: &mut [u8], out: &mut [u8]) -> Session {
 }
 
 // The last line, if it has no newline; answers how many bytes wait.
-fn end_last(image: &mut [u8], out: &mut [u8], s: Session) -> usize
-    ensures { λ r. ⌜ EndsLast (now (image .entry)) (now (out .entry)) s r (now (image .exit)) (now (out .exit)) ⌝ }
+fn end_last(image: &mut [u8], out: &mut [u8], room: &mut [u8; 20], s: Session) -> usize
+    ensures { λ r. ⌜ EndsLast (now (image .entry)) (now (out .entry)) (now (room .entry)) s r (now (image .exit)) (now (out .exit)) (now (room .exit)) ⌝ }
 {
     if s.begun {
-        return end_line(image, out, s);
+        return end_line(image, out, room, s);
     }
     s.used
 }
@@ -211,7 +209,8 @@ fn main() {
     let mut image = [0u8; controller::IMAGE_LENGTH];
     controller::fresh(&mut image);
     let mut out = [0u8; 65536];
-    let last = read_all(&mut image, &mut out);
-    let used = end_last(&mut image, &mut out, last);
+    let mut room = [0u8; 20];
+    let last = read_all(&mut image, &mut out, &mut room);
+    let used = end_last(&mut image, &mut out, &mut room, last);
     close(&image, &mut out, used);
 }

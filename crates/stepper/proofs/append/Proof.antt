@@ -1,12 +1,9 @@
 -- `append` meets its contract. Assumes nothing.
-use mathlib.Core.Path.{sym}
 use lib.Seq.{length-take-le}
+use mathlib.Core.Path.{sym}
 use borrow.Author.Needs.{needs}
 use Rattle.stepper.proofs.append.Statement.{statement}
 use Rattle.stepper.proofs.append.Tie as tie
-
-array-share-prefix-pairs : tie.Need-array-share-prefix-pairs
-array-share-prefix-pairs c = search needs
 
 slice-aggregate-append : tie.Need-slice-aggregate-append
 slice-aggregate-append c = sym (length-take-le _ _ (search needs))
@@ -21,6 +18,4 @@ returns : tie.Need-returns
 returns c = search needs
 
 pub append-spec : {M : Type 1} → statement M
-append-spec =
-    tie.close
-    (tie.spec array-share-prefix-pairs slice-aggregate-append append-requires same-length returns)
+append-spec = tie.close (tie.spec slice-aggregate-append append-requires same-length returns)

@@ -14,10 +14,10 @@ same-length-2 : tie.Need-same-length-2
 same-length-2 c = search needs
 
 returns : tie.Need-returns
-returns c = last-line _ _ (c .before .before .before .before .before .before .before .before .before .before .args .s) _ _ _ (c .before .before .before .before .before .before .before .if1 .taken) (c .before .before .before .before .end-line .ensures)
+returns c = last-line _ _ _ (c .before .before .before .before .before .before .before .before .before .before .before .args .s) _ _ _ _ (c .before .before .before .before .before .before .before .before .if1 .taken) (c .before .before .before .before .end-line .ensures .0) (c .before .before .before .before .end-line .ensures .1)
 
 returns-2 : tie.Need-returns-2
-returns-2 c = no-line _ _ (c .before .before .before .args .s) (c .if1 .left)
+returns-2 c = no-line _ _ _ (c .before .before .before .args .s) (c .if1 .left)
 
 pub end-last-spec : {M : Type 1} → statement M
 end-last-spec = tie.close (tie.spec end-line-requires same-length same-length-2 returns returns-2)

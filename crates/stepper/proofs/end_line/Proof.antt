@@ -1,6 +1,10 @@
 -- `end_line` meets its contract. Assumes nothing.
-use Rattle.stepper.proofs.Waiting.{ended}
 use Rattle.lines.proofs.Readable.{within}
+use Rattle.stepper.proofs.Waiting.{ended}
+use denote.Ref.{now}
+use native.Mathlib.Omega.{arith}
+use Prim.Native.Nat.{_≤_}
+use mathlib.Core.Path.{ap}
 use borrow.Author.Needs.{needs}
 use Rattle.stepper.proofs.end_line.Statement.{statement}
 use Rattle.stepper.proofs.end_line.Tie as tie
@@ -9,10 +13,10 @@ finish-requires : tie.Need-finish-requires
 finish-requires c κs = search needs
 
 answer-requires : tie.Need-answer-requires
-answer-requires c κs = rw (c .before .finish .ensures) (within (c .before .before .before .before .args .s .line))
+answer-requires c κs = let h : c .before .before .before .finish .result .length ≤ 20 = rw (c .before .before .before .finish .ensures .0) (within (c .before .before .before .before .before .before .before .args .s .line) (now (c .before .before .before .before .before .before .before .args .room))) in omega (arith, c .answer-arg3 .given .0)
 
-room-requires : tie.Need-room-requires
-room-requires c κs = search needs
+space-requires : tie.Need-space-requires
+space-requires c κs = search needs
 
 sub-write-reply : tie.Need-sub-write-reply
 sub-write-reply c = search needs
@@ -36,7 +40,7 @@ same-length-2 : tie.Need-same-length-2
 same-length-2 c = search needs
 
 returns : tie.Need-returns
-returns c = ended _ _ (c .before .before .before .before .before .before .before .before .before .before .finish .result) _ _ _ _ _ _ _ (c .before .before .before .before .before .before .before .before .before .before .finish .ensures) (c .before .before .before .before .before .before .before .before .answer .ensures) (c .before .before .before .before .room .ensures) (c .before .before .write-reply .ensures)
+returns c = (ended _ _ (c .before .before .before .before .before .before .before .before .before .before .before .before .finish .result) _ _ _ _ _ _ _ _ _ (c .before .before .before .before .before .before .before .before .before .before .before .before .finish .ensures .0) (c .before .before .before .before .before .before .before .before .before .before .before .before .finish .ensures .1) (c .before .before .before .before .before .before .before .before .answer .ensures) (c .before .before .before .before .space .ensures) (c .before .before .write-reply .ensures), c .before .before .before .before .before .before .before .before .before .before .before .before .finish .ensures .1)
 
 pub end-line-spec : {M : Type 1} → statement M
 end-line-spec =
@@ -44,7 +48,7 @@ end-line-spec =
     (tie.spec
     finish-requires
     answer-requires
-    room-requires
+    space-requires
     sub-write-reply
     part-write-reply-start
     part-write-reply-end

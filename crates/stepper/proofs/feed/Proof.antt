@@ -1,19 +1,19 @@
--- `feed` takes the bytes of a block one by one; both lent slices keep their lengths. Assumes nothing.
-use Prim.Native.Nat.{_-_, _≤_}
-use mathlib.Core.Path.{_≡_, refl}
-use native.Mathlib.Omega.{arith}
-use lib.ListN.{length, take}
-use Rattle.stepper.specs.Fed.{Feeds, none}
-use Rattle.stepper.proofs.Fed.{fed-more, fed-all}
+-- `feed` takes the bytes of a block one by one; what is lent keeps its length. Assumes nothing.
 use borrow.Author.Needs.{needs}
+use Rattle.stepper.proofs.Fed.{fed-more, fed-all}
+use Rattle.stepper.specs.Fed.{Feeds, none}
+use lib.ListN.{length, take}
+use native.Mathlib.Omega.{arith}
+use mathlib.Core.Path.{_≡_, refl}
+use Prim.Native.Nat.{_-_, _≤_}
 use Rattle.stepper.proofs.feed.Statement.{statement}
 use Rattle.stepper.proofs.feed.Tie as tie
 
 abbrev Inv-loop : tie.InvT-loop
-Inv-loop image₀ out₀ block session₀ i₀ image out session i = (i ≤ length block) × Feeds image₀ out₀ session₀ (take i block) session image out × (length image ≡ length image₀) × (length out ≡ length out₀)
+Inv-loop image₀ out₀ room₀ block session₀ i₀ image out room session i = (i ≤ length block) × Feeds image₀ out₀ room₀ session₀ (take i block) session image out room × (length image ≡ length image₀) × (length out ≡ length out₀)
 
 abbrev μ-loop : tie.MeasureT-loop
-μ-loop image₀ out₀ block session₀ i₀ image out session i = length block - i
+μ-loop image₀ out₀ room₀ block session₀ i₀ image out room session i = length block - i
 
 loop-holds : tie.Need-loop-holds Inv-loop μ-loop
 loop-holds c = (omega arith, none, refl, refl)
@@ -31,7 +31,7 @@ loop-less : tie.Need-loop-less Inv-loop μ-loop
 loop-less c = search needs
 
 loop-again : tie.Need-loop-again Inv-loop μ-loop
-loop-again c = (omega (arith, c .before .before .before .before .before .before .before .before .loop-test .taken), fed-more _ _ _ _ (c .before .before .before .before .before .before .before .before .before .loop .i) _ _ _ _ _ _ (c .before .before .before .before .before .before .before .before .loop-test .taken) (c .before .before .before .before .before .before .before .before .before .loop .inv .1) (c .before .before .before .before .take-byte .ensures), search needs, search needs)
+loop-again c = (omega (arith, c .before .before .before .before .before .before .before .before .before .loop-test .taken), fed-more _ _ _ _ _ (c .before .before .before .before .before .before .before .before .before .before .loop .i) _ _ _ _ _ _ _ _ (c .before .before .before .before .before .before .before .before .before .loop-test .taken) (c .before .before .before .before .before .before .before .before .before .before .loop .inv .1) (c .before .before .before .before .take-byte .ensures), search needs, search needs)
 
 same-length : tie.Need-same-length Inv-loop μ-loop
 same-length c = search needs
@@ -40,7 +40,7 @@ same-length-2 : tie.Need-same-length-2 Inv-loop μ-loop
 same-length-2 c = search needs
 
 returns : tie.Need-returns Inv-loop μ-loop
-returns c = fed-all _ _ _ _ (c .before .loop .i) _ _ _ (c .loop-test .left) (c .before .loop .inv .1)
+returns c = fed-all _ _ _ _ _ (c .before .loop .i) _ _ _ _ (c .loop-test .left) (c .before .loop .inv .1)
 
 pub feed-spec : {M : Type 1} → statement M
 feed-spec =

@@ -6,10 +6,10 @@ use Rattle.stepper.proofs.read_all.Statement.{statement}
 use Rattle.stepper.proofs.read_all.Tie as tie
 
 abbrev Inv-loop : tie.InvT-loop
-Inv-loop image₀ out₀ session₀ reads₀ image out session reads = (length image ≡ length image₀) × (length out ≡ length out₀)
+Inv-loop image₀ out₀ room₀ session₀ reads₀ image out room session reads = (length image ≡ length image₀) × (length out ≡ length out₀)
 
 abbrev μ-loop : tie.MeasureT-loop
-μ-loop image₀ out₀ session₀ reads₀ image out session reads = reads
+μ-loop image₀ out₀ room₀ session₀ reads₀ image out room session reads = reads
 
 fresh-requires : tie.Need-fresh-requires Inv-loop μ-loop
 fresh-requires c κs = search needs

@@ -1,11 +1,7 @@
 -- `bytes_of` meets its contract. Assumes nothing.
 use borrow.Author.Tests.{lt-ltb, le-ltb}
-use borrow.Author.Needs.{needs}
 use Rattle.lines.proofs.reading.bytes_of.Statement.{statement}
 use Rattle.lines.proofs.reading.bytes_of.Tie as tie
-
-mul-result : tie.Need-mul-result
-mul-result c = search needs
 
 returns : tie.Need-returns
 returns c = simp (lt-ltb _ _ (c .if1 .taken))
@@ -14,4 +10,4 @@ returns-2 : tie.Need-returns-2
 returns-2 c = simp (le-ltb _ _ (c .if1 .left))
 
 pub bytes-of-spec : {M : Type 1} → statement M
-bytes-of-spec = tie.close (tie.spec mul-result returns returns-2)
+bytes-of-spec = tie.close (tie.spec returns returns-2)

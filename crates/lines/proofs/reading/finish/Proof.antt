@@ -19,7 +19,7 @@ line-of-requires : tie.Need-line-of-requires
 line-of-requires c κs = search needs
 
 returns : tie.Need-returns
-returns c = rw (c .line-of .ensures, c .before .kept .ensures, c .before .before .tag-before .ensures, c .before .before .before .seek .ensures, c .before .before .before .before .past .ensures)
+returns c = (rw (c .line-of .ensures, c .before .before .kept .ensures .0, c .before .before .kept .ensures .1, c .before .before .before .before .tag-before .ensures, c .before .before .before .before .before .seek .ensures, c .before .before .before .before .before .before .past .ensures), c .before .before .kept .ensures .1)
 
 pub finish-spec : {M : Type 1} → statement M
 finish-spec =

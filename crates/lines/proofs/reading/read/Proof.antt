@@ -1,29 +1,30 @@
 -- `read` folds the bytes of the line. Assumes nothing.
-use Prim.Native.Nat.{_-_, _≤_}
-use mathlib.Core.Path.{_≡_, ap, sym, _∙_}
-use mathlib.Core.List.{foldl}
-use native.Mathlib.Omega.{arith}
-use borrow.Author.Needs.{needs}
-use denote.Ref.{now}
-use lib.ListN.{length, take, getD}
-use lib.Seq.{take-all}
-use Rattle.lines.specs.declared.reading.Reader.{Reader}
-use Rattle.lines.specs.Reading.{pushed, fresh, finished}
 use Rattle.lines.proofs.Lists.{fold-more}
+use Rattle.lines.specs.Reading.{pushed, pushedIn, stepped, fresh, keptIn, finished, ran}
+use Rattle.lines.specs.declared.reading.Reader.{Reader}
+use Prim.Native.Nat.{ℕ}
+use lib.Seq.{take-all}
+use lib.ListN.{length, take, getD}
+use denote.Ref.{now}
+use borrow.Author.Needs.{needs}
+use native.Mathlib.Omega.{arith}
+use mathlib.Core.List.{List, foldl}
+use mathlib.Core.Path.{_≡_, refl, ap, ap₂, sym, _∙_}
+use Prim.Native.Nat.{_-_, _≤_}
 use Rattle.lines.proofs.reading.read.Statement.{statement}
 use Rattle.lines.proofs.reading.read.Tie as tie
 
 abbrev Inv-loop : tie.InvT-loop
-Inv-loop line r₀ i₀ r i = (i ≤ length line) × (r ≡ foldl pushed fresh (take i line))
+Inv-loop line room₀ r₀ i₀ room r i = (i ≤ length line) × (r ≡ ran room₀ (take i line) .0) × (room ≡ ran room₀ (take i line) .1)
 
 abbrev μ-loop : tie.MeasureT-loop
-μ-loop line r₀ i₀ r i = length line - i
+μ-loop line room₀ r₀ i₀ room r i = length line - i
 
 fresh-requires : tie.Need-fresh-requires Inv-loop μ-loop
 fresh-requires c κs = search needs
 
 loop-holds : tie.Need-loop-holds Inv-loop μ-loop
-loop-holds c = search needs
+loop-holds c = (omega arith, c .fresh .ensures, refl)
 
 shared-slice-read-push : tie.Need-shared-slice-read-push Inv-loop μ-loop
 shared-slice-read-push c = search needs
@@ -38,13 +39,13 @@ loop-less : tie.Need-loop-less Inv-loop μ-loop
 loop-less c = search needs
 
 loop-again : tie.Need-loop-again Inv-loop μ-loop
-loop-again c = (omega arith, c .push .ensures ∙ ap (λ (x : Reader). pushed x (getD (now (c .before .before .before .before .before .before .args .line)) (c .before .before .before .loop .i) 0)) (c .before .before .before .loop .inv .1) ∙ sym (fold-more pushed fresh (now (c .before .before .before .before .before .before .args .line)) (c .before .before .before .loop .i) (c .before .before .loop-test .taken)))
+loop-again c = let at = c .before .before .before .before .loop .i in let x = getD (now (c .before .before .before .before .before .before .before .args .line)) at 0 in let e = fold-more stepped (fresh, (now (c .before .before .before .before .before .before .before .args .room))) (now (c .before .before .before .before .before .before .before .args .line)) at (c .before .before .before .loop-test .taken) in (omega arith, c .push .ensures .0 ∙ ap (λ (r : Reader). pushed r x) (c .before .before .before .before .loop .inv .1) ∙ sym (ap (λ (z : Reader × List ℕ). z .0) e), c .push .ensures .1 ∙ ap₂ (λ (r : Reader) (m : List ℕ). pushedIn r x m) (c .before .before .before .before .loop .inv .1) (c .before .before .before .before .loop .inv .2) ∙ sym (ap (λ (z : Reader × List ℕ). z .1) e))
 
 finish-requires : tie.Need-finish-requires Inv-loop μ-loop
 finish-requires c κs = search needs
 
 returns : tie.Need-returns Inv-loop μ-loop
-returns c = c .finish .ensures ∙ ap finished (c .before .before .loop .inv .1 ∙ ap (foldl pushed fresh) (take-all (c .before .before .loop .i) (now (c .before .before .before .before .before .args .line)) (c .before .loop-test .left)))
+returns c = let e = ap (ran (now (c .before .before .before .before .before .before .args .room))) (take-all (c .before .before .before .loop .i) (now (c .before .before .before .before .before .before .args .line)) (c .before .before .loop-test .left)) in let r = c .before .before .before .loop .inv .1 ∙ ap (λ (z : Reader × List ℕ). z .0) e in let n = c .before .before .before .loop .inv .2 ∙ ap (λ (z : Reader × List ℕ). z .1) e in (c .finish .ensures .0 ∙ ap₂ finished r n, c .finish .ensures .1 ∙ ap₂ keptIn r n)
 
 pub read-spec : {M : Type 1} → statement M
 read-spec =

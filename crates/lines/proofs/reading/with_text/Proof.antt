@@ -23,16 +23,13 @@ placed-requires : tie.Need-placed-requires
 placed-requires c κs = search needs
 
 returns : tie.Need-returns
-returns c = rw (c .placed .ensures, c .before .kept .ensures, c .before .before .spelt .ensures, c .before .before .before .past .ensures, ← c .before .before .before .before .before .before .letter .ensures, ← c .before .before .before .before .before .parts .ensures) (simp (eq-eqb _ _ (c .before .before .before .before .if1 .taken)))
-
-stored-requires : tie.Need-stored-requires
-stored-requires c κs = search needs
+returns c = (rw (c .placed .ensures, c .before .before .kept .ensures .0, c .before .before .before .before .spelt .ensures, c .before .before .before .before .before .past .ensures, ← c .before .before .before .before .before .before .before .letter .ensures, ← c .before .before .before .before .before .before .parts .ensures, eq-eqb _ _ (c .before .if1 .taken)), c .before .before .kept .ensures .1)
 
 begun-requires : tie.Need-begun-requires
 begun-requires c κs = search needs
 
 returns-2 : tie.Need-returns-2
-returns-2 c = rw (c .begun .ensures, c .before .stored .ensures, ← c .before .before .before .before .letter .ensures, ← c .before .before .before .parts .ensures) (simp (ne-eqb _ _ (c .before .before .if1 .left)))
+returns-2 c = (rw (c .begun .ensures, c .before .before .kept .ensures .0, ← c .before .before .before .before .before .before .before .letter .ensures, ← c .before .before .before .before .before .before .parts .ensures, ne-eqb _ _ (c .before .if1 .left)), c .before .before .kept .ensures .1)
 
 pub with-text-spec : {M : Type 1} → statement M
 with-text-spec =
@@ -45,6 +42,5 @@ with-text-spec =
     kept-requires
     placed-requires
     returns
-    stored-requires
     begun-requires
     returns-2)

@@ -1,10 +1,10 @@
--- `room` meets its contract. Assumes nothing.
+-- `space` meets its contract. Assumes nothing.
 use Rattle.stepper.proofs.Waiting.{none-wait, all-wait, all-written}
 use mathlib.Core.Path.{sym}
 use lib.Seq.{length-take-le}
 use borrow.Author.Needs.{needs}
-use Rattle.stepper.proofs.room.Statement.{statement}
-use Rattle.stepper.proofs.room.Tie as tie
+use Rattle.stepper.proofs.space.Statement.{statement}
+use Rattle.stepper.proofs.space.Tie as tie
 
 returns : tie.Need-returns
 returns c = none-wait _ _ (c .if1 .taken)
@@ -24,7 +24,7 @@ write-all-requires c κs = search needs
 returns-3 : tie.Need-returns-3
 returns-3 c = all-written _ _ (c .before .before .before .if1 .left) (c .before .before .if2 .left)
 
-pub room-spec : {M : Type 1} → statement M
-room-spec =
+pub space-spec : {M : Type 1} → statement M
+space-spec =
     tie.close
     (tie.spec returns sub-if2 returns-2 slice-aggregate-write-all write-all-requires returns-3)

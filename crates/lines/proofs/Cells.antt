@@ -1,0 +1,48 @@
+-- The table, row by row: a letter is the cell of its row and column. One computed test. Assumes nothing.
+use Prim.Native.Nat.{ℕ, zero, suc, _+_, _/_, _%_, _*_, _≤_, _<_}
+use mathlib.Core.Path.{_≡_, refl, ap, sym, _∙_}
+use mathlib.Core.List.{List, [], _∷_, _++_}
+use mathlib.Core.Bool.{Bool, true, false}
+use native.Mathlib.Omega.{arith}
+use borrow.Author.Tests.{eqb-true, ltb-true, ltb-false}
+use lib.Dec.{eqb, ltb}
+use lib.ListN.{length, List·getD-eq-default}
+use Rattle.lines.specs.Forms.{bytes, Form, forms, table}
+use Rattle.lines.specs.Reading.{size, cell, letterAt}
+use Rattle.lines.proofs.Table.{all, all-at}
+
+-- the text of a row and its tag
+abbrev pub rowText : List Form → ℕ → List ℕ
+rowText [] k = []
+rowText (f ∷ fs) zero = bytes (f .form) ++ (f .tag ∷ [])
+rowText (f ∷ fs) (suc k) = rowText fs k
+
+abbrev cellAt : ℕ → Bool
+cellAt p = eqb (letterAt p) (cell (rowText forms (p / 64)) (p % 64))
+
+cells-all : all size cellAt ≡ true
+unfolding all size letterAt
+cells-all = refl
+
+whole : size % 64 ≡ 0
+unfolding size
+whole = refl
+
+-- in the row k
+pub in-row : (p k c : ℕ) → p / 64 ≡ k → 64 * k < size → c ≡ cell (rowText forms k) (p % 64) → c ≡ letterAt p
+in-row p k c e h f =
+    let n = whole in
+    f ∙ ap (λ (i : ℕ). cell (rowText forms i) (p % 64)) (sym e)
+    ∙ sym (eqb-true (letterAt p) (cell (rowText forms (p / 64)) (p % 64)) (all-at size cellAt cells-all p (omega arith)))
+
+-- a row past those counted so far
+pub above : {n x : ℕ} → n ≤ x → (x ≡ n → ⊥) → n + 1 ≤ x
+above {n} {x} h g = by (ltb n x) refl
+  where
+    by : (t : Bool) → ltb n x ≡ t → n + 1 ≤ x
+    by true e = omega (arith, ltb-true n x e)
+    by false e = absurd (g (omega (arith, ltb-false n x e)))
+
+pub past-table : (p : ℕ) → size ≤ p → letterAt p ≡ 0
+unfolding size letterAt
+past-table p h = List·getD-eq-default table 0 h
