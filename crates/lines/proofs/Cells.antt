@@ -6,19 +6,19 @@ use mathlib.Core.Bool.{Bool, true, false}
 use native.Mathlib.Omega.{arith}
 use borrow.Author.Tests.{eqb-true, ltb-true, ltb-false}
 use lib.Dec.{eqb, ltb}
-use lib.ListN.{length, List·getD-eq-default}
-use Rattle.lines.specs.Forms.{bytes, Form, forms, table}
-use Rattle.lines.specs.Reading.{size, cell, letterAt}
+use lib.ListN.{getD, replicate, List·getD-eq-default}
+use Rattle.lines.specs.Forms.{bytes, gap, Form, forms, table}
+use Rattle.lines.specs.Reading.{size, letterAt}
 use Rattle.lines.proofs.Table.{all, all-at}
 
--- the text of a row and its tag
+-- a row as the code has it
 abbrev pub rowText : List Form → ℕ → List ℕ
 rowText [] k = []
-rowText (f ∷ fs) zero = bytes (f .form) ++ (f .tag ∷ [])
+rowText (f ∷ fs) zero = 10 ∷ (bytes (f .form) ++ (f .tag ∷ replicate (gap (f .form)) 46))
 rowText (f ∷ fs) (suc k) = rowText fs k
 
 abbrev cellAt : ℕ → Bool
-cellAt p = eqb (letterAt p) (cell (rowText forms (p / 64)) (p % 64))
+cellAt p = eqb (letterAt p) (getD (rowText forms (p / 64)) (p % 64) 0)
 
 cells-all : all size cellAt ≡ true
 unfolding all size letterAt
@@ -29,11 +29,11 @@ unfolding size
 whole = refl
 
 -- in the row k
-pub in-row : (p k c : ℕ) → p / 64 ≡ k → 64 * k < size → c ≡ cell (rowText forms k) (p % 64) → c ≡ letterAt p
+pub in-row : (p k c : ℕ) → p / 64 ≡ k → 64 * k < size → c ≡ getD (rowText forms k) (p % 64) 0 → c ≡ letterAt p
 in-row p k c e h f =
     let n = whole in
-    f ∙ ap (λ (i : ℕ). cell (rowText forms i) (p % 64)) (sym e)
-    ∙ sym (eqb-true (letterAt p) (cell (rowText forms (p / 64)) (p % 64)) (all-at size cellAt cells-all p (omega arith)))
+    f ∙ ap (λ (i : ℕ). getD (rowText forms i) (p % 64) 0) (sym e)
+    ∙ sym (eqb-true (letterAt p) (getD (rowText forms (p / 64)) (p % 64) 0) (all-at size cellAt cells-all p (omega arith)))
 
 -- a row past those counted so far
 pub above : {n x : ℕ} → n ≤ x → (x ≡ n → ⊥) → n + 1 ≤ x

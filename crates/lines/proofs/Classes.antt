@@ -8,7 +8,7 @@ use borrow.Author.Tests.{eqb-true, leb-true, ne-eqb}
 use lib.Dec.{eqb, leb}
 use Rattle.lines.specs.Decimal.{isDigit}
 use Rattle.lines.specs.Grammar.{isWord}
-use Rattle.lines.specs.Reading.{isMark, isTag, inside, begins, parts, mayEnd}
+use Rattle.lines.specs.Reading.{isMark, isTag, inside, begins, parts}
 
 pub differ : {A : Type 0} → true ≡ false → A
 differ e = absurd (let z : _≡_ {A = ℕ} 0 1 = ap (λ (b : Bool). cond b 0 1) e in omega arith)
@@ -138,7 +138,8 @@ parted-by c s b n h = by (eqb c 37 && (eqb s 1 && eqb b 58)) refl (eqb c 37 && (
 
 -- no letter parts
 pub word-parts : (c s b : ℕ) → isWord b ≡ true → parts c s b ≡ 0
-word-parts c s b w = rw (word-other b 58 w (omega arith) (λ e. omega arith), word-other b 44 w (omega arith) (λ e. omega arith)) (by (eqb c 37) (eqb s 1) (eqb s 3))
+word-parts c s b w = rw (word-other b 58 w (omega arith) (λ e. omega arith), word-other b 44 w (omega arith) (λ e. omega arith))
+    (by (eqb c 37) (eqb s 1) (eqb s 3))
   where
     by : (x y z : Bool) → _≡_ {A = ℕ} (cond (x && (y && false)) 2 (cond (x && (z && false)) 4 0)) 0
     by true true true = refl

@@ -1,18 +1,17 @@
 -- Whatever line a form of the table fits is read as what that form asks for. Assumes nothing.
-use Prim.Native.Nat.{ℕ, zero, suc, _+_, _-_, _*_, _≤_, _<_}
+use Prim.Native.Nat.{ℕ, _+_, _-_, _≤_}
 use mathlib.Core.Path.{_≡_, refl, ap, sym, subst, _∙_}
 use mathlib.Core.List.{List, [], _∷_, _++_, foldl, append-assoc}
-use mathlib.Core.Bool.{Bool, true, false}
+use mathlib.Core.Bool.{true, false}
 use native.Mathlib.Omega.{arith}
-use lib.ListN.{length}
 use Rattle.machine.specs.Calls.{Pair}
 use Rattle.lines.specs.Text.{text}
 use Rattle.lines.specs.Decimal.{isDigit}
-use Rattle.lines.specs.Forms.{Asked, Token, letter, number, pairs, Asks, Form}
-use Rattle.lines.specs.Grammar.{allDigits, tenfold, flat, isWord, Number, Row, one, more, Fits, fits-end, fits-letter, fits-number, fits-none, fits-pairs}
-use Rattle.lines.specs.Reading.{letterAt, isMark, isTag, inside, begins, parts, mayEnd}
+use Rattle.lines.specs.Forms.{Asked, Token, Asks}
+use Rattle.lines.specs.Grammar.{allDigits, tenfold, flat, Number, Row, one, more, Fits, fits-end, fits-letter, fits-number, fits-none, fits-pairs}
+use Rattle.lines.specs.Reading.{letterAt, isMark, isTag, inside, begins, mayEnd}
 use Rattle.lines.proofs.Classes.{and-left, and-right, begins-inside}
-use Rattle.lines.proofs.Goes.{held, Goes, done, leave, begin, grow, part, spell}
+use Rattle.lines.proofs.Goes.{Goes, done, leave, begin, grow, part, spell}
 use Rattle.lines.proofs.Standing.{Stands}
 
 -- ---- digits
@@ -27,7 +26,8 @@ module _ (q t : ℕ) (mark : isMark (letterAt q) ≡ true) where
   unfolding allDigits
   digits-go s i [] v l ns a f g = g
   digits-go s i (b ∷ d) v l ns a f g =
-      grow {v = v} {b = b} mark (and-left (isDigit b) (allDigits d) a) i (omega (arith, grows d (tenfold v b))) (digits-go s i d (tenfold v b) l ns (and-right (isDigit b) (allDigits d) a) f g)
+      grow {v = v} {b = b} mark (and-left (isDigit b) (allDigits d) a) i (omega (arith, grows d (tenfold v b)))
+      (digits-go s i d (tenfold v b) l ns (and-right (isDigit b) (allDigits d) a) f g)
 
   number-goes :
       (s v : ℕ) (l ns d : List ℕ) {n : ℕ} → inside s ≡ false → Number d n → Goes q (begins s) n l ns t → Goes q s v (d ++ l) ns t

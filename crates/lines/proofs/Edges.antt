@@ -33,18 +33,57 @@ edges :
     × (asks (text "call=disconnect node=8") ≡ Disconnect 8) × (asks (text "call=master node=0") ≡ Master 0) × (asks (text "call=sync node=9") ≡ Sync 9)
     × (asks (text "call=rollback number=0") ≡ Rollback 0) × (asks (text "call=work node=1 job=2 number=3 outcome=4 cut=5") ≡ Work 1 2 3 4 5)
     × (asks (text "call=append pairs=") ≡ Append) × (gives (text "call=append pairs=") ≡ [])
-    × (gives (text "call=append pairs=3:7") ≡ 3 ∷ 0 ∷ 7 ∷ 0 ∷ []) × (gives (text "call=append pairs=03:007,31:65535") ≡ 3 ∷ 0 ∷ 7 ∷ 0 ∷ 31 ∷ 0 ∷ 255 ∷ 255 ∷ [])
+    × (gives (text "call=append pairs=3:7") ≡ 3 ∷ 0 ∷ 7 ∷ 0 ∷ []) × (gives
+    (text "call=append pairs=03:007,31:65535") ≡ 3 ∷ 0 ∷ 7 ∷ 0 ∷ 31 ∷ 0 ∷ 255 ∷ 255 ∷ [])
     × (length (gives (text "call=append pairs=1:1,2:2,3:3,4:4,5:5,6:6,7:7")) ≡ 20)
     × (asks (text "call=connect node=01") ≡ Connect 1) × (asks (text "call=connect node=00000000000000000065535") ≡ Connect 65535)
-    × (asks (text "call=connect node=65536") ≡ Unreadable) × (asks (text "call=connect node=") ≡ Unreadable) × (asks (text "call=connect node=+1") ≡ Unreadable)
-    × (asks (text "call=connect node=0x1") ≡ Unreadable) × (asks (text "call=connect node=1 ") ≡ Unreadable) × (asks (text " call=connect node=1") ≡ Unreadable)
-    × (asks (text "call=connect  node=1") ≡ Unreadable) × (asks (text "call=connect\tnode=1") ≡ Unreadable) × (asks (text "call=connect node=1\r") ≡ Unreadable)
-    × (asks (text "Call=start") ≡ Unreadable) × (asks [] ≡ Unreadable) × (asks (text "call=append") ≡ Unreadable) × (asks (text "call=append pairs=1:2,") ≡ Unreadable)
-    × (asks (text "call=append pairs=1") ≡ Unreadable) × (asks (text "call=append pairs=1:2:3") ≡ Unreadable) × (asks (text "call=append pairs=:1") ≡ Unreadable)
+    × (asks (text "call=connect node=65536") ≡ Unreadable) × (asks (text "call=connect node=") ≡ Unreadable) ×
+    (asks (text "call=connect node=+1") ≡ Unreadable)
+    × (asks (text "call=connect node=0x1") ≡ Unreadable) × (asks (text "call=connect node=1 ") ≡ Unreadable) ×
+    (asks (text " call=connect node=1") ≡ Unreadable)
+    × (asks (text "call=connect  node=1") ≡ Unreadable) × (asks (text "call=connect\tnode=1") ≡ Unreadable) ×
+    (asks (text "call=connect node=1\r") ≡ Unreadable)
+    × (asks (text "Call=start") ≡ Unreadable) × (asks [] ≡ Unreadable) × (asks (text "call=append") ≡ Unreadable) ×
+    (asks (text "call=append pairs=1:2,") ≡ Unreadable)
+    × (asks (text "call=append pairs=1") ≡ Unreadable) × (asks (text "call=append pairs=1:2:3") ≡ Unreadable) ×
+    (asks (text "call=append pairs=:1") ≡ Unreadable)
     × (asks (text "call=work job=1 node=1 number=1 outcome=0 cut=0") ≡ Unreadable) × (asks (text "call=work node=1 job=1 number=1 outcome=0") ≡ Unreadable)
 unfolding asks gives size letterAt like seekIn pushed callOf
-edges =
-    (refl, refl, refl, refl, refl, refl, refl, refl, refl, refl, refl, refl, refl, refl, refl, refl, refl, refl, refl, refl, refl, refl, refl, refl, refl, refl, refl, refl, refl, refl, refl, refl, refl)
+edges = (
+  refl,
+  refl,
+  refl,
+  refl,
+  refl,
+  refl,
+  refl,
+  refl,
+  refl,
+  refl,
+  refl,
+  refl,
+  refl,
+  refl,
+  refl,
+  refl,
+  refl,
+  refl,
+  refl,
+  refl,
+  refl,
+  refl,
+  refl,
+  refl,
+  refl,
+  refl,
+  refl,
+  refl,
+  refl,
+  refl,
+  refl,
+  refl,
+  refl,
+)
 
 -- ---- numbers
 -- d are the digits of n, and the first is no 0 unless n is 0
@@ -88,7 +127,8 @@ fair-spelled zero n h = by (ltb n 10) refl
     by false e = absurd (omega (arith, ltb-false n 10 e))
 fair-spelled (suc k) n h = by (fair-spelled k (n / 10) (omega (arith, pow-suc 10 (suc k)))) (ltb n 10) refl
   where
-    by : Fair (n / 10) (spelled (suc k) (n / 10)) → (t : Bool) → ltb n 10 ≡ t → Fair n (cond t ((48 + n) ∷ []) (spelled (suc k) (n / 10) ++ ((48 + n % 10) ∷ [])))
+    by : Fair (n / 10) (spelled (suc k) (n / 10)) → (t : Bool) → ltb n 10 ≡ t → Fair n
+        (cond t ((48 + n) ∷ []) (spelled (suc k) (n / 10) ++ ((48 + n % 10) ∷ [])))
     by x true e = fair-one n (ltb-true n 10 e)
     by x false e = fair-more n (spelled (suc k) (n / 10)) (ltb-false n 10 e) x
 

@@ -2,18 +2,18 @@
 use Prim.Native.Nat.{ℕ, zero, suc, _+_, _-_, _≤_, _<_}
 use mathlib.Core.Path.{_≡_, refl, ap, sym, subst, _∙_}
 use mathlib.Core.Logic.{_⊎_, inl, inr}
-use mathlib.Core.List.{List, [], _∷_, _++_, foldl, append-assoc}
-use mathlib.Core.Bool.{Bool, true, false, cond, _&&_}
+use mathlib.Core.List.{List, [], _∷_, _++_}
+use mathlib.Core.Bool.{Bool, true, false, cond}
 use native.Mathlib.Omega.{arith}
-use borrow.Author.Tests.{eqb-true, eq-eqb, ne-eqb, le-leb, leb-true, leb-false, eqb-false}
+use borrow.Author.Tests.{eqb-true, eq-eqb, le-leb, leb-true, eqb-false}
 use lib.Dec.{eqb, leb, ltb, eqb·suc-zero}
 use Rattle.lines.specs.declared.reading.Reader.{Reader}
 use Rattle.lines.specs.Decimal.{isDigit}
 use Rattle.lines.specs.Grammar.{isWord, tenfold}
-use Rattle.lines.specs.Reading.{size, letterAt, isMark, isTag, like, takes, goes, left, seek, seekIn, inside, begins, parts, mayEnd, past, pushed, withDigit, withText, grownIf, kept, storedIf, placed, begun, spelt, tagOf, tagBefore}
-use Rattle.lines.proofs.Classes.{differ, and-left, and-right, and-both, word-no-digit, mark-no-word, mark-no-tag, tag-some, word-some, mark-some, word-other, begins-inside, Parted, parted-by, word-parts}
-use Rattle.lines.proofs.Places.{within, zero-like, like-next, Prior, like-prior, like-trans, like-sym, Found, Missing, sought}
-use Rattle.lines.proofs.Table.{same-column, lone-mark, lone-tag, no-mark-behind, first-newline}
+use Rattle.lines.specs.Reading.{size, letterAt, isMark, isTag, like, takes, goes, left, seek, inside, begins, parts, mayEnd, past, pushed, grownIf, kept, storedIf, placed, begun, spelt}
+use Rattle.lines.proofs.Classes.{differ, and-left, and-right, and-both, word-no-digit, mark-no-word, tag-some, word-some, mark-some, word-other, parted-by, word-parts}
+use Rattle.lines.proofs.Places.{within, zero-like, like-next, like-prior, like-trans, like-sym, Found, Missing, sought}
+use Rattle.lines.proofs.Table.{same-column, lone-mark, no-mark-behind}
 
 -- the number that ends where s has come and v is being read
 abbrev pub held : ℕ → ℕ → List ℕ
@@ -82,7 +82,8 @@ leave-back p s v t l ns a = by (isMark (letterAt p)) refl a
           then = leave {q = x .place} {s = s} {v = v} ns (rw (x .letter) m) (rw (x .letter) e) refl (subst (λ (k : ℕ). Goes k 0 v l ns t) (x .is) (b .then));
         }
 
-    by : (x : Bool) → isMark (letterAt p) ≡ x → Acc (cond x (cond (mayEnd (letterAt p) s) (p + 1) 0) (cond (eqb s 0) p 0)) 0 v l ns t → Acc p s v l (held s v ++ ns) t
+    by : (x : Bool) → isMark (letterAt p) ≡ x → Acc (cond x (cond (mayEnd (letterAt p) s) (p + 1) 0) (cond (eqb s 0) p 0)) 0 v l ns t → Acc p s v l
+        (held s v ++ ns) t
     by true m b = marked (mayEnd (letterAt p) s) refl m b
     by false m b = rest (eqb s 0) refl m b
 
@@ -94,7 +95,8 @@ word-newline b w = word-other b 10 w (omega arith) (λ e. omega arith)
 taken : (p b q : ℕ) → isWord b ≡ true → goes p b q ≡ true → letterAt q ≡ b
 taken p b q w h = eqb-true (letterAt q) b (rw (word-newline b w) at (and-right (like p q) (takes (letterAt q) b) h))
 
-pub spell-on : (p q v b t : ℕ) (l ns : List ℕ) → p ≤ q → like p q ≡ true → isWord b ≡ true → letterAt q ≡ b → Goes (q + 1) 0 v l ns t → Acc (seek p b) 0 v l ns t
+pub spell-on : (p q v b t : ℕ) (l ns : List ℕ) → p ≤ q → like p q ≡ true → isWord b ≡ true → letterAt q ≡ b → Goes (q + 1) 0 v l ns t → Acc
+    (seek p b) 0 v l ns t
 spell-on p q v b t l ns h e w i g = by (sought (left p) p b p)
   where
     take : goes p b q ≡ true
@@ -107,7 +109,8 @@ spell-on p q v b t l ns h e w i g = by (sought (left p) p b p)
     by (inl x) = absurd (x .never q (same-column p q e) h (omega (arith, in-table)) take)
     by (inr x) =
         let f = x .first q (same-column p q e) h take in
-        let s : like (x .place) q ≡ true = like-trans (x .place) p q (like-sym p (x .place) (and-left (like p (x .place)) (takes (letterAt (x .place)) b) (x .takes))) e in
+        let s : like (x .place) q ≡ true = like-trans (x .place) p q (like-sym p (x .place)
+        (and-left (like p (x .place)) (takes (letterAt (x .place)) b) (x .takes))) e in
         subst (λ (k : ℕ). Acc k 0 v l ns t) (sym (x .is))
         (record { place = q + 1; above = omega arith; same = like-next (x .place) q s (taken p b (x .place) w (x .takes) ∙ sym i); then = g })
 
@@ -151,7 +154,8 @@ module _ (p s v k : ℕ) (b : ℕ) where
   unfolding pushed
   push-begin d h i = rw (d, h, i)
 
-  push-grow : isDigit b ≡ true → isMark (letterAt p) ≡ true → inside s ≡ true → pushed (st p s v k) b ≡ grownIf (leb (tenfold v b) 65535) (st p s v k) (tenfold v b)
+  push-grow : isDigit b ≡ true → isMark (letterAt p) ≡ true → inside s ≡ true → pushed (st p s v k) b ≡ grownIf (leb (tenfold v b) 65535) (st p s v k)
+      (tenfold v b)
   unfolding pushed
   push-grow d h i = rw (d, h, i)
 
@@ -208,7 +212,8 @@ module _ (p s v k : ℕ) (b t : ℕ) (l : List ℕ) where
           split true e = absurd (word-no-digit b w e)
           split false e = e
 
-      behind : (q : ℕ) (ns′ : List ℕ) → p ≤ q → like p q ≡ true → isMark (letterAt q) ≡ true → mayEnd (letterAt q) s ≡ true → ns ≡ held s v ++ ns′ → Goes (q + 1) 0 v (b ∷ l) ns′ t → On (st p s v k) b l ns t
+      behind : (q : ℕ) (ns′ : List ℕ) → p ≤ q → like p q ≡ true → isMark (letterAt q) ≡ true → mayEnd (letterAt q) s ≡ true → ns ≡ held s v ++ ns′ → Goes
+          (q + 1) 0 v (b ∷ l) ns′ t → On (st p s v k) b l ns t
       behind q ns′ h e c f i (spell z w j g) =
           let c-is = mark-there p q h e c in
           let at : past (letterAt p) s p ≡ p + 1 = rw (c-is, c, f) in
@@ -242,7 +247,8 @@ module _ (p s v k : ℕ) (b t : ℕ) (l : List ℕ) where
           record {
             rest = ns;
             is = rw d;
-            acc = to ns (st p (begins s) (b - 48) k) (push-begin p s v k b d (ap isMark (mark-there p q h e c) ∙ c) n) (record { place = q; above = h; same = e; then = g });
+            acc = to ns (st p (begins s) (b - 48) k) (push-begin p s v k b d (ap isMark (mark-there p q h e c) ∙ c) n)
+                (record { place = q; above = h; same = e; then = g });
           }
       by q h e (grow c d n f g) =
           record {
@@ -277,7 +283,13 @@ module _ (p s v k : ℕ) (b t : ℕ) (l : List ℕ) where
       grown : (x : Bool) → leb (tenfold v b) 65535 ≡ x → isDigit b ≡ true → isMark (letterAt p) ≡ true → inside s ≡ true → Acc p s v (b ∷ l) ns t
       grown true f d c i =
           let y = from (st p s (tenfold v b) k) (push-grow p s v k b d c i ∙ rw f) in
-          record { place = y .place; above = y .above; same = y .same; then = grow {q = y .place} (rw (at-mark y c) c) d i (leb-true (tenfold v b) 65535 f) (y .then) }
+          record {
+            place = y .place;
+            above = y .above;
+            same = y .same;
+            then = grow {q = y .place} (rw (at-mark y c) c) d i (leb-true (tenfold v b) 65535 f)
+                (y .then);
+          }
       grown false f d c i = none (from (st 0 0 v k) (push-grow p s v k b d c i ∙ rw f))
 
       digit : (x y : Bool) → isMark (letterAt p) ≡ x → inside s ≡ y → isDigit b ≡ true → Acc p s v (b ∷ l) ns t
@@ -291,13 +303,20 @@ module _ (p s v k : ℕ) (b t : ℕ) (l : List ℕ) where
       other (suc n) e x w d =
           let z = parted-by (letterAt p) s b n e in
           let y = kept-back p s v k b (suc n) t l ns (from (begun (kept (st p s v k)) (suc n) 0) (push-part p s v k b n d e)) in
-          rw (z .number) (record { place = y .place; above = y .above; same = y .same; then = part {q = y .place} {s = s} {b = b} n ns d (rw (at-mark y (z .mark)) e) refl (y .then) })
+          rw (z .number) (record {
+            place = y .place;
+            above = y .above;
+            same = y .same;
+            then = part {q = y .place} {s = s} {b = b} n ns d
+                (rw (at-mark y (z .mark)) e) refl (y .then);
+          })
       other zero e false w d =
           none (subst (λ (x : ℕ). Acc x 0 (kept (st p s v k) .value) l ns t) (rw w)
           (from (placed (kept (st p s v k)) (spelt (past (letterAt p) s p) b)) (push-spell p s v k b d e)))
       other zero e true w d =
           let y = from (placed (kept (st p s v k)) (spelt (past (letterAt p) s p) b)) (push-spell p s v k b d e) in
-          let z : Acc (seek (past (letterAt p) s p) b) 0 v l ns t = subst (λ (x : ℕ). Acc (seek (past (letterAt p) s p) b) 0 x l ns t) (kept-at (st p s v k)) (rw w at y) in
+          let z : Acc (seek (past (letterAt p) s p) b) 0 v l ns t = subst (λ (x : ℕ). Acc (seek (past (letterAt p) s p) b) 0 x l ns t) (kept-at (st p s v k))
+          (rw w at y) in
           leave-back p s v t (b ∷ l) ns (spell-back (past (letterAt p) s p) v b t l ns w z)
 
       by : (x : Bool) → isDigit b ≡ x → Acc p s v (b ∷ l) (cond x [] (held s v) ++ ns) t

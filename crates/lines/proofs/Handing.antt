@@ -11,9 +11,10 @@ use lib.Seq.{take-all, getD-take}
 use Rattle.machine.specs.Calls.{Pair}
 use Rattle.lines.specs.declared.reading.Line.{Line}
 use Rattle.lines.specs.Forms.{Asked, Token, letter, number, pairs, Asks, Form, forms}
-use Rattle.lines.specs.Grammar.{flat, Row, one, more, Fits, fits-end, fits-letter, fits-number, fits-none, fits-pairs, Among, here, there}
+use Rattle.lines.specs.Grammar.{flat, Row, one, more, Fits, fits-end, fits-letter, fits-number, fits-none, fits-pairs, Among}
 use Rattle.lines.specs.Reading.{low, high, twoBytes, numberIn, callOf, bytesOf, lineOf}
 use Rattle.lines.specs.Handed.{Small, Hands}
+use Rattle.lines.proofs.Each.{_&_, Each, each-among}
 use Rattle.lines.proofs.Runs.{firsts, Holds, two-length}
 
 -- ---- a room that holds a line's numbers: each is read out of it
@@ -85,28 +86,34 @@ HandsRow (letter c ∷ f) a ns t = HandsRow f a ns t
 HandsRow (number ∷ f) a ns t = (n : ℕ) → HandsRow f (a n) (ns ++ (n ∷ [])) t
 HandsRow (pairs ∷ f) a ns t = (ps : List Pair) → Small ps → HandsRow f (a ps) (ns ++ flat ps) t
 
-abbrev Each : List Form → Type 0
-Each [] = T true
-Each (f ∷ fs) = HandsRow (f .form) (f .asks) [] (f .tag) × Each fs
+abbrev Handed : Form → Type 0
+Handed f = HandsRow (f .form) (f .asks) [] (f .tag)
 
 -- an append's bytes
-first-five : (ps : List Pair) → firsts (flat ps) ≡ twoBytes (flat (take 5 ps))
+five-pairs : (ps : List Pair) → firsts (flat ps) ≡ twoBytes (flat (take 5 ps))
 unfolding flat twoBytes
-first-five [] = refl
-first-five (a ∷ []) = refl
-first-five (a ∷ b ∷ []) = refl
-first-five (a ∷ b ∷ d ∷ []) = refl
-first-five (a ∷ b ∷ d ∷ e ∷ []) = refl
-first-five (a ∷ b ∷ d ∷ e ∷ f ∷ ps) = refl
+five-pairs [] = refl
+five-pairs (a ∷ []) = refl
+five-pairs (a ∷ b ∷ []) = refl
+five-pairs (a ∷ b ∷ d ∷ []) = refl
+five-pairs (a ∷ b ∷ d ∷ e ∷ []) = refl
+five-pairs (a ∷ b ∷ d ∷ e ∷ f ∷ ps) = refl
 
 -- ---- each row
-each : Each forms
+each : Each Handed forms
 unfolding callOf flat twoBytes
-each = ((λ ps s. record { calls = refl; bytes = take-all (length (firsts (flat ps))) (firsts (flat ps)) (omega arith) ∙ first-five ps; small = s }), ((λ n. record { calls = refl; bytes = refl; small = tt }), ((λ n. record { calls = refl; bytes = refl; small = tt }), ((λ n. record { calls = refl; bytes = refl; small = tt }), ((λ n. record { calls = refl; bytes = refl; small = tt }), (record { calls = refl; bytes = refl; small = tt }, (record { calls = refl; bytes = refl; small = tt }, ((λ n. record { calls = refl; bytes = refl; small = tt }), ((λ n j i o c. record { calls = refl; bytes = refl; small = tt }), ((λ n. record { calls = refl; bytes = refl; small = tt }), tt))))))))))
-
-each-among : (f : Form) (fs : List Form) → Each fs → Among f fs → HandsRow (f .form) (f .asks) [] (f .tag)
-each-among f (g ∷ fs) e here = e .0
-each-among f (g ∷ fs) e (there a) = each-among f fs (e .1) a
+each =
+    record { calls = refl; bytes = refl; small = tt }
+    & record { calls = refl; bytes = refl; small = tt }
+    & (λ n. record { calls = refl; bytes = refl; small = tt })
+    & (λ ps s. record { calls = refl; bytes = take-all (length (firsts (flat ps))) (firsts (flat ps)) (omega arith) ∙ five-pairs ps; small = s })
+    & (λ n. record { calls = refl; bytes = refl; small = tt })
+    & (λ n. record { calls = refl; bytes = refl; small = tt })
+    & (λ n. record { calls = refl; bytes = refl; small = tt })
+    & (λ n. record { calls = refl; bytes = refl; small = tt })
+    & (λ n j i o c. record { calls = refl; bytes = refl; small = tt })
+    & (λ n. record { calls = refl; bytes = refl; small = tt })
+    & tt
 
 row-small : {d : List ℕ} {ps : List Pair} → Row d ps → Small ps
 row-small (one a b) = (a .fits, b .fits, tt)
@@ -114,7 +121,8 @@ row-small (more a b r) = (a .fits, b .fits, row-small r)
 
 -- ---- any line that fits
 fits-hand :
-    {f : List Token} {a : Asks f} {l ns : List ℕ} {x : Asked} → Fits f a l ns x → (m : List ℕ) (t : ℕ) → HandsRow f a m t → Hands x (lineIn t (m ++ ns)) (firsts (m ++ ns))
+    {f : List Token} {a : Asks f} {l ns : List ℕ} {x : Asked} → Fits f a l ns x → (m : List ℕ) (t : ℕ) → HandsRow f a m t → Hands x (lineIn t (m ++ ns))
+    (firsts (m ++ ns))
 unfolding flat
 fits-hand {x = x} fits-end m t h = subst (λ (z : List ℕ). Hands x (lineIn t z) (firsts z)) (sym (append-nil m)) h
 fits-hand (fits-letter w y) m t h = fits-hand y m t h
@@ -152,7 +160,7 @@ pub handed :
     (f : Form) → Among f forms → {l ns : List ℕ} {x : Asked} → Fits (f .form) (f .asks) l ns x → (u : ℕ) (m : List ℕ) → Holds ns u m →
     Hands x (lineOf (f .tag) u m) m
 handed f a {ns = ns} {x} y u m h =
-    let z = fits-hand y [] (f .tag) (each-among f forms each a) in
+    let z = fits-hand y [] (f .tag) (each-among Handed f forms each a) in
     let n = number-is ns u m h (fits-bounded y) in
     record {
       calls = rw (n 0 (omega arith), n 1 (omega arith), n 2 (omega arith), n 3 (omega arith), n 4 (omega arith)) (z .calls);

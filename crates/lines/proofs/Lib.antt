@@ -9,6 +9,7 @@ pub mod Runs
 pub mod Standing
 pub mod Complete
 pub mod Sound
+pub mod Each
 pub mod Handing
 pub mod Readable
 pub mod Edges

@@ -1,16 +1,15 @@
--- The paper's nine lines, each written out, are what the first nine rows of the table say. Assumes nothing.
+-- The paper's nine lines and the fold's, each written out, are what the table says, and nothing else is. Assumes nothing.
 use Prim.Native.Nat.{ℕ}
 use mathlib.Core.Path.{_≡_, refl, ap, sym, subst, _∙_}
 use mathlib.Core.List.{List, [], _∷_, _++_, append-assoc, append-nil}
 use mathlib.Core.Bool.{Bool, true, _&&_}
-use lib.Dec.{T}
-use lib.ListN.{take}
 use Rattle.machine.specs.Calls as machine
 use Rattle.machine.specs.Calls.{Pair}
 use Rattle.lines.specs.Text.{text}
 use Rattle.lines.specs.Forms.{Asked, calls, Token, letter, number, pairs, Asks, Form, forms}
 use Rattle.lines.specs.Grammar.{flat, isWord, Number, Row, Fits, fits-end, fits-letter, fits-number, fits-none, fits-pairs, Among, here, there, Says}
 use Rattle.lines.proofs.Classes.{and-left, and-right}
+use Rattle.lines.proofs.Each.{_&_, Each, each-among}
 
 pub data Line : List ℕ → machine.Call → Type 0 where
   line-no-pairs : Line (text "call=append pairs=") (machine.append [])
@@ -25,6 +24,7 @@ pub data Line : List ℕ → machine.Call → Type 0 where
   line-work :
       {a b d e f : List ℕ} {n j i o c : ℕ} → Number a n → Number b j → Number d i → Number e o → Number f c →
       Line (text "call=work node=" ++ a ++ text " job=" ++ b ++ text " number=" ++ d ++ text " outcome=" ++ e ++ text " cut=" ++ f) (machine.work n j i o c)
+  line-fold : {d : List ℕ} {n : ℕ} → Number d n → Line (text "call=fold number=" ++ d) (machine.foldTo n)
 
 -- ---- a text of letters at the front of a form
 abbrev letters : List ℕ → List Token → List Token
@@ -40,7 +40,8 @@ words [] = true
 words (c ∷ t) = isWord c && words t
 
 fits-text :
-    (t : List ℕ) {f : List Token} {a : Asks f} {l ns : List ℕ} {x : Asked} → words t ≡ true → Fits f a l ns x → Fits (letters t f) (within t f a) (t ++ l) ns x
+    (t : List ℕ) {f : List Token} {a : Asks f} {l ns : List ℕ} {x : Asked} → words t ≡ true → Fits f a l ns x → Fits (letters t f) (within t f a)
+    (t ++ l) ns x
 fits-text [] h y = y
 fits-text (c ∷ t) h y = fits-letter (and-left (isWord c) (words t) h) (fits-text t (and-right (isWord c) (words t) h) y)
 
@@ -72,7 +73,8 @@ says-by {ns = ns} {f = f} a y = record { of = f; among = a; numbers = ns; fits =
 
 work-fits :
     {a b d e f : List ℕ} {n j i o c : ℕ} → Number a n → Number b j → Number d i → Number e o → Number f c →
-    Fits (letters (text "call=work node=") (number ∷ letters (text " job=") (number ∷ letters (text " number=") (number ∷ letters (text " outcome=") (number ∷ letters (text " cut=") (number ∷ []))))))
+    Fits (letters (text "call=work node=") (number ∷ letters (text " job=")
+    (number ∷ letters (text " number=") (number ∷ letters (text " outcome=") (number ∷ letters (text " cut=") (number ∷ []))))))
     (λ n j i o c. calls (machine.work n j i o c))
     (text "call=work node=" ++ (a ++ (text " job=" ++ (b ++ (text " number=" ++ (d ++ (text " outcome=" ++ (e ++ (text " cut=" ++ f)))))))))
     (n ∷ j ∷ i ∷ o ∷ c ∷ []) (calls (machine.work n j i o c))
@@ -86,19 +88,23 @@ work-fits x y z u w =
 -- ---- each line of the paper is said
 pub line-says : {l : List ℕ} {c : machine.Call} → Line l c → Says l (calls c)
 unfolding flat
-line-says line-no-pairs = says-by here (fits-text (text "call=append pairs=") refl (fits-none fits-end))
+line-says line-no-pairs = says-by (there (there (there here))) (fits-text (text "call=append pairs=") refl (fits-none fits-end))
 line-says (line-append {l} {ps} r) =
-    says-by here (fits-text (text "call=append pairs=") refl
-    (subst (λ (z : List ℕ). Fits (pairs ∷ []) (λ qs. calls (machine.append qs)) z (flat ps ++ []) (calls (machine.append ps))) (append-nil l) (fits-pairs r fits-end)))
-line-says (line-connect x) = says-by (there here) (fits-text (text "call=connect node=") refl (at-end x))
-line-says (line-disconnect x) = says-by (there (there here)) (fits-text (text "call=disconnect node=") refl (at-end x))
-line-says (line-master x) = says-by (there (there (there here))) (fits-text (text "call=master node=") refl (at-end x))
-line-says (line-rollback x) = says-by (there (there (there (there here)))) (fits-text (text "call=rollback number=") refl (at-end x))
-line-says line-start = says-by (there (there (there (there (there here))))) (fits-text (text "call=start") refl fits-end)
-line-says line-stop = says-by (there (there (there (there (there (there here)))))) (fits-text (text "call=stop") refl fits-end)
-line-says (line-sync x) = says-by (there (there (there (there (there (there (there here))))))) (fits-text (text "call=sync node=") refl (at-end x))
+    says-by (there (there (there here))) (fits-text (text "call=append pairs=") refl
+    (subst (λ (z : List ℕ). Fits (pairs ∷ []) (λ qs. calls (machine.append qs)) z (flat ps ++ []) (calls (machine.append ps))) (append-nil l)
+    (fits-pairs r fits-end)))
+line-says (line-connect x) = says-by (there (there (there (there here)))) (fits-text (text "call=connect node=") refl (at-end x))
+line-says (line-disconnect x) = says-by (there (there (there (there (there here))))) (fits-text (text "call=disconnect node=") refl (at-end x))
+line-says (line-master x) = says-by (there (there (there (there (there (there here)))))) (fits-text (text "call=master node=") refl (at-end x))
+line-says (line-rollback x) = says-by (there (there (there (there (there (there (there here))))))) (fits-text (text "call=rollback number=") refl (at-end x))
+line-says (line-sync x) = says-by (there (there here)) (fits-text (text "call=sync node=") refl (at-end x))
+line-says (line-fold x) = says-by (there (there (there (there (there (there (there (there (there here)))))))))
+    (fits-text (text "call=fold number=") refl (at-end x))
+line-says line-start = says-by (there here) (fits-text (text "call=start") refl fits-end)
+line-says line-stop = says-by here (fits-text (text "call=stop") refl fits-end)
 line-says (line-work {a} {b} {d} {e} {f} {n} {j} {i} {o} {c} x y z u w) =
-    subst (λ (k : List ℕ). Says k (calls (machine.work n j i o c))) (regroup a b d e f) (says-by (there (there (there (there (there (there (there (there here)))))))) (work-fits x y z u w))
+    subst (λ (k : List ℕ). Says k (calls (machine.work n j i o c))) (regroup a b d e f)
+    (says-by (there (there (there (there (there (there (there (there here)))))))) (work-fits x y z u w))
   where
     regroup :
         (a b d e f : List ℕ) →
@@ -106,7 +112,7 @@ line-says (line-work {a} {b} {d} {e} {f} {n} {j} {i} {o} {c} x y z u w) =
         ≡ text "call=work node=" ++ a ++ text " job=" ++ b ++ text " number=" ++ d ++ text " outcome=" ++ e ++ text " cut=" ++ f
     regroup a b d e f = simp append-assoc
 
--- ---- and what those rows say is a line of the paper
+-- ---- and what a row says is one of those lines
 pub record Lined (l : List ℕ) (x : Asked) : Type 0 where
   pub call : machine.Call
   pub is : x ≡ calls call
@@ -198,49 +204,25 @@ worked {x = x} y =
         ≡ text "call=work node=" ++ a ++ text " job=" ++ b ++ text " number=" ++ d ++ text " outcome=" ++ e ++ text " cut=" ++ f
     regroup a b d e f = simp append-assoc
 
--- ---- the first nine rows
+-- ---- each row
 LinesOf : Form → Type 0
 LinesOf f = (l ns : List ℕ) (x : Asked) → Fits (f .form) (f .asks) l ns x → Lined l x
 
-abbrev Each : List Form → Type 0
-Each [] = T true
-Each (f ∷ fs) = LinesOf f × Each fs
-
-nine : Each (take 9 forms)
+each : Each LinesOf forms
 unfolding LinesOf
-nine = (
-  (λ l ns x y. appended y),
-  (
-    (λ l ns x y. single (text "call=connect node=") machine.connect (λ d n k. line-connect k) y),
-    (
-      (λ l ns x y. single (text "call=disconnect node=") machine.disconnect (λ d n k. line-disconnect k) y),
-      (
-        (λ l ns x y. single (text "call=master node=") machine.master (λ d n k. line-master k) y),
-        (
-          (λ l ns x y. single (text "call=rollback number=") machine.rollback (λ d n k. line-rollback k) y),
-          (
-            (λ l ns x y. bare (text "call=start") machine.start line-start y),
-            (
-              (λ l ns x y. bare (text "call=stop") machine.stop line-stop y),
-              (
-                (λ l ns x y. single (text "call=sync node=") machine.sync (λ d n k. line-sync k) y),
-                (
-                  (λ l ns x y. worked y),
-                  tt,
-                ),
-              ),
-            ),
-          ),
-        ),
-      ),
-    ),
-  ),
-)
+each =
+    (λ l ns x y. bare (text "call=stop") machine.stop line-stop y)
+    & (λ l ns x y. bare (text "call=start") machine.start line-start y)
+    & (λ l ns x y. single (text "call=sync node=") machine.sync (λ d n k. line-sync k) y)
+    & (λ l ns x y. appended y)
+    & (λ l ns x y. single (text "call=connect node=") machine.connect (λ d n k. line-connect k) y)
+    & (λ l ns x y. single (text "call=disconnect node=") machine.disconnect (λ d n k. line-disconnect k) y)
+    & (λ l ns x y. single (text "call=master node=") machine.master (λ d n k. line-master k) y)
+    & (λ l ns x y. single (text "call=rollback number=") machine.rollback (λ d n k. line-rollback k) y)
+    & (λ l ns x y. worked y)
+    & (λ l ns x y. single (text "call=fold number=") machine.foldTo (λ d n k. line-fold k) y)
+    & tt
 
-each-among : (f : Form) (fs : List Form) → Each fs → Among f fs → LinesOf f
-each-among f (g ∷ fs) e here = e .0
-each-among f (g ∷ fs) e (there a) = each-among f fs (e .1) a
-
-pub says-line : (f : Form) {l ns : List ℕ} {x : Asked} → Among f (take 9 forms) → Fits (f .form) (f .asks) l ns x → Lined l x
+pub says-line : {l : List ℕ} {x : Asked} → Says l x → Lined l x
 unfolding LinesOf
-says-line f {l} {ns} {x} a y = each-among f (take 9 forms) nine a l ns x y
+says-line {l} {x} s = each-among LinesOf (s .of) forms each (s .among) l (s .numbers) x (s .fits)

@@ -1,15 +1,15 @@
 -- Places of the table: which are like which, and what is found from one. Assumes nothing.
-use Prim.Native.Nat.{ℕ, zero, suc, _+_, _-_, _*_, _/_, _%_, _≤_, _<_}
+use Prim.Native.Nat.{ℕ, zero, suc, _+_, _-_, _*_, _%_, _≤_, _<_}
 use mathlib.Core.Path.{_≡_, refl, ap, sym, subst, _∙_}
 use mathlib.Core.Logic.{_⊎_, inl, inr}
 use mathlib.Core.Bool.{Bool, true, false, cond, _&&_, _||_}
 use native.Mathlib.Omega.{arith}
 use native.Mathlib.Numerals.{add-one}
-use borrow.Author.Tests.{eqb-true, le-leb, ne-eqb, eq-eqb, ltb-true, ltb-false}
-use lib.Dec.{eqb, leb, ltb}
+use borrow.Author.Tests.{eqb-true, ne-eqb, eq-eqb, ltb-true, ltb-false}
+use lib.Dec.{eqb, ltb}
 use lib.ListN.{length, List·getD-eq-default}
 use Rattle.lines.specs.Forms.{table}
-use Rattle.lines.specs.Reading.{size, letterAt, like, goes, seekIn, left, seek, isMark}
+use Rattle.lines.specs.Reading.{size, letterAt, like, goes, seekIn, left, isMark}
 use Rattle.lines.proofs.Classes.{differ, and-left, and-right, or-split, mark-some}
 
 or-true : (a : Bool) → a || true ≡ true

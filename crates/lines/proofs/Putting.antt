@@ -7,8 +7,8 @@ use native.Mathlib.Omega.{arith}
 use native.Mathlib.Nat.{add-zero, zero-add, pow-suc}
 use borrow.Author.Tests.{eq-eqb, ne-eqb, lt-ltb, le-ltb, le-leb, lt-leb}
 use lib.Dec.{eqb, ltb}
-use lib.ListN.{length, getD, take, set, drop, length-append, length-take, drop-of-length-le}
-use lib.Seq.{sets, sets-eq, length-sets, take-suc, take-all, drop-cons}
+use lib.ListN.{length, getD, set, drop, length-append, drop-of-length-le}
+use lib.Seq.{sets, sets-eq, length-sets, drop-cons}
 use native.Mathlib.Numerals.{add-one}
 use Rattle.lines.specs.Decimal.{spelled, decimal}
 use Rattle.lines.specs.Replies.{filledAt, nextAt, filledFrom, filled, roomOf, Put, Written}
@@ -32,19 +32,6 @@ put-byte l at b = record { ends = refl; holds = refl }
 
 pub put-length : {l m t : List ℕ} {at e : ℕ} → Put l at t e m → length m ≡ length l
 put-length {l} {m} {t} {at} p = ap length (p .holds) ∙ length-sets l at t
-
--- one byte more of a text
-pub put-more : {l m : List ℕ} (t : List ℕ) {at : ℕ} (i : ℕ) → i < length t → Put l at (take i t) (at + i) m → Put l at (take (i + 1) t) (at + (i + 1)) (set m (at + i) (getD t i 0))
-put-more {l} {m} t {at} i h p =
-    let q : Put l at (take i t ++ (getD t i 0 ∷ [])) (at + i + 1) (set m (at + i) (getD t i 0)) = put-then p (put-byte m (at + i) (getD t i 0)) in
-    record {
-      ends = omega (arith, length-take (i + 1) t);
-      holds = q .holds ∙ ap (λ (s : List ℕ). sets l at s) (sym (take-suc t i 0 h) ∙ ap (λ (k : ℕ). take k t) (sym (add-one i)));
-    }
-
--- all of it
-pub put-whole : {l m : List ℕ} (t : List ℕ) {at : ℕ} (i : ℕ) → length t ≤ i → Put l at (take i t) (at + i) m → Put l at t (at + i) m
-put-whole {l} {m} t {at} i h p = rw (take-all i t h) at p
 
 -- ---- decimal
 spelled-more : (k n : ℕ) → n < 10 ^ suc k → spelled (suc (suc k)) n ≡ spelled (suc k) n
@@ -130,7 +117,8 @@ filling-none l f ns = record { done = []; put = record { ends = refl; holds = re
 module _ (l f ns : List ℕ) (at i k : ℕ) (m : List ℕ) (x : Filling l f ns at i k m) where
   step : i < length f → filledFrom (drop i f) ns k ≡ filledAt (getD f i 0) (getD ns k 0) ++ filledFrom (drop (i + 1) f) ns (nextAt (getD f i 0) k)
   unfolding filledFrom
-  step h = ap (λ (g : List ℕ). filledFrom g ns k) (drop-cons f i 0 h) ∙ ap (λ (j : ℕ). filledAt (getD f i 0) (getD ns k 0) ++ filledFrom (drop j f) ns (nextAt (getD f i 0) k)) (sym (add-one i))
+  step h = ap (λ (g : List ℕ). filledFrom g ns k) (drop-cons f i 0 h) ∙ ap
+      (λ (j : ℕ). filledAt (getD f i 0) (getD ns k 0) ++ filledFrom (drop j f) ns (nextAt (getD f i 0) k)) (sym (add-one i))
 
   pub filling-fits : (n : ℕ) → n ≡ getD ns k 0 → i < length f → roomOf f ≤ 96 → 96 ≤ length l → at + length (filledAt (getD f i 0) n) ≤ length m
   filling-fits n y h g j =
@@ -141,7 +129,8 @@ module _ (l f ns : List ℕ) (at i k : ℕ) (m : List ℕ) (x : Filling l f ns a
       omega (arith, ap length e, length-append (x .done) (a ++ b), length-append a b, filled-short f ns 0, put-length (x .put), x .put .ends))
 
   pub filling-more :
-      (q e n : ℕ) (m′ : List ℕ) → i < length f → n ≡ getD ns k 0 → q ≡ nextAt (getD f i 0) k → Put m at (filledAt (getD f i 0) n) e m′ → Filling l f ns e (i + 1) q m′
+      (q e n : ℕ) (m′ : List ℕ) → i < length f → n ≡ getD ns k 0 → q ≡ nextAt (getD f i 0) k → Put m at (filledAt (getD f i 0) n) e m′ → Filling l f ns e
+      (i + 1) q m′
   filling-more q e n m′ h g j p =
       let a = filledAt (getD f i 0) (getD ns k 0) in
       record {

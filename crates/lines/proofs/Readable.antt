@@ -1,5 +1,5 @@
 -- What is proved of reading a line. Assumes nothing.
-use Prim.Native.Nat.{ℕ, _+_, _*_, _≤_, _<_}
+use Prim.Native.Nat.{ℕ, _≤_, _<_}
 use mathlib.Core.Path.{_≡_, refl, ap, sym, subst, _∙_}
 use mathlib.Core.Logic.{_⊎_, inl, inr}
 use mathlib.Core.List.{List, [], _∷_, foldl}
@@ -20,11 +20,11 @@ use Rattle.lines.specs.Forms.{Asked, calls}
 use Rattle.lines.specs.Grammar.{Says}
 use Rattle.lines.specs.Reading.{twoBytes, pushed, fresh, kept, keptIn, tagOf, callOf, lineOf, finished, ran, said, saidIn}
 use Rattle.lines.specs.Handed.{Hands, callFor}
-use Rattle.lines.proofs.Goes.{Acc, AccR}
-use Rattle.lines.proofs.Runs.{told, Told, run-on, run-back, firsts, Holds, ran-reader, holds-run}
-use Rattle.lines.proofs.Standing.{Start, Row-at, row-of, Row-there, row-from, like-start-of, tag-is, text-is}
+use Rattle.lines.proofs.Goes.{AccR}
+use Rattle.lines.proofs.Runs.{told, run-on, run-back, Holds, ran-reader, holds-run}
+use Rattle.lines.proofs.Standing.{row-of, row-from, like-start-of, tag-is, text-is}
 use Rattle.lines.proofs.Complete.{fits-go}
-use Rattle.lines.proofs.Sound.{Fitted, goes-fit}
+use Rattle.lines.proofs.Sound.{goes-fit}
 use Rattle.lines.proofs.Handing.{handed}
 
 module _ (m : List ℕ) (n : length m ≡ 20) where

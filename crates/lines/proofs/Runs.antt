@@ -1,12 +1,12 @@
 -- A whole line run through the reader: the tag where it ends, and the numbers that it told. Assumes nothing.
-use Prim.Native.Nat.{ℕ, zero, suc, _+_, _-_, _*_, _≤_, _<_}
-use mathlib.Core.Path.{_≡_, refl, ap, ap₂, sym, subst, _∙_}
+use Prim.Native.Nat.{ℕ, suc, _+_, _-_, _*_, _≤_, _<_}
+use mathlib.Core.Path.{_≡_, refl, ap, sym, subst, _∙_}
 use mathlib.Core.Logic.{_⊎_, inl, inr}
 use mathlib.Core.List.{List, [], _∷_, _++_, foldl, append-assoc, append-nil}
-use mathlib.Core.Bool.{Bool, true, false, cond, _&&_}
+use mathlib.Core.Bool.{Bool, true, false, cond}
 use native.Mathlib.Omega.{arith}
 use native.Mathlib.Numerals.{add-one}
-use borrow.Author.Tests.{eqb-true, eq-eqb, ne-eqb, ltb-true, ltb-false}
+use borrow.Author.Tests.{eq-eqb, ne-eqb, ltb-true, ltb-false}
 use lib.Dec.{eqb, leb, ltb}
 use lib.ListN.{length, take, set, length-append, length-set, length-take}
 use lib.Seq.{take-all, take-append-le, take-suc-set}
@@ -14,10 +14,10 @@ use Rattle.lines.specs.declared.reading.Reader.{Reader}
 use Rattle.lines.specs.Decimal.{isDigit}
 use Rattle.lines.specs.Grammar.{tenfold}
 use Rattle.lines.specs.Reading.{size, letterAt, isMark, isTag, like, takes, goes, left, seek, inside, begins, parts, mayEnd, past, low, high, twoBytes, pushed, pushedIn, stepped, withDigit, withText, grownIf, stored, storedIf, storedIn, kept, keptIn, begun, placed, spelt, tagOf, tagBefore}
-use Rattle.lines.proofs.Classes.{differ, and-left, and-right, and-both, mark-no-tag, tag-some, Parted, parted-by}
+use Rattle.lines.proofs.Classes.{differ, and-left, and-right, and-both, mark-no-tag, tag-some}
 use Rattle.lines.proofs.Places.{within, like-next, like-trans, like-sym, Found, Missing, sought}
 use Rattle.lines.proofs.Table.{same-column, lone-mark, lone-tag, no-mark-behind}
-use Rattle.lines.proofs.Goes.{held, Goes, done, leave, begin, grow, part, spell, Acc, AccR, mark-there, leave-back, st, adds, On, push-on, push-back}
+use Rattle.lines.proofs.Goes.{held, Goes, done, leave, begin, grow, part, spell, Acc, AccR, mark-there, leave-back, st, adds, push-on, push-back}
 
 -- ---- the line's end
 end-at : (p q t : ℕ) → p ≤ q → like p q ≡ true → isTag t ≡ true → letterAt q ≡ t → tagBefore (seek p 10) ≡ t
@@ -58,11 +58,16 @@ end-on p s v k ns t a = by (a .place) (a .above) (a .same) (a .then)
             absurd (mark-no-tag (letterAt p) j
             (ap isTag (sym (lone-mark p q j (within q (subst (λ (c : ℕ). 1 ≤ c) (sym i) (tag-some t g))) e) ∙ i) ∙ g))
 
-    behind : (q : ℕ) (n′ : List ℕ) → p ≤ q → like p q ≡ true → isMark (letterAt q) ≡ true → mayEnd (letterAt q) s ≡ true → ns ≡ held s v ++ n′ → (l : List ℕ) → l ≡ [] → Goes (q + 1) 0 v l n′ t → Ended (st p s v k) ns t
+    behind : (q : ℕ) (n′ : List ℕ) → p ≤ q → like p q ≡ true → isMark (letterAt q) ≡ true → mayEnd (letterAt q) s ≡ true → ns ≡ held s v ++ n′ → (l : List ℕ)
+        → l ≡ [] → Goes (q + 1) 0 v l n′ t → Ended (st p s v k) ns t
     behind q n′ h e c f i l o (done z g j) =
         let c-is = mark-there p q h e c in
         let at : past (letterAt p) s p ≡ p + 1 = rw (c-is, c, f) in
-        record { tag = ap (λ (x : ℕ). tagBefore (seek x 10)) at ∙ end-at (p + 1) (q + 1) t (omega arith) (like-next p q e c-is) g j; is = i ∙ append-nil (held s v) }
+        record {
+          tag = ap (λ (x : ℕ). tagBefore (seek x 10)) at ∙ end-at (p + 1) (q + 1) t (omega arith) (like-next p q e c-is) g j;
+          is = i ∙ append-nil
+              (held s v);
+        }
     behind q n′ h e c f i l o (spell z w j g) = absurd (let u : _≡_ {A = ℕ} 0 1 = cc in omega arith)
     behind q n′ h e c f i l o (begin y d n g) = differ (sym y ∙ no-mark-behind q c)
     behind q n′ h e c f i l o (grow y d n z g) = differ (sym y ∙ no-mark-behind q c)
@@ -88,7 +93,8 @@ end-back p s v k n = by (sought (left p′) p′ 10 p′)
     p′ : ℕ
     p′ = past (letterAt p) s p
 
-    by : Missing p′ 10 p′ (left p′) (seek p′ 10) ⊎ Found p′ 10 p′ (seek p′ 10) → Acc p s v [] (held s v) (tagBefore (seek p′ 10)) × (isTag (tagBefore (seek p′ 10)) ≡ true)
+    by : Missing p′ 10 p′ (left p′) (seek p′ 10) ⊎ Found p′ 10 p′ (seek p′ 10) → Acc p s v [] (held s v) (tagBefore (seek p′ 10)) ×
+        (isTag (tagBefore (seek p′ 10)) ≡ true)
     by (inl x) = absurd (n (ap tagBefore (x .is)))
     by (inr x) =
         let l = and-left (like p′ (x .place)) (isTag (letterAt (x .place))) (x .takes) in
@@ -225,5 +231,7 @@ pub holds-run :
 unfolding told
 holds-run [] r m ns h = holds-kept ns r m h
 holds-run (b ∷ l) r m ns h =
-    subst (λ (z : List ℕ). Holds z (kept (foldl stepped (pushed r b, pushedIn r b m) l .0) .used) (keptIn (foldl stepped (pushed r b, pushedIn r b m) l .0) (foldl stepped (pushed r b, pushedIn r b m) l .1))) (append-assoc ns (adds r b) (told (pushed r b) l))
+    subst (λ (z : List ℕ). Holds z (kept (foldl stepped (pushed r b, pushedIn r b m) l .0) .used)
+    (keptIn (foldl stepped (pushed r b, pushedIn r b m) l .0) (foldl stepped (pushed r b, pushedIn r b m) l .1)))
+    (append-assoc ns (adds r b) (told (pushed r b) l))
     (holds-run l (pushed r b) (pushedIn r b m) (ns ++ adds r b) (holds-pushed ns r m b h))

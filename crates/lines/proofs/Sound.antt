@@ -1,22 +1,20 @@
 -- Whatever goes from the start of a row to its tag fits that row's form. Assumes nothing.
-use Prim.Native.Nat.{ℕ, zero, suc, _+_, _-_, _≤_, _<_}
+use Prim.Native.Nat.{ℕ, zero, suc, _+_, _-_, _≤_}
 use mathlib.Core.Path.{_≡_, refl, ap, sym, subst, _∙_}
 use mathlib.Core.Logic.{_⊎_, inl, inr}
 use mathlib.Core.List.{List, [], _∷_, _++_, foldl, append-assoc}
-use mathlib.Core.Bool.{Bool, true, false, cond, _&&_}
+use mathlib.Core.Bool.{true, false}
 use native.Mathlib.Omega.{arith}
-use native.Mathlib.Nat.{le-refl}
 use borrow.Author.Tests.{leb-true}
-use lib.Dec.{eqb, leb}
+use lib.Dec.{leb}
 use lib.ListN.{length, length-append}
 use Rattle.machine.specs.Calls.{Pair}
 use Rattle.lines.specs.Text.{text}
-use Rattle.lines.specs.Decimal.{isDigit}
 use Rattle.lines.specs.Forms.{Asked, Token, letter, number, pairs, Asks}
 use Rattle.lines.specs.Grammar.{allDigits, tenfold, pair, flat, isWord, Number, Row, one, more, Fits, fits-end, fits-letter, fits-number, fits-none, fits-pairs}
 use Rattle.lines.specs.Reading.{letterAt, isMark, isTag, inside, begins, parts, mayEnd}
-use Rattle.lines.proofs.Classes.{differ, and-left, and-right, word-no-tag, mark-no-word, mark-no-tag, begins-inside, How, Parted, parted-by}
-use Rattle.lines.proofs.Goes.{held, Goes, done, leave, begin, grow, part, spell}
+use Rattle.lines.proofs.Classes.{differ, and-left, and-right, word-no-tag, mark-no-word, mark-no-tag, begins-inside, How, parted-by}
+use Rattle.lines.proofs.Goes.{Goes, done, leave, begin, grow, part, spell}
 use Rattle.lines.proofs.Standing.{Stands, sound-text}
 
 module _ (q t : ℕ) (mark : isMark (letterAt q) ≡ true) where
@@ -107,7 +105,18 @@ module _ (q t : ℕ) (is : letterAt q ≡ 37) where
     last-of : (x y : ℕ) (a c l ns : List ℕ) → Number a x → Number c y → length l ≤ n → After q t mark 3 y l ns → Listed (a ++ text ":" ++ c ++ l) (x ∷ ns)
     unfolding flat
     last-of x y a c l ns j k h (ends-with ns′ may e g) =
-        record { d = a ++ text ":" ++ c; ps = pair x y ∷ []; rest = l; left = ns′; v = y; is-line = refl; row = one j k; is-told = ap (λ (z : List ℕ). x ∷ z) e; then = g }
+        record {
+          d = a ++ text ":" ++ c;
+          ps = pair x y ∷ [];
+          rest = l;
+          left = ns′;
+          v = y;
+          is-line = refl;
+          row = one j k;
+          is-told = ap
+              (λ (z : List ℕ). x ∷ z) e;
+          then = g;
+        }
     last-of x y a c l ns j k h (parts-with b i l′ ns′ f e o g) = by (parted-by (letterAt q) 3 b i f .is)
       where
         by : How 3 b (suc i) → Listed (a ++ text ":" ++ c ++ l) (x ∷ ns)
@@ -120,7 +129,8 @@ module _ (q t : ℕ) (is : letterAt q ≡ 37) where
               rest = r .rest;
               left = r .left;
               v = r .v;
-              is-line = ap (λ (u : List ℕ). a ++ text ":" ++ c ++ u) (e ∙ ap (λ (u : ℕ). u ∷ l′) (z .1) ∙ ap (λ (u : List ℕ). 44 ∷ u) (r .is-line)) ∙ regroup a c (r .d) (r .rest);
+              is-line = ap (λ (u : List ℕ). a ++ text ":" ++ c ++ u) (e ∙ ap (λ (u : ℕ). u ∷ l′) (z .1) ∙ ap (λ (u : List ℕ). 44 ∷ u) (r .is-line))
+                  ∙ regroup a c (r .d) (r .rest);
               row = more j k (r .row);
               is-told = ap (λ (u : List ℕ). x ∷ u) (o ∙ ap (λ (u : List ℕ). y ∷ u) (r .is-told));
               then = r .then;
@@ -230,7 +240,8 @@ at-letter c f a q t t′ v s l ns w e ih (spell {b = b} {l = l′} z u i h) =
     record { asked = y .asked; fits = subst (λ (k : ℕ). Fits (letter c ∷ f) a (k ∷ l′) ns (y .asked)) j (fits-letter w (y .fits)); tag = y .tag }
 at-letter c f a q t t′ v s l ns w e ih (begin m d n h) = absurd (mark-no-word (letterAt q) m (ap isWord e ∙ w))
 at-letter c f a q t t′ v s l ns w e ih (grow m d n k h) = absurd (mark-no-word (letterAt q) m (ap isWord e ∙ w))
-at-letter c f a q t t′ v s l ns w e ih (part {b = b} n k d i j h) = absurd (mark-no-word (letterAt q) (parted-by (letterAt q) s b n i .mark) (ap isWord e ∙ w))
+at-letter c f a q t t′ v s l ns w e ih (part {b = b} n k d i j h) = absurd
+    (mark-no-word (letterAt q) (parted-by (letterAt q) s b n i .mark) (ap isWord e ∙ w))
 at-letter c f a q t t′ v s l ns w e ih (leave k m i j h) = absurd (mark-no-word (letterAt q) m (ap isWord e ∙ w))
 
 at-number :
@@ -265,10 +276,12 @@ at-pairs f a q t t′ v l ns e ih g = by (pairs-of q t′ e v l ns g)
         }
 
 pub goes-fit :
-    (f : List Token) (a : Asks f) (q t t′ v : ℕ) (l ns : List ℕ) → sound-text f ≡ true → isTag t ≡ true → Stands f t q → Goes q 0 v l ns t′ → Fitted f a l ns t t′
+    (f : List Token) (a : Asks f) (q t t′ v : ℕ) (l ns : List ℕ) → sound-text f ≡ true → isTag t ≡ true → Stands f t q → Goes q 0 v l ns t′ →
+    Fitted f a l ns t t′
 unfolding Stands sound-text
 goes-fit [] a q t t′ v l ns w g s h = at-tag q t t′ v 0 l ns a g s h
 goes-fit (letter c ∷ f) a q t t′ v l ns w g s h =
-    at-letter c f a q t t′ v 0 l ns (and-left (isWord c) (sound-text f) w) (s .0) (λ v l ns h. goes-fit f a (q + 1) t t′ v l ns (and-right (isWord c) (sound-text f) w) g (s .1) h) h
+    at-letter c f a q t t′ v 0 l ns (and-left (isWord c) (sound-text f) w) (s .0)
+    (λ v l ns h. goes-fit f a (q + 1) t t′ v l ns (and-right (isWord c) (sound-text f) w) g (s .1) h) h
 goes-fit (number ∷ f) a q t t′ v l ns w g s h = at-number f a q t t′ v l ns (s .0) (λ n v l ns h. goes-fit f (a n) (q + 1) t t′ v l ns w g (s .1) h) h
 goes-fit (pairs ∷ f) a q t t′ v l ns w g s h = at-pairs f a q t t′ v l ns (s .0) (λ ps v l ns h. goes-fit f (a ps) (q + 1) t t′ v l ns w g (s .1) h) h

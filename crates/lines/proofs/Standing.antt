@@ -1,20 +1,18 @@
 -- Where the rows of the table stand, and that every place behind a newline is the start of one. Assumes nothing.
-use Prim.Native.Nat.{ℕ, zero, suc, _+_, _-_, _≤_, _<_}
+use Prim.Native.Nat.{ℕ, zero, suc, _+_, _-_, _≤_}
 use mathlib.Core.Path.{_≡_, refl, ap, sym, subst, _∙_}
-use mathlib.Core.Logic.{_⊎_, inl, inr}
 use mathlib.Core.List.{List, [], _∷_, _++_}
-use mathlib.Core.Bool.{Bool, true, false, not, _&&_}
+use mathlib.Core.Bool.{Bool, true, false, _&&_}
 use native.Mathlib.Omega.{arith}
 use native.Mathlib.Nat.{add-zero}
-use native.Mathlib.Numerals.{add-one}
-use borrow.Author.Tests.{eq-eqb, eqb-true, eqb-false, ltb-true, ltb-false}
+use borrow.Author.Tests.{eqb-true, eqb-false, ltb-true, ltb-false}
 use lib.Dec.{eqb, ltb}
 use lib.ListN.{length, getD, replicate}
 use Rattle.lines.specs.Forms.{Token, letter, number, pairs, byteOf, bytes, gap, rows, Form, forms}
 use Rattle.lines.specs.Grammar.{isWord, Among, here, there}
 use Rattle.lines.specs.Reading.{letterAt, like, isTag}
 use Rattle.lines.proofs.Classes.{differ, and-left, and-right}
-use Rattle.lines.proofs.Places.{Prior, like-prior, like-newline}
+use Rattle.lines.proofs.Places.{like-prior, like-newline}
 use Rattle.lines.proofs.Table.{first-newline}
 
 -- the form f and its tag t stand at q
@@ -184,7 +182,8 @@ row-there (f ∷ fs) s o n h g e = by (eqb o n) refl (λ y. row-there fs (and-ri
     by true i r = record { of = f; among = here; stands = subst (λ (x : ℕ). Stands (f .form) (f .tag) (x + 1)) (eqb-true o n i) (row-stands f fs o h) }
     by false i r =
         let a = not-here o n g (eqb-false o n i) in
-        let b = past-row (f .form) (f .tag) (o + 1) (tail f fs) (text-from f fs o h) (and-right (isTag (f .tag)) (sound-text (f .form)) good) (and-left (isTag (f .tag)) (sound-text (f .form)) good) n a e in
+        let b = past-row (f .form) (f .tag) (o + 1) (tail f fs) (text-from f fs o h) (and-right (isTag (f .tag)) (sound-text (f .form)) good)
+        (and-left (isTag (f .tag)) (sound-text (f .form)) good) n a e in
         over (r (past-dots (gap (f .form)) (o + 1 + length (f .form) + 1) (rows fs) (dots-from f fs o h) n b e))
 
 -- a place like the first

@@ -54,14 +54,14 @@ row s t a = record { form = tokens (text s); tag = first (text t); asks = a }
 
 abbrev pub forms : List Form
 forms =
-    row "call=append pairs=%" "A" (λ ps. calls (machine.append ps))
+    row "call=stop" "T" (calls machine.stop)
+    ∷ row "call=start" "S" (calls machine.start)
+    ∷ row "call=sync node=#" "Y" (λ n. calls (machine.sync n))
+    ∷ row "call=append pairs=%" "A" (λ ps. calls (machine.append ps))
     ∷ row "call=connect node=#" "C" (λ n. calls (machine.connect n))
     ∷ row "call=disconnect node=#" "D" (λ n. calls (machine.disconnect n))
     ∷ row "call=master node=#" "M" (λ n. calls (machine.master n))
     ∷ row "call=rollback number=#" "R" (λ n. calls (machine.rollback n))
-    ∷ row "call=start" "S" (calls machine.start)
-    ∷ row "call=stop" "T" (calls machine.stop)
-    ∷ row "call=sync node=#" "Y" (λ n. calls (machine.sync n))
     ∷ row "call=work node=# job=# number=# outcome=# cut=#" "W" (λ n j i o c. calls (machine.work n j i o c))
     ∷ row "call=fold number=#" "F" (λ n. calls (machine.foldTo n))
     ∷ []

@@ -20,10 +20,6 @@ use Rattle.lines.specs.Grammar.{isWord}
 unfoldable pub size : ℕ
 size = length table
 
--- the letter of a row with the text t, its tag behind it, in a column: a newline comes before, dots come behind
-abbrev pub cell : List ℕ → ℕ → ℕ
-cell t j = cond (eqb j 0) 10 (getD t (j - 1) 46)
-
 unfoldable pub letterAt : ℕ → ℕ
 letterAt p = getD table p 0
 

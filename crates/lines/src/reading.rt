@@ -3,12 +3,34 @@
 // numbers on.
 ghost use mathlib.Core.Path.{_≡_};
 ghost use Prim.Native.Nat.{_<_};
+ghost use lib.ListN.{getD};
 ghost use Rattle.lines.specs.Grammar.{isWord};
-ghost use Rattle.lines.specs.Reading.{cell, letterAt, isMark, isTag, like, takes, goes, seek, inside, begins, parts, mayEnd, past, placed, begun, grown, stored, storedIn, kept, keptIn, withDigit, spelt, withText, tagBefore, numberIn, bytesOf, callOf, lineOf};
+ghost use Rattle.lines.specs.Reading.{letterAt, isMark, isTag, like, takes, goes, seek, inside, begins, parts, mayEnd, past, placed, begun, grown, stored, storedIn, kept, keptIn, withDigit, spelt, withText, tagBefore, numberIn, bytesOf, callOf, lineOf};
 ghost use Rattle.lines.specs.Promises.{StartsFresh, Pushes, Finishes, ReadsLine};
 
-// The letters of a row of the table: letters in one column of two rows are so far apart.
+// The table of forms. A row is a newline, its text, in which `#` is a number and `%` are pairs, its tag, and dots; letters in
+// one column of two rows are `WIDTH` apart. The shortest lines come first: what a row shares with those before it is compared.
 const WIDTH: usize = 64;
+
+const STOP: [u8; 64] = *b"\ncall=stopT.....................................................";
+
+const START: [u8; 64] = *b"\ncall=startS....................................................";
+
+const SYNC: [u8; 64] = *b"\ncall=sync node=#Y..............................................";
+
+const APPEND: [u8; 64] = *b"\ncall=append pairs=%A...........................................";
+
+const CONNECT: [u8; 64] = *b"\ncall=connect node=#C...........................................";
+
+const DISCONNECT: [u8; 64] = *b"\ncall=disconnect node=#D........................................";
+
+const MASTER: [u8; 64] = *b"\ncall=master node=#M............................................";
+
+const ROLLBACK: [u8; 64] = *b"\ncall=rollback number=#R........................................";
+
+const WORK: [u8; 64] = *b"\ncall=work node=# job=# number=# outcome=# cut=#W...............";
+
+const FOLD: [u8; 64] = *b"\ncall=fold number=#F............................................";
 
 // Where the line so far leads: a place of the table; how much has come of what a mark there takes; the number that is being
 // read; how many bytes of the room the numbers take that ended.
@@ -47,38 +69,30 @@ pub struct Line {
     pub length: usize,
 }
 
-// A row's letter in a column: a newline comes before its text, dots come behind it.
-fn cell(text: &[u8], column: usize) -> u8
-    ensures { λ r. ⌜ r ≡ cell (now (text .entry)) column ⌝ }
+fn cell(row: [u8; 64], column: usize) -> u8
+    requires { ⌜ column < 64 ⌝ }
+    ensures { λ r. ⌜ r ≡ getD row column 0 ⌝ }
 {
-    if column == 0 {
-        return 10;
-    }
-    let i = column - 1;
-    if i < text.len() {
-        return text[i];
-    }
-    46
+    row[column]
 }
 
-// The letter at a place of the table of forms: a row for each, with its text, in which `#` is a number and `%` are pairs, and
-// its tag; 0 past the table.
+// The letter at a place of the table; 0 past it.
 fn letter(at: usize) -> u8
     ensures { λ r. ⌜ r ≡ letterAt at ⌝ }
 {
     let row = at / WIDTH;
     let column = at % WIDTH;
     match row {
-        0 => cell(b"call=append pairs=%A", column),
-        1 => cell(b"call=connect node=#C", column),
-        2 => cell(b"call=disconnect node=#D", column),
-        3 => cell(b"call=master node=#M", column),
-        4 => cell(b"call=rollback number=#R", column),
-        5 => cell(b"call=startS", column),
-        6 => cell(b"call=stopT", column),
-        7 => cell(b"call=sync node=#Y", column),
-        8 => cell(b"call=work node=# job=# number=# outcome=# cut=#W", column),
-        9 => cell(b"call=fold number=#F", column),
+        0 => cell(STOP, column),
+        1 => cell(START, column),
+        2 => cell(SYNC, column),
+        3 => cell(APPEND, column),
+        4 => cell(CONNECT, column),
+        5 => cell(DISCONNECT, column),
+        6 => cell(MASTER, column),
+        7 => cell(ROLLBACK, column),
+        8 => cell(WORK, column),
+        9 => cell(FOLD, column),
         _ => 0,
     }
 }
@@ -199,11 +213,11 @@ fn may_end(c: u8, s: u8) -> bool
     (c == b'#') & (s == 1) | (c == b'%') & ((s == 0) | (s == 3))
 }
 
-// Where a letter is looked for: behind a mark that may end.
-fn past(s: u8, p: usize) -> usize
-    ensures { λ r. ⌜ r ≡ past (letterAt p) s p ⌝ }
+// Where a letter is looked for from the place `p` with the letter `c`: behind a mark that may end.
+fn past(c: u8, s: u8, p: usize) -> usize
+    requires { ⌜ c ≡ letterAt p ⌝ }
+    ensures { λ r. ⌜ r ≡ past c s p ⌝ }
 {
-    let c = letter(p);
     if is_mark(c) {
         if may_end(c, s) {
             return p + 1;
@@ -294,8 +308,9 @@ fn spelt(p: usize, b: u8) -> usize
 fn with_text(r: Reader, room: &mut [u8; 20], b: u8) -> Reader
     ensures { λ q. ⌜ (q ≡ withText r b) × (now (room .exit) ≡ keptIn r (now (room .entry))) ⌝ }
 {
-    let s = parts(letter(r.at), r.sub, b);
-    let to = spelt(past(r.sub, r.at), b);
+    let c = letter(r.at);
+    let s = parts(c, r.sub, b);
+    let to = spelt(past(c, r.sub, r.at), b);
     let next = kept(r, room);
     if s == 0 {
         return placed(next, to);
@@ -412,7 +427,8 @@ fn line_of(tag: u8, used: usize, room: &[u8; 20]) -> Line
 pub fn finish(r: Reader, room: &mut [u8; 20]) -> Line
     ensures { λ q. ⌜ Finishes r (now (room .entry)) q (now (room .exit)) ⌝ }
 {
-    let tag = tag_before(seek(past(r.sub, r.at), 10));
+    let c = letter(r.at);
+    let tag = tag_before(seek(past(c, r.sub, r.at), 10));
     let last = kept(r, room);
     line_of(tag, last.used, room)
 }

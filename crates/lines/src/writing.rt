@@ -20,18 +20,6 @@ fn put_decimal(out: &mut [u8], at: usize, n: u32) -> usize
     end + 1
 }
 
-// A letter of a form from `at` on: a number where it is `#`, itself otherwise; answers where it ends.
-fn put_letter(out: &mut [u8], at: usize, c: u8, n: u32) -> usize
-    requires { ⌜ at + length (filledAt c n) ≤ length (now out) ⌝ }
-    ensures { λ r. ⌜ Put (now (out .entry)) at (filledAt c n) r (now (out .exit)) ⌝ }
-{
-    if c == b'#' {
-        return put_decimal(out, at, n);
-    }
-    out[at] = c;
-    at + 1
-}
-
 fn number_at(numbers: &[u32], k: usize) -> u32
     ensures { λ r. ⌜ r ≡ getD (now (numbers .entry)) k 0 ⌝ }
 {
@@ -39,6 +27,18 @@ fn number_at(numbers: &[u32], k: usize) -> u32
         return numbers[k];
     }
     0
+}
+
+// A letter of a form from `at` on: the `k`-th number where it is `#`, itself otherwise; answers where it ends.
+fn put_letter(out: &mut [u8], at: usize, c: u8, numbers: &[u32], k: usize) -> usize
+    requires { ⌜ at + length (filledAt c (getD (now numbers) k 0)) ≤ length (now out) ⌝ }
+    ensures { λ r. ⌜ Put (now (out .entry)) at (filledAt c (getD (now (numbers .entry)) k 0)) r (now (out .exit)) ⌝ }
+{
+    if c == b'#' {
+        return put_decimal(out, at, number_at(numbers, k));
+    }
+    out[at] = c;
+    at + 1
 }
 
 fn next_at(c: u8, k: usize) -> usize
@@ -65,8 +65,7 @@ fn write_form(out: &mut [u8], form: &[u8], numbers: &[u32]) -> usize
     let mut k = 0;
     while i < form.len() {
         let c = form[i];
-        let n = number_at(numbers, k);
-        at = put_letter(out, at, c, n);
+        at = put_letter(out, at, c, numbers, k);
         k = next_at(c, k);
         i += 1;
     }

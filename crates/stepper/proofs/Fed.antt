@@ -79,14 +79,16 @@ line-ends :
 unfolding unbroken
 line-ends [] l out room s q m after kept e (next b u none) = (u .0, u .1)
 line-ends (c ∷ t) l out room s q m after kept e (next {k = k} {a = a} {n = n} {r = r} b u f) =
-    let v : TakesIf false l out room s c r k a n = subst (λ (x : Bool). TakesIf x l out room s c r k a n) (not-true (eqb c 10) (and-left (not (eqb c 10)) (unbroken t) e)) u in
+    let v : TakesIf false l out room s c r k a n = subst (λ (x : Bool). TakesIf x l out room s c r k a n)
+    (not-true (eqb c 10) (and-left (not (eqb c 10)) (unbroken t) e)) u in
     let w = line-ends t k a n r q m after kept (and-right (not (eqb c 10)) (unbroken t) e) f in
     let y = subst (λ (z : Session). EndsRun k a (z .line, n) t (z .used) (q .used) m after) (v .0) (w .0) in
     let z = subst (λ (x : List ℕ). EndsRun k a (pushed (s .line) c, x) t (s .used) (q .used) m after) (v .3) y in
     let o = subst (λ (x : List ℕ). EndsRun x a (pushed (s .line) c, pushedIn (s .line) c room) t (s .used) (q .used) m after) (v .1) z in
     (subst (λ (x : List ℕ). EndsRun l x (pushed (s .line) c, pushedIn (s .line) c room) t (s .used) (q .used) m after) (v .2) o, w .1)
 
-module _ (t l out room : List ℕ) (s q : Session) (m after kept : List ℕ) (e : unbroken t ≡ true) (b : s .line ≡ fresh) (f : Feeds l out room s (t ++ (10 ∷ [])) q m after kept) where
+module _ (t l out room : List ℕ) (s q : Session) (m after kept : List ℕ) (e : unbroken t ≡ true) (b : s .line ≡ fresh)
+    (f : Feeds l out room s (t ++ (10 ∷ [])) q m after kept) where
   -- the bytes of a line and a newline, taken where a line begins: that line has ended, and a line begins
   pub line-ended : Ends l (said room t) (saidIn room t) out (s .used) (q .used) m after × (q .line ≡ fresh)
   line-ended =
@@ -110,6 +112,7 @@ module _ (t l out room : List ℕ) (s q : Session) (m after kept : List ℕ) (e 
   line-refused n =
       let y = line-ended .0 in
       let z = refuses-unsaid t room l (y .reply) m (y .answers) n in (
-        λ h. waits-behind l (said room t) (saidIn room t) out (s .used) (q .used) m after y h ∙ ap (λ (r : Reply). take (waiting (length out) (s .used)) out ++ replyLine r) (z .0),
+        λ h. waits-behind l (said room t) (saidIn room t) out (s .used) (q .used) m after y h ∙ ap
+            (λ (r : Reply). take (waiting (length out) (s .used)) out ++ replyLine r) (z .0),
         z .1,
       )

@@ -8,7 +8,6 @@ use mathlib.Core.List.{List, [], _∷_}
 use native.Mathlib.Omega.{arith}
 use borrow.Author.Tests.{eq-eqb}
 use lib.ListN.{length, take}
-use lib.Seq.{take-nil}
 use Rattle.kinds.specs.declared.Reply.{Reply}
 use Rattle.kinds.specs.Events.{refusal}
 use Rattle.machine.specs.Calls as machine
@@ -33,7 +32,8 @@ unfolding pairsOf twoBytes flat
 pairs-back ps x zero = refl
 pairs-back [] x (suc k) = refl
 pairs-back (p ∷ ps) x (suc k) =
-    ap₂ (λ (i j : ℕ). pair i j ∷ pairsOf (twoBytes (flat (take k ps)))) (back (p .path) (x .0)) (back (p .value) (x .1)) ∙ ap (λ (qs : List Pair). p ∷ qs) (pairs-back ps (x .2) k)
+    ap₂ (λ (i j : ℕ). pair i j ∷ pairsOf (twoBytes (flat (take k ps)))) (back (p .path) (x .0)) (back (p .value) (x .1)) ∙ ap (λ (qs : List Pair). p ∷ qs)
+    (pairs-back ps (x .2) k)
 
 four-each : (ps : List Pair) → length (twoBytes (flat ps)) ≡ 4 * length ps
 unfolding twoBytes flat
@@ -54,7 +54,8 @@ claims-five : (l : List ℕ) (ps : List Pair) (r : Reply) (m : List ℕ) → Cla
 claims-five l ps r m p = rw (five l ps) at p
 
 -- ---- each call
-claimed : (c : machine.Call) → Small (pairsIn (calls c)) → (l : List ℕ) (r : Reply) (m : List ℕ) → AnswersCall (callFor (calls c)) (pairsFor (calls c)) l r m → Claims l c r m
+claimed : (c : machine.Call) → Small (pairsIn (calls c)) → (l : List ℕ) (r : Reply) (m : List ℕ) → AnswersCall (callFor (calls c)) (pairsFor (calls c)) l r m
+    → Claims l c r m
 claimed (machine.append ps) x l r m p =
     claims-five l ps r m (subst (λ (c : machine.Call). Claims l c r m) (handed (take 5 ps) (pairs-back ps x 5)) p)
 claimed (machine.rollback n) x l r m p = p

@@ -38,7 +38,8 @@ ended l line read room kept out used at size r m rest e k a n w =
       answers = subst (λ (x : Line). Answers l x room r m) e (subst (λ (x : List ℕ). Answers l read x r m) k a);
       size = size;
       rest = rest;
-      written = subst (λ (x : List ℕ). Written x (replyLine r) size rest) (take-all (length out - at) (drop at out) s ∙ ap (λ (k : ℕ). drop k out) (n .waits)) w;
+      written = subst (λ (x : List ℕ). Written x (replyLine r) size rest)
+          (take-all (length out - at) (drop at out) s ∙ ap (λ (k : ℕ). drop k out) (n .waits)) w;
       ends = ap (λ (k : ℕ). k + size) (n .waits);
       holds =
           ap (λ (x : List ℕ). take at out ++ (rest ++ x)) (drop-of-length-le (drop at out) s)

@@ -4,8 +4,6 @@ use lib.Seq.{length-take-le}
 use borrow.Author.Needs.{needs}
 use Rattle.stepper.proofs.close.Statement.{statement}
 use Rattle.stepper.proofs.close.Tie as tie
-use Rattle.kinds.proofs.Number.get.Reads as Number-get-reads
-use Rattle.kinds.proofs.Ordinal.get.Reads as Ordinal-get-reads
 
 both-heads-requires : tie.Need-both-heads-requires
 both-heads-requires c κs = search needs

@@ -4,7 +4,6 @@ use Rattle.stepper.proofs.Waiting.{ended}
 use denote.Ref.{now}
 use native.Mathlib.Omega.{arith}
 use Prim.Native.Nat.{_≤_}
-use mathlib.Core.Path.{ap}
 use borrow.Author.Needs.{needs}
 use Rattle.stepper.proofs.end_line.Statement.{statement}
 use Rattle.stepper.proofs.end_line.Tie as tie
@@ -13,7 +12,9 @@ finish-requires : tie.Need-finish-requires
 finish-requires c κs = search needs
 
 answer-requires : tie.Need-answer-requires
-answer-requires c κs = let h : c .before .before .before .finish .result .length ≤ 20 = rw (c .before .before .before .finish .ensures .0) (within (c .before .before .before .before .before .before .before .args .s .line) (now (c .before .before .before .before .before .before .before .args .room))) in omega (arith, c .answer-arg3 .given .0)
+answer-requires c κs = let h : c .before .before .before .finish .result .length ≤ 20 = rw (c .before .before .before .finish .ensures .0)
+    (within (c .before .before .before .before .before .before .before .args .s .line)
+    (now (c .before .before .before .before .before .before .before .args .room))) in omega (arith, c .answer-arg3 .given .0)
 
 space-requires : tie.Need-space-requires
 space-requires c κs = search needs
@@ -40,7 +41,14 @@ same-length-2 : tie.Need-same-length-2
 same-length-2 c = search needs
 
 returns : tie.Need-returns
-returns c = (ended _ _ (c .before .before .before .before .before .before .before .before .before .before .before .before .finish .result) _ _ _ _ _ _ _ _ _ (c .before .before .before .before .before .before .before .before .before .before .before .before .finish .ensures .0) (c .before .before .before .before .before .before .before .before .before .before .before .before .finish .ensures .1) (c .before .before .before .before .before .before .before .before .answer .ensures) (c .before .before .before .before .space .ensures) (c .before .before .write-reply .ensures), c .before .before .before .before .before .before .before .before .before .before .before .before .finish .ensures .1)
+returns c = (
+  ended _ _ (c .before .before .before .before .before .before .before .before .before .before .before .before .finish .result) _ _ _ _ _ _ _ _ _
+      (c .before .before .before .before .before .before .before .before .before .before .before .before .finish .ensures .0)
+      (c .before .before .before .before .before .before .before .before .before .before .before .before .finish .ensures .1)
+      (c .before .before .before .before .before .before .before .before .answer .ensures) (c .before .before .before .before .space .ensures)
+      (c .before .before .write-reply .ensures),
+  c .before .before .before .before .before .before .before .before .before .before .before .before .finish .ensures .1,
+)
 
 pub end-line-spec : {M : Type 1} → statement M
 end-line-spec =

@@ -10,7 +10,8 @@ use Rattle.stepper.proofs.feed.Statement.{statement}
 use Rattle.stepper.proofs.feed.Tie as tie
 
 abbrev Inv-loop : tie.InvT-loop
-Inv-loop image₀ out₀ room₀ block session₀ i₀ image out room session i = (i ≤ length block) × Feeds image₀ out₀ room₀ session₀ (take i block) session image out room × (length image ≡ length image₀) × (length out ≡ length out₀)
+Inv-loop image₀ out₀ room₀ block session₀ i₀ image out room session i = (i ≤ length block) × Feeds image₀ out₀ room₀ session₀
+    (take i block) session image out room × (length image ≡ length image₀) × (length out ≡ length out₀)
 
 abbrev μ-loop : tie.MeasureT-loop
 μ-loop image₀ out₀ room₀ block session₀ i₀ image out room session i = length block - i
@@ -31,7 +32,15 @@ loop-less : tie.Need-loop-less Inv-loop μ-loop
 loop-less c = search needs
 
 loop-again : tie.Need-loop-again Inv-loop μ-loop
-loop-again c = (omega (arith, c .before .before .before .before .before .before .before .before .before .loop-test .taken), fed-more _ _ _ _ _ (c .before .before .before .before .before .before .before .before .before .before .loop .i) _ _ _ _ _ _ _ _ (c .before .before .before .before .before .before .before .before .before .loop-test .taken) (c .before .before .before .before .before .before .before .before .before .before .loop .inv .1) (c .before .before .before .before .take-byte .ensures), search needs, search needs)
+loop-again c = (
+  omega (arith, c .before .before .before .before .before .before .before .before .before .loop-test .taken),
+  fed-more _ _ _ _ _
+      (c .before .before .before .before .before .before .before .before .before .before .loop .i) _ _ _ _ _ _ _ _
+      (c .before .before .before .before .before .before .before .before .before .loop-test .taken)
+      (c .before .before .before .before .before .before .before .before .before .before .loop .inv .1) (c .before .before .before .before .take-byte .ensures),
+  search needs,
+  search needs,
+)
 
 same-length : tie.Need-same-length Inv-loop μ-loop
 same-length c = search needs

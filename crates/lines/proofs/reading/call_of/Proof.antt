@@ -46,7 +46,20 @@ returns-10 c = rw (c .match .keys10)
 
 returns-11 : tie.Need-returns-11
 unfolding callOf
-returns-11 c = simp (ne-eqb _ _ (c .match .rest .1), ne-eqb _ _ (c .match .rest .0 .1), ne-eqb _ _ (c .match .rest .0 .0 .1), ne-eqb _ _ (c .match .rest .0 .0 .0 .1), ne-eqb _ _ (c .match .rest .0 .0 .0 .0 .1), ne-eqb _ _ (c .match .rest .0 .0 .0 .0 .0 .1), ne-eqb _ _ (c .match .rest .0 .0 .0 .0 .0 .0 .1), ne-eqb _ _ (c .match .rest .0 .0 .0 .0 .0 .0 .0 .1), ne-eqb _ _ (c .match .rest .0 .0 .0 .0 .0 .0 .0 .0 .1), ne-eqb _ _ (c .match .rest .0 .0 .0 .0 .0 .0 .0 .0 .0 .1))
+returns-11 c = simp (
+  ne-eqb _ _ (c .match .rest .1),
+  ne-eqb _ _ (c .match .rest .0 .1),
+  ne-eqb _ _ (c .match .rest .0 .0 .1),
+  ne-eqb _ _
+      (c .match .rest .0 .0 .0 .1),
+  ne-eqb _ _ (c .match .rest .0 .0 .0 .0 .1),
+  ne-eqb _ _ (c .match .rest .0 .0 .0 .0 .0 .1),
+  ne-eqb _ _
+      (c .match .rest .0 .0 .0 .0 .0 .0 .1),
+  ne-eqb _ _ (c .match .rest .0 .0 .0 .0 .0 .0 .0 .1),
+  ne-eqb _ _ (c .match .rest .0 .0 .0 .0 .0 .0 .0 .0 .1),
+  ne-eqb _ _ (c .match .rest .0 .0 .0 .0 .0 .0 .0 .0 .0 .1),
+)
 
 pub call-of-spec : {M : Type 1} → statement M
 call-of-spec =

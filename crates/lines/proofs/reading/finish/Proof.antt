@@ -3,6 +3,9 @@ use borrow.Author.Needs.{needs}
 use Rattle.lines.proofs.reading.finish.Statement.{statement}
 use Rattle.lines.proofs.reading.finish.Tie as tie
 
+letter-requires : tie.Need-letter-requires
+letter-requires c κs = search needs
+
 past-requires : tie.Need-past-requires
 past-requires c κs = search needs
 
@@ -19,12 +22,24 @@ line-of-requires : tie.Need-line-of-requires
 line-of-requires c κs = search needs
 
 returns : tie.Need-returns
-returns c = (rw (c .line-of .ensures, c .before .before .kept .ensures .0, c .before .before .kept .ensures .1, c .before .before .before .before .tag-before .ensures, c .before .before .before .before .before .seek .ensures, c .before .before .before .before .before .before .past .ensures), c .before .before .kept .ensures .1)
+returns c = (
+  rw (
+    c .line-of .ensures,
+    c .before .before .kept .ensures .0,
+    c .before .before .kept .ensures .1,
+    c .before .before .before .before .tag-before .ensures,
+    c .before .before .before .before .before .seek .ensures,
+    c .before .before .before .before .before .before .past .ensures,
+    c .before .before .before .before .before .before .before .letter .ensures,
+  ),
+  c .before .before .kept .ensures .1,
+)
 
 pub finish-spec : {M : Type 1} → statement M
 finish-spec =
     tie.close
     (tie.spec
+    letter-requires
     past-requires
     seek-requires
     tag-before-requires

@@ -10,7 +10,11 @@ stored-requires : tie.Need-stored-requires
 stored-requires c κs = search needs
 
 returns : tie.Need-returns
-returns c = (rw (c .stored .ensures .0, ← c .before .before .before .inside .ensures, c .before .before .if1 .taken), rw (c .stored .ensures .1, ← c .before .before .before .inside .ensures, c .before .before .if1 .taken))
+returns c = (
+  rw (c .stored .ensures .0, ← c .before .before .before .inside .ensures, c .before .before .if1 .taken),
+  rw
+      (c .stored .ensures .1, ← c .before .before .before .inside .ensures, c .before .before .if1 .taken),
+)
 
 returns-2 : tie.Need-returns-2
 returns-2 c = (rw (← c .before .inside .ensures, c .if1 .left), rw (← c .before .inside .ensures, c .if1 .left))

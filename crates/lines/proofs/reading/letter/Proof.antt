@@ -7,133 +7,97 @@ use borrow.Author.Needs.{needs}
 use Rattle.lines.proofs.reading.letter.Statement.{statement}
 use Rattle.lines.proofs.reading.letter.Tie as tie
 
-slice-aggregate-cell : tie.Need-slice-aggregate-cell
-slice-aggregate-cell c = search needs
-
 cell-requires : tie.Need-cell-requires
 cell-requires c κs = search needs
-
-slice-aggregate-cell-2 : tie.Need-slice-aggregate-cell-2
-slice-aggregate-cell-2 c = search needs
 
 cell-requires-2 : tie.Need-cell-requires-2
 cell-requires-2 c κs = search needs
 
-slice-aggregate-cell-3 : tie.Need-slice-aggregate-cell-3
-slice-aggregate-cell-3 c = search needs
-
 cell-requires-3 : tie.Need-cell-requires-3
 cell-requires-3 c κs = search needs
-
-slice-aggregate-cell-4 : tie.Need-slice-aggregate-cell-4
-slice-aggregate-cell-4 c = search needs
 
 cell-requires-4 : tie.Need-cell-requires-4
 cell-requires-4 c κs = search needs
 
-slice-aggregate-cell-5 : tie.Need-slice-aggregate-cell-5
-slice-aggregate-cell-5 c = search needs
-
 cell-requires-5 : tie.Need-cell-requires-5
 cell-requires-5 c κs = search needs
-
-slice-aggregate-cell-6 : tie.Need-slice-aggregate-cell-6
-slice-aggregate-cell-6 c = search needs
 
 cell-requires-6 : tie.Need-cell-requires-6
 cell-requires-6 c κs = search needs
 
-slice-aggregate-cell-7 : tie.Need-slice-aggregate-cell-7
-slice-aggregate-cell-7 c = search needs
-
 cell-requires-7 : tie.Need-cell-requires-7
 cell-requires-7 c κs = search needs
-
-slice-aggregate-cell-8 : tie.Need-slice-aggregate-cell-8
-slice-aggregate-cell-8 c = search needs
 
 cell-requires-8 : tie.Need-cell-requires-8
 cell-requires-8 c κs = search needs
 
-slice-aggregate-cell-9 : tie.Need-slice-aggregate-cell-9
-slice-aggregate-cell-9 c = search needs
-
 cell-requires-9 : tie.Need-cell-requires-9
 cell-requires-9 c κs = search needs
-
-slice-aggregate-cell-10 : tie.Need-slice-aggregate-cell-10
-slice-aggregate-cell-10 c = search needs
 
 cell-requires-10 : tie.Need-cell-requires-10
 cell-requires-10 c κs = search needs
 
 returns : tie.Need-returns
 unfolding size
-returns c = in-row _ 0 _ (c .before .before .match .keys1) (omega arith) (c .cell .ensures)
+returns c = in-row _ 0 _ (c .before .match .keys1) (omega arith) (c .cell .ensures)
 
 returns-2 : tie.Need-returns-2
 unfolding size
-returns-2 c = in-row _ 1 _ (c .before .before .match .keys2) (omega arith) (c .cell2 .ensures)
+returns-2 c = in-row _ 1 _ (c .before .match .keys2) (omega arith) (c .cell2 .ensures)
 
 returns-3 : tie.Need-returns-3
 unfolding size
-returns-3 c = in-row _ 2 _ (c .before .before .match .keys3) (omega arith) (c .cell3 .ensures)
+returns-3 c = in-row _ 2 _ (c .before .match .keys3) (omega arith) (c .cell3 .ensures)
 
 returns-4 : tie.Need-returns-4
 unfolding size
-returns-4 c = in-row _ 3 _ (c .before .before .match .keys4) (omega arith) (c .cell4 .ensures)
+returns-4 c = in-row _ 3 _ (c .before .match .keys4) (omega arith) (c .cell4 .ensures)
 
 returns-5 : tie.Need-returns-5
 unfolding size
-returns-5 c = in-row _ 4 _ (c .before .before .match .keys5) (omega arith) (c .cell5 .ensures)
+returns-5 c = in-row _ 4 _ (c .before .match .keys5) (omega arith) (c .cell5 .ensures)
 
 returns-6 : tie.Need-returns-6
 unfolding size
-returns-6 c = in-row _ 5 _ (c .before .before .match .keys6) (omega arith) (c .cell6 .ensures)
+returns-6 c = in-row _ 5 _ (c .before .match .keys6) (omega arith) (c .cell6 .ensures)
 
 returns-7 : tie.Need-returns-7
 unfolding size
-returns-7 c = in-row _ 6 _ (c .before .before .match .keys7) (omega arith) (c .cell7 .ensures)
+returns-7 c = in-row _ 6 _ (c .before .match .keys7) (omega arith) (c .cell7 .ensures)
 
 returns-8 : tie.Need-returns-8
 unfolding size
-returns-8 c = in-row _ 7 _ (c .before .before .match .keys8) (omega arith) (c .cell8 .ensures)
+returns-8 c = in-row _ 7 _ (c .before .match .keys8) (omega arith) (c .cell8 .ensures)
 
 returns-9 : tie.Need-returns-9
 unfolding size
-returns-9 c = in-row _ 8 _ (c .before .before .match .keys9) (omega arith) (c .cell9 .ensures)
+returns-9 c = in-row _ 8 _ (c .before .match .keys9) (omega arith) (c .cell9 .ensures)
 
 returns-10 : tie.Need-returns-10
 unfolding size
-returns-10 c = in-row _ 9 _ (c .before .before .match .keys10) (omega arith) (c .cell10 .ensures)
+returns-10 c = in-row _ 9 _ (c .before .match .keys10) (omega arith) (c .cell10 .ensures)
 
 returns-11 : tie.Need-returns-11
 unfolding size
-returns-11 c = sym (past-table _ (let h = (above {n = 9} (above {n = 8} (above {n = 7} (above {n = 6} (above {n = 5} (above {n = 4} (above {n = 3} (above {n = 2} (above {n = 1} (above {n = 0} (omega arith) (c .match .rest .0 .0 .0 .0 .0 .0 .0 .0 .0 .1)) (c .match .rest .0 .0 .0 .0 .0 .0 .0 .0 .1)) (c .match .rest .0 .0 .0 .0 .0 .0 .0 .1)) (c .match .rest .0 .0 .0 .0 .0 .0 .1)) (c .match .rest .0 .0 .0 .0 .0 .1)) (c .match .rest .0 .0 .0 .0 .1)) (c .match .rest .0 .0 .0 .1)) (c .match .rest .0 .0 .1)) (c .match .rest .0 .1)) (c .match .rest .1)) in omega arith))
+returns-11 c = sym (past-table _ (let h = (above {n = 9} (above {n = 8} (above {n = 7}
+    (above {n = 6} (above {n = 5} (above {n = 4} (above {n = 3} (above {n = 2}
+    (above {n = 1} (above {n = 0} (omega arith) (c .match .rest .0 .0 .0 .0 .0 .0 .0 .0 .0 .1)) (c .match .rest .0 .0 .0 .0 .0 .0 .0 .0 .1))
+    (c .match .rest .0 .0 .0 .0 .0 .0 .0 .1)) (c .match .rest .0 .0 .0 .0 .0 .0 .1)) (c .match .rest .0 .0 .0 .0 .0 .1)) (c .match .rest .0 .0 .0 .0 .1))
+    (c .match .rest .0 .0 .0 .1)) (c .match .rest .0 .0 .1)) (c .match .rest .0 .1)) (c .match .rest .1)) in omega arith))
 
 pub letter-spec : {M : Type 1} → statement M
 letter-spec =
     tie.close
     (tie.spec
-    slice-aggregate-cell
     cell-requires
-    slice-aggregate-cell-2
     cell-requires-2
-    slice-aggregate-cell-3
     cell-requires-3
-    slice-aggregate-cell-4
     cell-requires-4
-    slice-aggregate-cell-5
     cell-requires-5
-    slice-aggregate-cell-6
     cell-requires-6
-    slice-aggregate-cell-7
     cell-requires-7
-    slice-aggregate-cell-8
     cell-requires-8
-    slice-aggregate-cell-9
     cell-requires-9
-    slice-aggregate-cell-10
     cell-requires-10
     returns
     returns-2

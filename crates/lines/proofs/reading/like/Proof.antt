@@ -33,10 +33,13 @@ letter-requires-2 : tie.Need-letter-requires-2 Inv-loop μ-loop
 letter-requires-2 c κs = search needs
 
 returns-2 : tie.Need-returns-2 Inv-loop μ-loop
-returns-2 c = sym (c .before .before .before .before .before .loop .inv ∙ like-differ _ _ (c .before .before .before .before .loop-test .taken) (omega (arith, c .before .before .before .if1 .left)) _ _ (c .before .before .letter .ensures) (c .before .letter2 .ensures) (c .if2 .taken))
+returns-2 c = sym (c .before .before .before .before .before .loop .inv ∙ like-differ _ _ (c .before .before .before .before .loop-test .taken)
+    (omega (arith, c .before .before .before .if1 .left)) _ _ (c .before .before .letter .ensures) (c .before .letter2 .ensures) (c .if2 .taken))
 
 returns-3 : tie.Need-returns-3 Inv-loop μ-loop
-returns-3 c = sym (c .before .before .before .before .before .before .loop .inv ∙ like-start _ _ (c .before .before .before .before .before .loop-test .taken) (omega (arith, c .before .before .before .before .if1 .left)) _ _ (c .before .before .before .letter .ensures) (c .before .before .letter2 .ensures) (c .before .if2 .left) (c .if3 .taken))
+returns-3 c = sym (c .before .before .before .before .before .before .loop .inv ∙ like-start _ _ (c .before .before .before .before .before .loop-test .taken)
+    (omega (arith, c .before .before .before .before .if1 .left)) _ _ (c .before .before .before .letter .ensures) (c .before .before .letter2 .ensures)
+    (c .before .if2 .left) (c .if3 .taken))
 
 sub-a : tie.Need-sub-a Inv-loop μ-loop
 sub-a c = search needs
@@ -48,7 +51,9 @@ loop-less : tie.Need-loop-less Inv-loop μ-loop
 loop-less c = search needs
 
 loop-again : tie.Need-loop-again Inv-loop μ-loop
-loop-again c = c .before .before .before .before .before .before .loop .inv ∙ like-back _ _ (c .before .before .before .before .before .loop-test .taken) (omega (arith, c .before .before .before .before .if1 .left)) _ _ (c .before .before .before .letter .ensures) (c .before .before .letter2 .ensures) (c .before .if2 .left) (c .if3 .left)
+loop-again c = c .before .before .before .before .before .before .loop .inv ∙ like-back _ _ (c .before .before .before .before .before .loop-test .taken)
+    (omega (arith, c .before .before .before .before .if1 .left)) _ _ (c .before .before .before .letter .ensures) (c .before .before .letter2 .ensures)
+    (c .before .if2 .left) (c .if3 .left)
 
 returns-4 : tie.Need-returns-4 Inv-loop μ-loop
 returns-4 c = sym (c .before .loop .inv ∙ ap (λ (x : ℕ). like x (c .before .loop .b)) (omega (arith, c .loop-test .left)) ∙ zero-like (c .before .loop .b))

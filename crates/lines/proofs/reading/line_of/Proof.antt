@@ -26,10 +26,26 @@ bytes-of-requires : tie.Need-bytes-of-requires
 bytes-of-requires c κs = search needs
 
 returns : tie.Need-returns
-returns c = rw (c .bytes-of .ensures, c .before .before .call-of .ensures, c .before .before .before .number-in5 .ensures, c .before .before .before .before .number-in4 .ensures, c .before .before .before .before .before .number-in3 .ensures, c .before .before .before .before .before .before .number-in2 .ensures, c .before .before .before .before .before .before .before .number-in .ensures) (simp (eq-eqb _ _ (c .before .if1 .taken)))
+returns c = rw (
+  c .bytes-of .ensures,
+  c .before .before .call-of .ensures,
+  c .before .before .before .number-in5 .ensures,
+  c .before .before .before .before .number-in4 .ensures,
+  c .before .before .before .before .before .number-in3 .ensures,
+  c .before .before .before .before .before .before .number-in2 .ensures,
+  c .before .before .before .before .before .before .before .number-in .ensures,
+)
+    (simp (eq-eqb _ _ (c .before .if1 .taken)))
 
 returns-2 : tie.Need-returns-2
-returns-2 c = rw (c .before .call-of .ensures, c .before .before .number-in5 .ensures, c .before .before .before .number-in4 .ensures, c .before .before .before .before .number-in3 .ensures, c .before .before .before .before .before .number-in2 .ensures, c .before .before .before .before .before .before .number-in .ensures) (simp (ne-eqb _ _ (c .if1 .left)))
+returns-2 c = rw (
+  c .before .call-of .ensures,
+  c .before .before .number-in5 .ensures,
+  c .before .before .before .number-in4 .ensures,
+  c .before .before .before .before .number-in3 .ensures,
+  c .before .before .before .before .before .number-in2 .ensures,
+  c .before .before .before .before .before .before .number-in .ensures,
+) (simp (ne-eqb _ _ (c .if1 .left)))
 
 pub line-of-spec : {M : Type 1} → statement M
 line-of-spec =

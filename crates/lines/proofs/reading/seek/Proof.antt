@@ -4,7 +4,7 @@ use Rattle.lines.proofs.Places.{seek-here, seek-on, seek-end}
 use Rattle.lines.specs.Reading.{size, letterAt, seekIn, left}
 use borrow.Author.Needs.{needs}
 use native.Mathlib.Omega.{arith}
-use mathlib.Core.Path.{_≡_, refl, ap, sym, _∙_}
+use mathlib.Core.Path.{_≡_, refl, sym, _∙_}
 use Prim.Native.Nat.{_-_}
 use Rattle.lines.proofs.reading.seek.Statement.{statement}
 use Rattle.lines.proofs.reading.seek.Tie as tie
@@ -26,10 +26,15 @@ takes-requires c κs = search needs
 
 add-result : tie.Need-add-result Inv-loop μ-loop
 unfolding size
-add-result c = omega (arith, in-place (c .before .before .before .before .args .p) _ (c .before .before .before .letter .ensures) (c .before .before .if1 .left))
+add-result c = omega (
+  arith,
+  in-place (c .before .before .before .before .args .p) _ (c .before .before .before .letter .ensures)
+      (c .before .before .if1 .left),
+)
 
 returns-2 : tie.Need-returns-2 Inv-loop μ-loop
-returns-2 c = sym (seek-itself _ _ _ _ (c .before .before .before .letter .ensures) (c .before .before .if1 .left) (c .before .takes .ensures) (c .if2 .taken))
+returns-2 c = sym (seek-itself _ _ _ _ (c .before .before .before .letter .ensures) (c .before .before .if1 .left) (c .before .takes .ensures)
+    (c .if2 .taken))
 
 loop-holds : tie.Need-loop-holds Inv-loop μ-loop
 loop-holds c = (c .before .before .before .letter .ensures, refl)
@@ -42,7 +47,8 @@ unfolding size
 add-result-2 c = omega (arith, in-table _ _ (c .before .before .before .loop .inv .0) (c .before .before .loop-test .taken))
 
 returns-3 : tie.Need-returns-3 Inv-loop μ-loop
-returns-3 c = sym (c .before .before .before .loop .inv .1 ∙ seek-here _ _ _ (in-table _ _ (c .before .before .before .loop .inv .0) (c .before .before .loop-test .taken)) (sym (c .before .goes .ensures) ∙ c .if3 .taken))
+returns-3 c = sym (c .before .before .before .loop .inv .1 ∙ seek-here _ _ _
+    (in-table _ _ (c .before .before .before .loop .inv .0) (c .before .before .loop-test .taken)) (sym (c .before .goes .ensures) ∙ c .if3 .taken))
 
 add-q : tie.Need-add-q Inv-loop μ-loop
 unfolding size
@@ -55,7 +61,12 @@ loop-less : tie.Need-loop-less Inv-loop μ-loop
 loop-less c = omega (arith, in-table _ _ (c .before .before .before .before .loop .inv .0) (c .before .before .before .loop-test .taken))
 
 loop-again : tie.Need-loop-again Inv-loop μ-loop
-loop-again c = (c .letter2 .ensures, c .before .before .before .before .loop .inv .1 ∙ seek-on _ _ _ (in-table _ _ (c .before .before .before .before .loop .inv .0) (c .before .before .before .loop-test .taken)) (sym (c .before .before .goes .ensures) ∙ c .before .if3 .left))
+loop-again c = (
+  c .letter2 .ensures,
+  c .before .before .before .before .loop .inv .1 ∙ seek-on _ _ _
+      (in-table _ _ (c .before .before .before .before .loop .inv .0) (c .before .before .before .loop-test .taken))
+      (sym (c .before .before .goes .ensures) ∙ c .before .if3 .left),
+)
 
 returns-4 : tie.Need-returns-4 Inv-loop μ-loop
 returns-4 c = sym (c .before .loop .inv .1 ∙ seek-end _ _ _ (at-end _ _ (c .before .loop .inv .0) (c .loop-test .left)))

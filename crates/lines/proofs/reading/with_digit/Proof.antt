@@ -16,7 +16,14 @@ grown-requires : tie.Need-grown-requires
 grown-requires c κs = search needs
 
 returns : tie.Need-returns
-returns c = rw (c .grown .ensures, ← c .before .before .before .before .before .letter .ensures, ← c .before .before .before .before .is-mark .ensures, c .before .before .before .if1 .taken, ← c .before .before .inside .ensures, c .before .if2 .taken)
+returns c = rw (
+  c .grown .ensures,
+  ← c .before .before .before .before .before .letter .ensures,
+  ← c .before .before .before .before .is-mark .ensures,
+  c .before .before .before .if1 .taken,
+  ← c .before .before .inside .ensures,
+  c .before .if2 .taken,
+)
 
 begins-requires : tie.Need-begins-requires
 begins-requires c κs = search needs
@@ -25,7 +32,15 @@ begun-requires : tie.Need-begun-requires
 begun-requires c κs = search needs
 
 returns-2 : tie.Need-returns-2
-returns-2 c = rw (c .begun .ensures, ← c .before .before .before .before .before .before .letter .ensures, ← c .before .before .before .before .before .is-mark .ensures, c .before .before .before .before .if1 .taken, ← c .before .before .before .inside .ensures, c .before .before .if2 .left, c .before .begins .ensures)
+returns-2 c = rw (
+  c .begun .ensures,
+  ← c .before .before .before .before .before .before .letter .ensures,
+  ← c .before .before .before .before .before .is-mark .ensures,
+  c .before .before .before .before .if1 .taken,
+  ← c .before .before .before .inside .ensures,
+  c .before .before .if2 .left,
+  c .before .begins .ensures,
+)
 
 placed-requires : tie.Need-placed-requires
 placed-requires c κs = search needs

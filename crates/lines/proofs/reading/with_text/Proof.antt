@@ -23,13 +23,33 @@ placed-requires : tie.Need-placed-requires
 placed-requires c κs = search needs
 
 returns : tie.Need-returns
-returns c = (rw (c .placed .ensures, c .before .before .kept .ensures .0, c .before .before .before .before .spelt .ensures, c .before .before .before .before .before .past .ensures, ← c .before .before .before .before .before .before .before .letter .ensures, ← c .before .before .before .before .before .before .parts .ensures, eq-eqb _ _ (c .before .if1 .taken)), c .before .before .kept .ensures .1)
+returns c = (
+  rw (
+    c .placed .ensures,
+    c .before .before .kept .ensures .0,
+    c .before .before .before .before .spelt .ensures,
+    c .before .before .before .before .before .past .ensures,
+    ← c .before .before .before .before .before .before .before .letter .ensures,
+    ← c .before .before .before .before .before .before .parts .ensures,
+    eq-eqb _ _ (c .before .if1 .taken),
+  ),
+  c .before .before .kept .ensures .1,
+)
 
 begun-requires : tie.Need-begun-requires
 begun-requires c κs = search needs
 
 returns-2 : tie.Need-returns-2
-returns-2 c = (rw (c .begun .ensures, c .before .before .kept .ensures .0, ← c .before .before .before .before .before .before .before .letter .ensures, ← c .before .before .before .before .before .before .parts .ensures, ne-eqb _ _ (c .before .if1 .left)), c .before .before .kept .ensures .1)
+returns-2 c = (
+  rw (
+    c .begun .ensures,
+    c .before .before .kept .ensures .0,
+    ← c .before .before .before .before .before .before .before .letter .ensures,
+    ← c .before .before .before .before .before .before .parts .ensures,
+    ne-eqb _ _ (c .before .if1 .left),
+  ),
+  c .before .before .kept .ensures .1,
+)
 
 pub with-text-spec : {M : Type 1} → statement M
 with-text-spec =

@@ -49,7 +49,12 @@ put-decimal-add-result : (t : ℕ) → put-decimal-lts.Need-add-result (
   put-decimal-below t,
   put-decimal.Post,
 ) (put-decimal-at t) put-decimal.Post
-put-decimal-add-result t c = omega (arith, c .before .before .pre .1, ap length (decimal-one (c .before .before .args .n) (c .if1 .taken)), c .before .before .good)
+put-decimal-add-result t c = omega (
+  arith,
+  c .before .before .pre .1,
+  ap length (decimal-one (c .before .before .args .n) (c .if1 .taken)),
+  c .before .before .good,
+)
 
 put-decimal-same-length : (t : ℕ) → put-decimal-lts.Need-same-length (
   put-decimal-below t,
@@ -67,7 +72,17 @@ put-decimal-put-decimal-requires : (t : ℕ) → put-decimal-lts.Need-put-decima
   put-decimal-below t,
   put-decimal.Post,
 ) (put-decimal-at t) put-decimal.Post
-put-decimal-put-decimal-requires t c κs = (omega (arith, c .before .before .before .pre .0, c .before .if1 .left), omega (arith, c .before .before .before .pre .1, ap length (decimal-more (c .before .before .before .args .n) (c .before .if1 .left) (c .before .before .before .fits .n .fits)), length-append (decimal (c .before .before .before .args .n / 10)) ((48 + c .before .before .before .args .n % 10) ∷ [])))
+put-decimal-put-decimal-requires t c κs = (
+  omega (arith, c .before .before .before .pre .0, c .before .if1 .left),
+  omega (
+    arith,
+    c .before .before .before .pre .1,
+    ap length (decimal-more (c .before .before .before .args .n) (c .before .if1 .left)
+        (c .before .before .before .fits .n .fits)),
+    length-append (decimal (c .before .before .before .args .n / 10))
+        ((48 + c .before .before .before .args .n % 10) ∷ []),
+  ),
+)
 
 put-decimal-cast-out-2 : (t : ℕ) → put-decimal-lts.Need-cast-out-2 (
   put-decimal-below t,
@@ -85,13 +100,32 @@ put-decimal-slice-write-out-2 : (t : ℕ) → put-decimal-lts.Need-slice-write-o
   put-decimal-below t,
   put-decimal.Post,
 ) (put-decimal-at t) put-decimal.Post
-put-decimal-slice-write-out-2 t c = omega (arith, put-length (c .before .before .put-decimal .ensures), c .before .before .put-decimal .ensures .ends, c .before .before .before .before .before .before .pre .1, ap length (decimal-more (c .before .before .before .before .before .before .args .n) (c .before .before .before .before .if1 .left) (c .before .before .before .before .before .before .fits .n .fits)), length-append (decimal (c .before .before .before .before .before .before .args .n / 10)) ((48 + c .before .before .before .before .before .before .args .n % 10) ∷ []))
+put-decimal-slice-write-out-2 t c = omega (
+  arith,
+  put-length (c .before .before .put-decimal .ensures),
+  c .before .before .put-decimal .ensures .ends,
+  c .before .before .before .before .before .before .pre .1,
+  ap length
+      (decimal-more (c .before .before .before .before .before .before .args .n) (c .before .before .before .before .if1 .left)
+      (c .before .before .before .before .before .before .fits .n .fits)),
+  length-append
+      (decimal (c .before .before .before .before .before .before .args .n / 10)) ((48 + c .before .before .before .before .before .before .args .n % 10) ∷ []),
+)
 
 put-decimal-add-result-2 : (t : ℕ) → put-decimal-lts.Need-add-result-2 (
   put-decimal-below t,
   put-decimal.Post,
 ) (put-decimal-at t) put-decimal.Post
-put-decimal-add-result-2 t c = omega (arith, c .before .before .put-decimal .ensures .ends, c .before .before .before .before .before .before .pre .1, c .before .before .before .before .before .before .good, ap length (decimal-more (c .before .before .before .before .before .before .args .n) (c .before .before .before .before .if1 .left) (c .before .before .before .before .before .before .fits .n .fits)), length-append (decimal (c .before .before .before .before .before .before .args .n / 10)) ((48 + c .before .before .before .before .before .before .args .n % 10) ∷ []))
+put-decimal-add-result-2 t c = omega (
+  arith,
+  c .before .before .put-decimal .ensures .ends,
+  c .before .before .before .before .before .before .pre .1,
+  c .before .before .before .before .before .before .good,
+  ap length (decimal-more (c .before .before .before .before .before .before .args .n)
+      (c .before .before .before .before .if1 .left) (c .before .before .before .before .before .before .fits .n .fits)),
+  length-append
+      (decimal (c .before .before .before .before .before .before .args .n / 10)) ((48 + c .before .before .before .before .before .before .args .n % 10) ∷ []),
+)
 
 put-decimal-same-length-2 : (t : ℕ) → put-decimal-lts.Need-same-length-2 (
   put-decimal-below t,
@@ -103,7 +137,8 @@ put-decimal-returns-2 : (t : ℕ) → put-decimal-lts.Need-returns-2 (
   put-decimal-below t,
   put-decimal.Post,
 ) (put-decimal-at t) put-decimal.Post
-put-decimal-returns-2 t c = rw (decimal-more (c .before .before .before .before .before .before .args .n) (c .before .before .before .before .if1 .left) (c .before .before .before .before .before .before .fits .n .fits)) (put-then (c .before .before .put-decimal .ensures) (put-byte _ _ _))
+put-decimal-returns-2 t c = rw (decimal-more (c .before .before .before .before .before .before .args .n) (c .before .before .before .before .if1 .left)
+    (c .before .before .before .before .before .before .fits .n .fits)) (put-then (c .before .before .put-decimal .ensures) (put-byte _ _ _))
 
 pub +put-decimal-spec : {M : Type 1} → statement M
 +put-decimal-spec = close μ-put-decimal λ t. put-decimal-lts.spec (

@@ -40,7 +40,10 @@ same-length c = search needs
 
 returns : tie.Need-returns
 unfolding replyLine
-returns c = rw (← c .before .before .before .before .before .before .before .before .before .before .get .ensures, ← c .before .before .before .before .before .before .before .before .before .code .ensures) (c .before .before .write-form .ensures)
+returns c = rw (
+  ← c .before .before .before .before .before .before .before .before .before .before .get .ensures,
+  ← c .before .before .before .before .before .before .before .before .before .code .ensures,
+) (c .before .before .write-form .ensures)
 
 pub write-reply-spec : {M : Type 1} → statement M
 write-reply-spec =
