@@ -1,11 +1,10 @@
 -- Fold, as the code makes it: what it asks of the entries kept, the base that it lays, and its answers. Assumes nothing.
-use Prim.Native.Nat.{ℕ, suc, _+_, _-_, _*_, _≤_, _<_}
+use Prim.Native.Nat.{ℕ, suc, _+_, _-_, _≤_, _<_}
 use mathlib.Core.Path.{_≡_, refl, ap, ap₂, sym, _∙_}
-use mathlib.Core.Logic.{inl}
-use mathlib.Core.Bool.{Bool, true, false, _&&_, _||_, cond, true≢false}
+use mathlib.Core.Bool.{Bool, true, false, _&&_, _||_, true≢false}
 use mathlib.Core.List.{List, [], _∷_, _++_, append-nil}
 use native.Mathlib.Omega.{arith}
-use borrow.Author.Tests.{leb-true, ltb-true, ltb-false, le-leb, lt-leb, lt-ltb, le-ltb}
+use borrow.Author.Tests.{leb-true, ltb-true, ltb-false, le-leb, lt-leb, le-ltb}
 use lib.Dec.{eqb, leb, ltb}
 use lib.ListN.{length, getD, drop}
 use lib.Seq.{drop-length, drop-cons}
@@ -25,17 +24,17 @@ use Rattle.machine.specs.Rest.{restOf}
 use Rattle.machine.specs.Settled.{settled}
 use Rattle.machine.specs.LiveList.{live}
 use Rattle.machine.specs.Folding.{stays, finished, finishedTo, entryWaits, mayFold, baseIf, baseRow}
-use Rattle.machine.specs.Calls.{Call, Outcome, foldTo, refused, accepted, unless, decide}
+use Rattle.machine.specs.Calls.{foldTo, decide}
 use Rattle.image.specs.Layout.{slots, imageLength, valuesAt, committedAt, appliedAt}
 use Rattle.image.specs.Records.{entryAt, lastOf, foldedOf, headAt}
 use Rattle.image.specs.View.{view, write, written}
 use Rattle.image.specs.Formed.{formed, allKept}
 use Rattle.image.proofs.Kept.{value-leaves}
 use Rattle.image.proofs.UpTo.{and-left, and-right, kept-at, kept-from}
-use Rattle.image.proofs.Scanned.{view-all, view-folded}
+use Rattle.image.proofs.Scanned.{view-all}
 use Rattle.controller.specs.Claims.{Does, Entry, Ring, waitsAt, finishedAt}
 use Rattle.controller.specs.Live.{liveFrom, Chained, Reaches, ListedIn}
-use Rattle.controller.proofs.Decided.{entry-of, entry-here, this-entry, last-is, fold-low}
+use Rattle.controller.proofs.Decided.{entry-here, this-entry, last-is}
 use Rattle.controller.proofs.Performed.{written-append, rows-on}
 use Rattle.controller.proofs.Walked.{as-entry, live-more, live-is, lower, chain-in}
 use Rattle.controller.proofs.Answered.{refuses, accepts}

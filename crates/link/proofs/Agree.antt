@@ -24,7 +24,8 @@ use Rattle.image.proofs.Scanned.{Room, formed-length, formed-room}
 use Rattle.image.proofs.Shown.{Fits, FitsAll, lastAfter, foldedAfter, length-write, ends-write, room-write, rest-fits}
 use Rattle.controller.specs.Claims.{outcomeOf, Claims}
 use Rattle.link.specs.Runs.{Calling, none, next}
-use Rattle.link.proofs.Link.{decide-fits, stays-bytes}
+use Rattle.staying.proofs.Stays.{decide-fits}
+use Rattle.link.proofs.Link.{stays-bytes}
 use Rattle.link.proofs.Unused.{Used, past, slot, Agree, same-last, same-folded, same-outcome, same-reply}
 
 -- ---- the byte j after the same is written in both

@@ -18,7 +18,7 @@ use Rattle.image.specs.Fresh.{zeros, freshImage}
 use Rattle.image.proofs.Freshened.{shows-fresh, formed-fresh}
 use Rattle.controller.specs.Fresh.{imageIf, Freshens}
 use Rattle.link.specs.Runs.{Calling, stateFrom, repliesFrom}
-use Rattle.link.proofs.Lent.{bytes-put}
+use Rattle.staying.proofs.Lent.{bytes-put}
 use Rattle.link.proofs.Link.{Shows, shows-run, state-run, events-run, eventOf}
 
 zero-bytes : (n : ℕ) → Bytes (zeros n)

@@ -1,8 +1,4 @@
 -- The laws of the link: why its contracts and theorems hold. Assumes nothing.
-pub mod Sizes
-pub mod Rooms
-pub mod Codes
-pub mod Lent
 pub mod Refused
 pub mod Link
 pub mod Unused

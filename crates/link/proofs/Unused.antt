@@ -31,8 +31,8 @@ use Rattle.image.proofs.Scanned.{view-last, view-folded, formed-room, formed-st
 use Rattle.image.proofs.Shown.{shown-log}
 use Rattle.controller.specs.Claims.{outcomeOf, Claims}
 use Rattle.controller.proofs.Performed.{written-append}
-use Rattle.link.proofs.Sizes.{sizes}
-use Rattle.link.proofs.Rooms.{Still, Stills, none, more, isPlain, decide-still, base-row-still}
+use Rattle.staying.proofs.Sizes.{sizes}
+use Rattle.staying.proofs.Rooms.{Still, Stills, none, more, isPlain, decide-still, base-row-still}
 
 -- a byte in use, where b is the last fold and n the highest number: past the ring, or of the entry of a number kept
 pub data Used (b n j : ℕ) : Type 0 where

@@ -1,6 +1,5 @@
 // No code: theorems over the one contract (Claims) of the controller's public calls. Each is of every call. In proofs/:
-// Link     decide-fits      what a call decides to store has room in the image, whatever its arguments
-//          shows-next       the reply is the machine's, and the image that is left shows the machine's next state
+// Link     shows-next       the reply is the machine's, and the image that is left shows the machine's next state
 //          not-formed       an image that is not well-formed is refused with 1, and stays
 //          refused-same     a refused call leaves every byte
 //          stays-bytes, stays-formed    bytes stay bytes, and a well-formed image stays well-formed
@@ -10,4 +9,4 @@
 // Unused   same-outcome     entries past the log's end are not read
 //          keeps-unused, append-unused    nor changed, but append's new entry
 // Agree    agree-run        images that agree on what is used give the same replies to any calls, and go on to agree
-// Sizes, Rooms, Codes, Lent and Refused are their lemmas.
+// Refused has a lemma of theirs; the others are in the crate `staying`.

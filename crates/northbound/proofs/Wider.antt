@@ -1,6 +1,6 @@
 -- A number narrowed is answered as the number itself: each call and each read decides the same. Assumes nothing.
 use Prim.Native.Nat.{ℕ, _≤_, _<_}
-use mathlib.Core.Path.{_≡_, refl, sym, ap, ap₂, _∙_, subst}
+use mathlib.Core.Path.{_≡_, refl, sym, ap, ap₂, _∙_}
 use mathlib.Core.Bool.{Bool, true, false, _&&_, cond}
 use mathlib.Core.List.{List}
 use native.Mathlib.Omega.{arith}
@@ -8,7 +8,7 @@ use borrow.Author.Tests.{leb-true, leb-false, le-leb, lt-leb, le-ltb}
 use lib.Dec.{eqb, leb, ltb}
 use lib.ListN.{length}
 use Rattle.kinds.specs.declared.Reply.{Reply}
-use Rattle.machine.specs.State.{State, last, inLog, isKept, isNode, isMaster, entryOf, lineOpenFor}
+use Rattle.machine.specs.State.{last, inLog, isKept, isNode}
 use Rattle.machine.specs.WellFormed.{allEntries, entryOk, sizesOk, headsOk, logOk, wellFormed}
 use Rattle.machine.specs.Calls.{Call, Outcome, rollback, connect, disconnect, master, sync, work, foldTo, unless, refused, workOk, decide}
 use Rattle.machine.specs.Reads.{Query, Answer, ofTable, ofEntry, ofState, ofNode, isField, read}

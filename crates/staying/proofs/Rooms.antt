@@ -58,7 +58,7 @@ use Rattle.machine.specs.Calls.{Pair, Call, Outcome, append, start, stop, conne
 use Rattle.image.specs.Layout.{slots, highest, highestOrdinal}
 use Rattle.image.proofs.Sized.{Four, SizedEntry, SizedHead, SizedMastership, SizedTable, SizedConnections}
 use Rattle.image.proofs.Shown.{Fits, FitsAll, lastAfter, foldedAfter}
-use Rattle.link.proofs.Sizes.{Sizes, four}
+use Rattle.staying.proofs.Sizes.{Sizes, four}
 
 -- ---- rows of stores that have room and leave the last fold d and the highest number n
 pub record Still (d n : ℕ) (e : Store) : Type 0 where

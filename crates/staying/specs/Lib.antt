@@ -1,0 +1,1 @@
+-- Nothing is defined here: the theorems speak of image and machine. Assumes nothing.
