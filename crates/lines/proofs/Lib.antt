@@ -1,3 +1,4 @@
+-- The laws of the lines: why its contracts and theorems hold. Assumes nothing.
 pub mod Putting
 pub mod Lists
 pub mod Cells

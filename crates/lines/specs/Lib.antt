@@ -1,3 +1,4 @@
+-- The definitions of the lines: all that one has to believe of this crate. Assumes nothing.
 pub mod Text
 pub mod Decimal
 pub mod Forms

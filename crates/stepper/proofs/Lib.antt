@@ -1,3 +1,4 @@
+-- The laws of the stepper: why its contracts and theorems hold. Assumes nothing.
 pub mod Answered
 pub mod Joint
 pub mod Waiting
