@@ -174,35 +174,44 @@ W1 = letters (text " job=") (number ∷ W2)
 abbrev asks-work : ℕ → ℕ → ℕ → ℕ → ℕ → Asked
 asks-work n j i o c = calls (machine.work n j i o c)
 
-worked : {l ns : List ℕ} {x : Asked} → Fits (letters (text "call=work node=") (number ∷ W1)) asks-work l ns x → Lined l x
-worked {x = x} y =
-    let z1 = text-rest (text "call=work node=") (number ∷ W1) asks-work y in
-    let k1 = key W1 asks-work (z1 .fits) in
-    let z2 = text-rest (text " job=") (number ∷ W2) (asks-work (k1 .n)) (k1 .fits) in
-    let k2 = key W2 (asks-work (k1 .n)) (z2 .fits) in
-    let z3 = text-rest (text " number=") (number ∷ W3) (asks-work (k1 .n) (k2 .n)) (k2 .fits) in
-    let k3 = key W3 (asks-work (k1 .n) (k2 .n)) (z3 .fits) in
-    let z4 = text-rest (text " outcome=") (number ∷ W4) (asks-work (k1 .n) (k2 .n) (k3 .n)) (k3 .fits) in
-    let k4 = key W4 (asks-work (k1 .n) (k2 .n) (k3 .n)) (z4 .fits) in
-    let z5 = text-rest (text " cut=") W5 (asks-work (k1 .n) (k2 .n) (k3 .n) (k4 .n)) (k4 .fits) in
-    let k5 = last (asks-work (k1 .n) (k2 .n) (k3 .n) (k4 .n)) (z5 .fits) in
-    moved
-    (z1 .is ∙ ap (λ (r : List ℕ). text "call=work node=" ++ r) (k1 .is ∙ ap (λ (r : List ℕ). k1 .d ++ r)
-    (z2 .is ∙ ap (λ (r : List ℕ). text " job=" ++ r) (k2 .is ∙ ap (λ (r : List ℕ). k2 .d ++ r)
-    (z3 .is ∙ ap (λ (r : List ℕ). text " number=" ++ r) (k3 .is ∙ ap (λ (r : List ℕ). k3 .d ++ r)
-    (z4 .is ∙ ap (λ (r : List ℕ). text " outcome=" ++ r) (k4 .is ∙ ap (λ (r : List ℕ). k4 .d ++ r) (z5 .is))))))))
-    ∙ regroup (k1 .d) (k2 .d) (k3 .d) (k4 .d) (z5 .rest))
-    (record {
-      call = machine.work (k1 .n) (k2 .n) (k3 .n) (k4 .n) (k5 .n);
-      is = k5 .is;
-      line = line-work (k1 .number) (k2 .number) (k3 .number) (k4 .number) (k5 .number);
-    })
+-- a key, its number, and what holds of the rest
+behind-key :
+    (t : List ℕ) (f : List Token) (a : ℕ → Asks f) {l ns : List ℕ} {x : Asked} (P : List ℕ → Type 0) →
+    Fits (letters t (number ∷ f)) (within t (number ∷ f) a) l ns x →
+    ((d : List ℕ) (n : ℕ) (r ms : List ℕ) → Number d n → Fits f (a n) r ms x → P (t ++ (d ++ r))) → P l
+behind-key t f a P y go =
+    let z = text-rest t (number ∷ f) a y in
+    let k = key f a (z .fits) in
+    subst P (sym (z .is ∙ ap (λ (r : List ℕ). t ++ r) (k .is))) (go (k .d) (k .n) (k .rest) (k .left) (k .number) (k .fits))
+
+-- the four keys before the last
+abbrev Behind : (a b d e l : List ℕ) → List ℕ
+Behind a b d e l = text "call=work node=" ++ (a ++ (text " job=" ++ (b ++ (text " number=" ++ (d ++ (text " outcome=" ++ (e ++ l)))))))
+
+last-key :
+    (a b d e : List ℕ) (n j i o : ℕ) {l ns : List ℕ} {x : Asked} → Number a n → Number b j → Number d i → Number e o → Fits W4 (asks-work n j i o) l ns x →
+    Lined (Behind a b d e l) x
+last-key a b d e n j i o u v w s y =
+    let z = text-rest (text " cut=") W5 (asks-work n j i o) y in
+    let k = last (asks-work n j i o) (z .fits) in
+    moved (ap (λ (r : List ℕ). Behind a b d e r) (z .is) ∙ regroup (z .rest))
+    (record { call = machine.work n j i o (k .n); is = k .is; line = line-work u v w s (k .number) })
   where
     regroup :
-        (a b d e f : List ℕ) →
-        text "call=work node=" ++ (a ++ (text " job=" ++ (b ++ (text " number=" ++ (d ++ (text " outcome=" ++ (e ++ (text " cut=" ++ f))))))))
-        ≡ text "call=work node=" ++ a ++ text " job=" ++ b ++ text " number=" ++ d ++ text " outcome=" ++ e ++ text " cut=" ++ f
-    regroup a b d e f = simp append-assoc
+        (f : List ℕ) → Behind a b d e (text " cut=" ++ f) ≡
+        text "call=work node=" ++ a ++ text " job=" ++ b ++ text " number=" ++ d ++ text " outcome=" ++ e ++ text " cut=" ++ f
+    regroup f = simp append-assoc
+
+worked : {l ns : List ℕ} {x : Asked} → Fits (letters (text "call=work node=") (number ∷ W1)) asks-work l ns x → Lined l x
+worked {x = x} y =
+    behind-key (text "call=work node=") W1 asks-work (λ r. Lined r x) y
+    (λ a n r1 ns1 u y1. behind-key (text " job=") W2 (asks-work n) (λ r. Lined (text "call=work node=" ++ (a ++ r)) x) y1
+    (λ b j r2 ns2 v y2.
+    behind-key (text " number=") W3 (asks-work n j) (λ r. Lined (text "call=work node=" ++ (a ++ (text " job=" ++ (b ++ r)))) x) y2
+    (λ d i r3 ns3 w y3.
+    behind-key (text " outcome=") W4 (asks-work n j i)
+    (λ r. Lined (text "call=work node=" ++ (a ++ (text " job=" ++ (b ++ (text " number=" ++ (d ++ r)))))) x) y3
+    (λ e o r4 ns4 s y4. last-key a b d e n j i o u v w s y4))))
 
 -- ---- each row
 LinesOf : Form → Type 0
