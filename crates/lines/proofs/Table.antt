@@ -4,14 +4,14 @@
 use Prim.Native.Nat.{ℕ, zero, suc, _+_, _-_, _*_, _/_, _%_, _≤_, _<_}
 use mathlib.Core.Path.{_≡_, refl, ap, sym, subst, _∙_}
 use mathlib.Core.Logic.{_⊎_, inl, inr}
-use mathlib.Core.Bool.{Bool, true, false, not, _&&_, _||_}
+use mathlib.Core.Bool.{Bool, true, false, not, cond, _&&_, _||_}
 use native.Mathlib.Omega.{arith}
 use native.Mathlib.Numerals.{add-one}
-use borrow.Author.Tests.{eqb-true, eq-eqb, ltb-true, ltb-false}
+use borrow.Author.Tests.{eqb-true, eq-eqb, ne-eqb, ltb-true, ltb-false}
 use lib.Dec.{eqb, ltb}
-use Rattle.lines.specs.Reading.{size, letterAt, like, takes, seekIn, left, isMark, isTag}
+use Rattle.lines.specs.Reading.{size, letterAt, like, takes, goes, seekIn, left, seek, isMark, isTag, tagBefore}
 use Rattle.lines.proofs.Classes.{differ, and-left, and-right, and-both, or-split, tag-some, mark-some}
-use Rattle.lines.proofs.Places.{within, zero-like, like-zero, Before, before, like-next, like-newline, seek-here, seek-end, seek-nowhere}
+use Rattle.lines.proofs.Places.{within, zero-like, like-zero, Before, before, like-next, like-newline, like-sym, Found, Missing, sought, seek-here, seek-end, seek-nowhere}
 
 -- p at every number below n
 unfoldable pub all : ℕ → (ℕ → Bool) → Bool
@@ -158,3 +158,34 @@ lone-tag p q h k e = lone p q (rw h (or-true (isMark (letterAt p)))) (within p (
 
 pub no-mark-behind : (p : ℕ) → isMark (letterAt p) ≡ true → isMark (letterAt (p + 1)) ≡ false
 no-mark-behind p h = and-not (isMark (letterAt p)) (isMark (letterAt (p + 1))) h (all-at size partedAt parted-all p (within p (mark-some (letterAt p) h)))
+
+-- ---- where a line ends: the tag at the place itself, for a row with the same text has the same there
+pub tag-here : (p : ℕ) → tagBefore (seek p 10) ≡ cond (isTag (letterAt p)) (letterAt p) 0
+tag-here p = by (sought (left p) p 10 p)
+  where
+    itself : (p : ℕ) → isTag (letterAt p) ≡ true → seek p 10 ≡ p + 1
+    itself zero h = differ (sym h ∙ ap isTag first-newline)
+    itself (suc p) h =
+        seek-here (suc p) 10 (suc p) (within (suc p) (tag-some (letterAt (suc p)) h)) (and-both (like (suc p) (suc p)) (isTag (letterAt (suc p))) (like-itself p) h)
+
+    behind : (p : ℕ) → tagBefore (p + 1) ≡ letterAt p
+    behind p = rw (ne-eqb (p + 1) 0 (λ e. omega arith)) (ap letterAt (omega arith))
+
+    none : (t : Bool) → isTag (letterAt p) ≡ t → seek p 10 ≡ 0 → 0 ≡ cond t (letterAt p) 0
+    none true h e = absurd (omega (arith, itself p h, e))
+    none false h e = refl
+
+    by : Missing p 10 p (left p) (seek p 10) ⊎ Found p 10 p (seek p 10) → tagBefore (seek p 10) ≡ cond (isTag (letterAt p)) (letterAt p) 0
+    by (inl x) = ap tagBefore (x .is) ∙ none (isTag (letterAt p)) refl (x .is)
+    by (inr x) =
+        let h : isTag (letterAt (x .place)) ≡ true = and-right (like p (x .place)) (isTag (letterAt (x .place))) (x .takes) in
+        let e : letterAt p ≡ letterAt (x .place) =
+        lone-tag (x .place) p h (omega (arith, x .above, within (x .place) (tag-some (letterAt (x .place)) h))) (like-sym p (x .place)
+        (and-left (like p (x .place)) (isTag (letterAt (x .place))) (x .takes))) in
+        ap tagBefore (itself p (ap isTag e ∙ h)) ∙ behind p ∙ rw (ap isTag e ∙ h)
+
+pub tag-taken : (p c : ℕ) → c ≡ letterAt p → isTag c ≡ true → c ≡ tagBefore (seek p 10)
+tag-taken p c e h = e ∙ sym (tag-here p ∙ rw (ap isTag (sym e) ∙ h))
+
+pub tag-left : (p c : ℕ) → c ≡ letterAt p → isTag c ≡ false → 0 ≡ tagBefore (seek p 10)
+tag-left p c e h = sym (tag-here p ∙ rw (ap isTag (sym e) ∙ h))

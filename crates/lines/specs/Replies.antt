@@ -26,11 +26,6 @@ filledFrom (c ∷ f) ns k = filledAt c (getD ns k 0) ++ filledFrom f ns (nextAt 
 abbrev pub filled : List ℕ → List ℕ → List ℕ
 filled f ns = filledFrom f ns 0
 
--- the bytes that a form can have: ten for each number
-unfoldable pub roomOf : List ℕ → ℕ
-roomOf [] = 0
-roomOf (c ∷ f) = cond (eqb c 35) 10 1 + roomOf f
-
 -- ---- the forms of the replies
 -- the answer, then the event
 unfoldable pub replyLine : Reply → List ℕ

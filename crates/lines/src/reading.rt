@@ -343,13 +343,16 @@ pub fn push(r: Reader, room: &mut [u8; 20], b: u8) -> Reader
     with_digit(r, b - 48)
 }
 
-fn tag_before(e: usize) -> u8
-    ensures { λ r. ⌜ r ≡ tagBefore e ⌝ }
+// The tag at a place of the table; 0 where none stands there. Rows with the same text before it have the same tag there, or none
+// of them has one: no other row is looked at.
+fn tag_at(p: usize) -> u8
+    ensures { λ r. ⌜ r ≡ tagBefore (seek p 10) ⌝ }
 {
-    if e == 0 {
-        return 0;
+    let c = letter(p);
+    if is_tag(c) {
+        return c;
     }
-    letter(e - 1)
+    0
 }
 
 fn wide(x: u8) -> u16
@@ -428,7 +431,7 @@ pub fn finish(r: Reader, room: &mut [u8; 20]) -> Line
     ensures { λ q. ⌜ Finishes r (now (room .entry)) q (now (room .exit)) ⌝ }
 {
     let c = letter(r.at);
-    let tag = tag_before(seek(past(c, r.sub, r.at), 10));
+    let tag = tag_at(past(c, r.sub, r.at));
     let last = kept(r, room);
     line_of(tag, last.used, room)
 }

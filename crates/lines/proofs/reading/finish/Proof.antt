@@ -9,11 +9,8 @@ letter-requires c κs = search needs
 past-requires : tie.Need-past-requires
 past-requires c κs = search needs
 
-seek-requires : tie.Need-seek-requires
-seek-requires c κs = search needs
-
-tag-before-requires : tie.Need-tag-before-requires
-tag-before-requires c κs = search needs
+tag-at-requires : tie.Need-tag-at-requires
+tag-at-requires c κs = search needs
 
 kept-requires : tie.Need-kept-requires
 kept-requires c κs = search needs
@@ -27,10 +24,9 @@ returns c = (
     c .line-of .ensures,
     c .before .before .kept .ensures .0,
     c .before .before .kept .ensures .1,
-    c .before .before .before .before .tag-before .ensures,
-    c .before .before .before .before .before .seek .ensures,
-    c .before .before .before .before .before .before .past .ensures,
-    c .before .before .before .before .before .before .before .letter .ensures,
+    c .before .before .before .before .tag-at .ensures,
+    c .before .before .before .before .before .past .ensures,
+    c .before .before .before .before .before .before .letter .ensures,
   ),
   c .before .before .kept .ensures .1,
 )
@@ -41,8 +37,7 @@ finish-spec =
     (tie.spec
     letter-requires
     past-requires
-    seek-requires
-    tag-before-requires
+    tag-at-requires
     kept-requires
     line-of-requires
     returns)
