@@ -22,7 +22,10 @@ use Rattle.controller.specs.Claims as controller
 use Rattle.controller.specs.Claims.{outcomeOf}
 use Rattle.controller.specs.Reads as shown
 use Rattle.controller.specs.Reads.{readOf}
-use Rattle.northbound.specs.Wide.{narrowed, outside, none}
+use Rattle.northbound.specs.declared.Job.{Job}
+use Rattle.northbound.specs.Packing.{packedRead, PacksRead}
+use Rattle.northbound.specs.Wide.{narrowed, outside, none, small, handed}
+use Rattle.northbound.specs.Exports.{Shows}
 
 -- ---- what a number is narrowed to
 pub narrow-low : (far x : ℕ) → x ≤ 65535 → x ≡ narrowed far x
@@ -30,6 +33,42 @@ narrow-low far x h = sym (ap (λ b. cond b x far) (le-leb x 65535 h))
 
 pub narrow-far : (far x : ℕ) → 65535 < x → far ≡ narrowed far x
 narrow-far far x h = sym (ap (λ b. cond b x far) (lt-leb x 65535 h))
+
+-- the five numbers of a job, where all of them are small
+pub record Lows (n j i o c : ℕ) : Type 0 where
+  pub node : n ≤ 65535
+  pub job : j ≤ 65535
+  pub number : i ≤ 65535
+  pub outcome : o ≤ 65535
+  pub cut : c ≤ 65535
+
+pub lows : (n j i o c : ℕ) → small n j i o c ≡ true → Lows n j i o c
+lows n j i o c h =
+    let a = leb i 65535 in
+    let b = leb c 65535 in
+    let d = leb o 65535 in
+    let e = leb j 65535 in
+    let f = leb n 65535 in
+    let h4 : a && b && d && e ≡ true = and-left (a && b && d && e) f h in
+    let h3 : a && b && d ≡ true = and-left (a && b && d) e h4 in
+    let h2 : a && b ≡ true = and-left (a && b) d h3 in
+    record {
+      node = leb-true n 65535 (and-right (a && b && d && e) f h);
+      job = leb-true j 65535 (and-right (a && b && d) e h4);
+      number = leb-true i 65535 (and-left a b h2);
+      outcome = leb-true o 65535 (and-right (a && b) d h3);
+      cut = leb-true c 65535 (and-right a b h2);
+    }
+
+pub job-low : (n j i o c : ℕ) → small n j i o c ≡ true → record { node = n; job = j; number = i; outcome = o; cut = c } ≡ handed n j i o c
+job-low n j i o c h =
+    let x = lows n j i o c h in
+    rw (le-leb n 65535 (x .node), le-leb j 65535 (x .job), le-leb i 65535 (x .number), le-leb o 65535 (x .outcome), le-leb c 65535 (x .cut))
+
+pub job-far : (n j i o c n′ j′ o′ c′ : ℕ) → small n j i o c ≡ false
+    → n′ ≡ narrowed outside n → j′ ≡ narrowed outside j → o′ ≡ narrowed outside o → c′ ≡ narrowed outside c
+    → record { node = n′; job = j′; number = none; outcome = o′; cut = c′ } ≡ handed n j i o c
+job-far n j i o c n′ j′ o′ c′ h en ej eo ec = rw (h, en, ej, eo, ec)
 
 -- what holds of a number that is narrowed and of one that is not, holds of every one
 either : {A : Type 0} (f : ℕ → A) (far x : ℕ) → (65535 < x → f far ≡ f x) → f (narrowed far x) ≡ f x
@@ -144,59 +183,82 @@ module _ (l : List ℕ) where
   wide-work n j i r c =
       wide-node n _ _ _ _ ∙ wide-job n j _ _ _ ∙ wide-number n j i _ _ ∙ wide-outcome n j i r _ ∙ wide-cut n j i r c
 
+  -- a job that is refused with 2 is so whatever its number is
+  any-number : (n j i k r c : ℕ) → workOk n j r c ≡ false → outcomeOf l (work n j i r c) ≡ outcomeOf l (work n j k r c)
+  unfolding outcomeOf decide
+  any-number n j i k r c e = both-2 (formed l) (workOk n j r c) (workOk n j r c) _ _ e e
+
+  wide-handed : (n j i r c : ℕ)
+      → outcomeOf l (work (narrowed outside n) (narrowed outside j) (cond (small n j i r c) i none) (narrowed outside r) (narrowed outside c)) ≡ outcomeOf l
+      (work n j i r c)
+  wide-handed n j i r c = by (leb i 65535) (leb c 65535) (leb r 65535) (leb j 65535) (leb n 65535) ∙ wide-work n j i r c
+    where
+      by : (a b d e f : Bool)
+          → outcomeOf l (work (cond f n outside) (cond e j outside) (cond (a && b && d && e && f) i none) (cond d r outside) (cond b c outside)) ≡ outcomeOf l
+          (work (cond f n outside) (cond e j outside) (cond a i none) (cond d r outside) (cond b c outside))
+      by false b d e f = refl
+      by true true true true true = refl
+      by true false d e f =
+          any-number (cond f n outside) (cond e j outside) none i (cond d r outside) outside
+          (ap (λ q. sideOk (cond f n outside) (cond e j outside) 0 0 0 && q) (and-none (leb (cond d r outside) 1)) ∙ and-none (sideOk (cond f n outside)
+          (cond e j outside) 0 0 0))
+      by true true false e f =
+          any-number (cond f n outside) (cond e j outside) none i outside c (and-none (sideOk (cond f n outside) (cond e j outside) 0 0 0))
+      by true true true false f =
+          any-number (cond f n outside) outside none i r c (ap (λ q. q && (leb r 1 && leb c 1)) (and-none (isNode (cond f n outside))))
+      by true true true true false = any-number outside j none i r c refl
+
   -- ---- the reads
   refuse-read : (b : Bool) (y : Answer) → b ≡ false → shown.unless (formed l) (reads.refuses 2) ≡ shown.unless (formed l) (reads.unless 2 b y)
   refuse-read b y e = ap (λ q. shown.unless (formed l) (reads.unless 2 q y)) (sym e)
-
-  both-read : (a b : Bool) (x y : Answer) → a ≡ false → b ≡ false → shown.unless (formed l) (reads.unless 2 a x) ≡ shown.unless (formed l) (reads.unless 2 b y)
-  both-read a b x y d e = ap (λ q. shown.unless (formed l) (reads.unless 2 q x)) d ∙ refuse-read b y e
 
   read-5 : (f w b : Bool) (y : Answer) → (f ≡ true → b ≡ false) → shown.unless f (reads.unless 2 w (reads.refuses 5)) ≡ shown.unless f (reads.unless 2 w (reads.unless 5 b y))
   read-5 true w b y h = ap (λ q. reads.unless 2 w (reads.unless 5 q y)) (sym (h refl))
   read-5 false w b y h = refl
 
-  wide-table : (b p : ℕ) → readOf l (ofTable (narrowed outside b) p) ≡ readOf l (ofTable b p)
+  -- what a read is refused with whose field or path is too great
+  abbrev Far : Query → Type 0
+  Far q = readOf l q ≡ shown.given (shown.unless (formed l) (reads.refuses 2))
+
+  pub wide-table : (b p : ℕ) → readOf l (ofTable (narrowed outside b) p) ≡ readOf l (ofTable b p)
   unfolding readOf read
   wide-table b p = either (λ x. readOf l (ofTable x p)) outside b
       (λ h. ap shown.given (refuse-read (isField 4 b && ltb p 32) _ (ap (λ q. q && ltb p 32) (past 1 4 b (omega arith)))))
 
-  wide-path : (b p : ℕ) → readOf l (ofTable b (narrowed outside p)) ≡ readOf l (ofTable b p)
+  pub far-path : (b p : ℕ) → 65535 < p → Far (ofTable b p)
   unfolding readOf read
-  wide-path b p = either (λ x. readOf l (ofTable b x)) outside p
-      (λ h. ap shown.given (both-read (isField 4 b && false) (isField 4 b && ltb p 32) _ _ (and-none (isField 4 b))
-      (ap (λ q. isField 4 b && q) (le-ltb p 32 (omega arith)) ∙ and-none (isField 4 b))))
+  far-path b p h =
+      sym (ap shown.given (refuse-read (isField 4 b && ltb p 32) _ (ap (λ q. isField 4 b && q) (le-ltb p 32 (omega arith)) ∙ and-none (isField 4 b))))
 
-  pub wide-value : (b p : ℕ) → readOf l (ofTable (narrowed outside b) (narrowed outside p)) ≡ readOf l (ofTable b p)
-  wide-value b p = wide-table b _ ∙ wide-path b p
-
-  wide-entry : (i f : ℕ) → readOf l (ofEntry (narrowed none i) f) ≡ readOf l (ofEntry i f)
+  pub wide-entry : (i f : ℕ) → readOf l (ofEntry (narrowed none i) f) ≡ readOf l (ofEntry i f)
   unfolding readOf read
   wide-entry i f = either (λ x. readOf l (ofEntry x f)) none i (λ h. ap shown.given (read-5 (formed l) (isField 21 f) (inLog (view l) i) _ (past-last i h)))
 
-  wide-mark : (i f : ℕ) → readOf l (ofEntry i (narrowed outside f)) ≡ readOf l (ofEntry i f)
+  pub far-mark : (i f : ℕ) → 65535 < f → Far (ofEntry i f)
   unfolding readOf read
-  wide-mark i f = either (λ x. readOf l (ofEntry i x)) outside f (λ h. ap shown.given (refuse-read (isField 21 f) _ (past 1 21 f (omega arith))))
-
-  pub wide-transaction : (i f : ℕ) → readOf l (ofEntry (narrowed none i) (narrowed outside f)) ≡ readOf l (ofEntry i f)
-  wide-transaction i f = wide-entry i _ ∙ wide-mark i f
+  far-mark i f h = sym (ap shown.given (refuse-read (isField 21 f) _ (past 1 21 f (omega arith))))
 
   pub wide-record : (f : ℕ) → readOf l (ofState (narrowed outside f)) ≡ readOf l (ofState f)
   unfolding readOf read
   wide-record f = either (λ x. readOf l (ofState x)) outside f (λ h. ap shown.given (refuse-read (isField 18 f) _ (past 1 18 f (omega arith))))
 
-  wide-of : (n f : ℕ) → readOf l (ofNode (narrowed outside n) f) ≡ readOf l (ofNode n f)
+  pub wide-node-read : (n f : ℕ) → readOf l (ofNode (narrowed outside n) f) ≡ readOf l (ofNode n f)
   unfolding readOf read
-  wide-of n f = either (λ x. readOf l (ofNode x f)) outside n
+  wide-node-read n f = either (λ x. readOf l (ofNode x f)) outside n
       (λ h. ap shown.given (refuse-read (isNode n && isField 2 f) _ (ap (λ q. q && isField 2 f) (past 1 8 n (omega arith)))))
 
-  wide-side : (n f : ℕ) → readOf l (ofNode n (narrowed outside f)) ≡ readOf l (ofNode n f)
+  pub far-side : (n f : ℕ) → 65535 < f → Far (ofNode n f)
   unfolding readOf read
-  wide-side n f = either (λ x. readOf l (ofNode n x)) outside f
-      (λ h. ap shown.given (both-read (isNode n && false) (isNode n && isField 2 f) _ _ (and-none (isNode n))
-      (ap (λ q. isNode n && q) (past 1 2 f (omega arith)) ∙ and-none (isNode n))))
+  far-side n f h =
+      sym (ap shown.given (refuse-read (isNode n && isField 2 f) _ (ap (λ q. isNode n && q) (past 1 2 f (omega arith)) ∙ and-none (isNode n))))
 
-  pub wide-connection : (n f : ℕ) → readOf l (ofNode (narrowed outside n) (narrowed outside f)) ≡ readOf l (ofNode n f)
-  wide-connection n f = wide-of n _ ∙ wide-side n f
+  pub shows-far : (q : Query) (r : ℕ) → Far q → r ≡ cond (formed l) 2 1 → Shows l q r
+  unfolding packedRead
+  shows-far q r e h = by (formed l) (readOf l q) e h
+    where
+      by : (b : Bool) (x : Read) → x ≡ shown.given (shown.unless b (reads.refuses 2)) → r ≡ cond b 2 1 → PacksRead x r
+      by true x i k = rw (i, k) (refl, refl)
+      by false x i k = rw (i, k) (refl, refl)
 
 -- ---- so the contract of a call with a narrowed number is that of the call
 claims-same : (l : List ℕ) (c d : Call) (r : Reply) (m : List ℕ) → outcomeOf l c ≡ outcomeOf l d → controller.Claims l c r m → controller.Claims l d r m
@@ -206,15 +268,11 @@ pub claims-wide : (l : List ℕ) (k : ℕ → Call) (far n x : ℕ) (r : Reply) 
     → controller.Claims l (k x) r m → controller.Claims l (k n) r m
 claims-wide l k far n x r m e w = claims-same l (k x) (k n) r m (ap (λ y. outcomeOf l (k y)) e ∙ w)
 
-pub claims-work : (l : List ℕ) (n j i o c n′ j′ i′ o′ c′ : ℕ) (r : Reply) (m : List ℕ)
-    → n′ ≡ narrowed outside n → j′ ≡ narrowed outside j → i′ ≡ narrowed none i → o′ ≡ narrowed outside o → c′ ≡ narrowed outside c
-    → controller.Claims l (work n′ j′ i′ o′ c′) r m → controller.Claims l (work n j i o c) r m
-claims-work l n j i o c n′ j′ i′ o′ c′ r m en ej ei eo ec =
-    claims-same l (work n′ j′ i′ o′ c′) (work n j i o c) r m (rw (en, ej, ei, eo, ec) (wide-work l n j i o c))
+pub claims-work : (l : List ℕ) (n j i o c : ℕ) (w : Job) (r : Reply) (m : List ℕ) → w ≡ handed n j i o c
+    → controller.Claims l (work (w .node) (w .job) (w .number) (w .outcome) (w .cut)) r m → controller.Claims l (work n j i o c) r m
+claims-work l n j i o c w r m e =
+    claims-same l (work (w .node) (w .job) (w .number) (w .outcome) (w .cut)) (work n j i o c) r m
+    (ap (λ (x : Job). outcomeOf l (work (x .node) (x .job) (x .number) (x .outcome) (x .cut))) e ∙ wide-handed l n j i o c)
 
 pub shows-one : (l : List ℕ) (k : ℕ → Query) (far n x : ℕ) (r : Read) → x ≡ narrowed far n → readOf l (k (narrowed far n)) ≡ readOf l (k n) → r ≡ readOf l (k x) → r ≡ readOf l (k n)
 shows-one l k far n x r e w s = s ∙ ap (λ y. readOf l (k y)) e ∙ w
-
-pub shows-two : (l : List ℕ) (k : ℕ → ℕ → Query) (far n f x y : ℕ) (r : Read) → x ≡ narrowed far n → y ≡ narrowed outside f
-    → readOf l (k (narrowed far n) (narrowed outside f)) ≡ readOf l (k n f) → r ≡ readOf l (k x y) → r ≡ readOf l (k n f)
-shows-two l k far n f x y r d e w s = s ∙ ap₂ (λ a b. readOf l (k a b)) d e ∙ w

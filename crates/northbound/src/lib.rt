@@ -1,11 +1,13 @@
 // What the northbound server, written in C, calls: numbers and lent slices in, one packed number out. A slice is a pointer
-// and a length. Nothing is decided here.
+// and a length. Nothing is decided here but that a number of more than 16 bits is refused.
 ghost use mathlib.Core.Path.{_≡_};
+ghost use mathlib.Core.Bool.{cond};
 ghost use Rattle.machine.specs.Calls.{rollback, start, stop, connect, disconnect, master, sync, work, foldTo};
 ghost use Rattle.machine.specs.Reads.{ofTable, ofEntry, ofState, ofNode};
+ghost use Rattle.image.specs.Formed.{formed};
 ghost use Rattle.controller.specs.Bytes.{appendOf};
 ghost use Rattle.northbound.specs.Packing.{Packs, PacksRead, PacksListed};
-ghost use Rattle.northbound.specs.Wide.{narrowed, outside, none};
+ghost use Rattle.northbound.specs.Wide.{narrowed, handed};
 ghost use Rattle.northbound.specs.Exports.{Claims, Freshens, Lists, Shows, Tells};
 use controller::Listed;
 use controller::Read;
@@ -41,26 +43,62 @@ fn pack_listed(r: Listed) -> u64
     (r.answer as u64) + 4294967296 * (r.length as u64)
 }
 
-// ---- a number of C's, of 64 bits: one that is no 16-bit number is handed on as another that is refused as it is
+// ---- a number of C's, of 64 bits: one that is no 16-bit number is refused, or handed on as another that is refused as it is
 
-// Out of every range: what is no node, job, outcome, cut, table, path or field.
-fn narrow(x: u64) -> u16
-    ensures { λ r. ⌜ r ≡ narrowed outside x ⌝ }
+// In the range of no node, job, outcome, cut, table, path or field.
+const OUTSIDE: u16 = 65535;
+
+// The number of no transaction: no log has 0, as none has one past 65,535.
+const NONE: u16 = 0;
+
+fn narrow(x: u64, far: u16) -> u16
+    ensures { λ r. ⌜ r ≡ narrowed far x ⌝ }
 {
     if x <= 65535 {
         return x as u16;
     }
-    65535
+    far
 }
 
-// The number 0, which no log has, as none has one past 65,535.
-fn log_number(x: u64) -> u16
-    ensures { λ r. ⌜ r ≡ narrowed none x ⌝ }
+// The numbers of a job.
+struct Job {
+    node: u16,
+    job: u16,
+    number: u16,
+    outcome: u16,
+    cut: u16,
+}
+
+// The five together, in one test. Where one of them is too great, the job is refused for that one, or for a number that is none.
+fn narrow_job(node: u64, job: u64, number: u64, outcome: u64, cut: u64) -> Job
+    ensures { λ r. ⌜ r ≡ handed node job number outcome cut ⌝ }
 {
-    if x <= 65535 {
-        return x as u16;
+    if (number <= 65535) & (cut <= 65535) & (outcome <= 65535) & (job <= 65535) & (node <= 65535) {
+        return Job {
+            node: node as u16,
+            job: job as u16,
+            number: number as u16,
+            outcome: outcome as u16,
+            cut: cut as u16,
+        };
     }
-    0
+    Job {
+        node: narrow(node, OUTSIDE),
+        job: narrow(job, OUTSIDE),
+        number: NONE,
+        outcome: narrow(outcome, OUTSIDE),
+        cut: narrow(cut, OUTSIDE),
+    }
+}
+
+// What a read of a field or a path is refused with that is too great: 2, or 1 where the image is not well-formed.
+fn refused(image: &[u8]) -> u64
+    ensures { λ r. ⌜ r ≡ cond (formed (now (image .entry))) 2 1 ⌝ }
+{
+    if well_formed(image) {
+        return 2;
+    }
+    1
 }
 
 // ---- the calls
@@ -86,7 +124,7 @@ pub extern "C" fn makowist_append(image: &mut [u8], pairs: &[u8]) -> u64
 pub extern "C" fn makowist_rollback(image: &mut [u8], number: u64) -> u64
     ensures { λ r. ⌜ Claims (now (image .entry)) (rollback number) r (now (image .exit)) ⌝ }
 {
-    let i = log_number(number);
+    let i = narrow(number, NONE);
     pack(controller::rollback(image, i))
 }
 
@@ -111,7 +149,7 @@ pub extern "C" fn makowist_stop(image: &mut [u8]) -> u64
 pub extern "C" fn makowist_connect(image: &mut [u8], node: u64) -> u64
     ensures { λ r. ⌜ Claims (now (image .entry)) (connect node) r (now (image .exit)) ⌝ }
 {
-    let n = narrow(node);
+    let n = narrow(node, OUTSIDE);
     pack(controller::connect(image, n))
 }
 
@@ -120,7 +158,7 @@ pub extern "C" fn makowist_connect(image: &mut [u8], node: u64) -> u64
 pub extern "C" fn makowist_disconnect(image: &mut [u8], node: u64) -> u64
     ensures { λ r. ⌜ Claims (now (image .entry)) (disconnect node) r (now (image .exit)) ⌝ }
 {
-    let n = narrow(node);
+    let n = narrow(node, OUTSIDE);
     pack(controller::disconnect(image, n))
 }
 
@@ -129,7 +167,7 @@ pub extern "C" fn makowist_disconnect(image: &mut [u8], node: u64) -> u64
 pub extern "C" fn makowist_master(image: &mut [u8], node: u64) -> u64
     ensures { λ r. ⌜ Claims (now (image .entry)) (master node) r (now (image .exit)) ⌝ }
 {
-    let n = narrow(node);
+    let n = narrow(node, OUTSIDE);
     pack(controller::master(image, n))
 }
 
@@ -138,7 +176,7 @@ pub extern "C" fn makowist_master(image: &mut [u8], node: u64) -> u64
 pub extern "C" fn makowist_sync(image: &mut [u8], node: u64) -> u64
     ensures { λ r. ⌜ Claims (now (image .entry)) (sync node) r (now (image .exit)) ⌝ }
 {
-    let n = narrow(node);
+    let n = narrow(node, OUTSIDE);
     pack(controller::sync(image, n))
 }
 
@@ -154,12 +192,8 @@ pub extern "C" fn makowist_work(
 ) -> u64
     ensures { λ r. ⌜ Claims (now (image .entry)) (work node job number outcome cut) r (now (image .exit)) ⌝ }
 {
-    let n = narrow(node);
-    let j = narrow(job);
-    let i = log_number(number);
-    let o = narrow(outcome);
-    let c = narrow(cut);
-    pack(controller::work(image, n, j, i, o, c))
+    let w = narrow_job(node, job, number, outcome, cut);
+    pack(controller::work(image, w.node, w.job, w.number, w.outcome, w.cut))
 }
 
 // Folds all up to a number away, where nothing is left to do of them: 17 where it may not be.
@@ -167,7 +201,7 @@ pub extern "C" fn makowist_work(
 pub extern "C" fn makowist_fold(image: &mut [u8], number: u64) -> u64
     ensures { λ r. ⌜ Claims (now (image .entry)) (foldTo number) r (now (image .exit)) ⌝ }
 {
-    let i = log_number(number);
+    let i = narrow(number, NONE);
     pack(controller::fold(image, i))
 }
 
@@ -197,9 +231,11 @@ pub extern "C" fn makowist_live(image: &[u8], room: &mut [u8]) -> u64
 pub extern "C" fn makowist_value(image: &[u8], table: u64, path: u64) -> u64
     ensures { λ r. ⌜ Shows (now (image .entry)) (ofTable table path) r ⌝ }
 {
-    let b = narrow(table);
-    let p = narrow(path);
-    pack_read(controller::value(image, b, p))
+    if 65535 < path {
+        return refused(image);
+    }
+    let b = narrow(table, OUTSIDE);
+    pack_read(controller::value(image, b, path as u16))
 }
 
 // A field of a transaction.
@@ -207,9 +243,11 @@ pub extern "C" fn makowist_value(image: &[u8], table: u64, path: u64) -> u64
 pub extern "C" fn makowist_transaction(image: &[u8], number: u64, field: u64) -> u64
     ensures { λ r. ⌜ Shows (now (image .entry)) (ofEntry number field) r ⌝ }
 {
-    let i = log_number(number);
-    let f = narrow(field);
-    pack_read(controller::transaction(image, i, f))
+    if 65535 < field {
+        return refused(image);
+    }
+    let i = narrow(number, NONE);
+    pack_read(controller::transaction(image, i, field as u16))
 }
 
 // A field of what the state has once.
@@ -217,7 +255,7 @@ pub extern "C" fn makowist_transaction(image: &[u8], number: u64, field: u64) ->
 pub extern "C" fn makowist_record(image: &[u8], field: u64) -> u64
     ensures { λ r. ⌜ Shows (now (image .entry)) (ofState field) r ⌝ }
 {
-    let f = narrow(field);
+    let f = narrow(field, OUTSIDE);
     pack_read(controller::record(image, f))
 }
 
@@ -226,7 +264,9 @@ pub extern "C" fn makowist_record(image: &[u8], field: u64) -> u64
 pub extern "C" fn makowist_connection(image: &[u8], node: u64, field: u64) -> u64
     ensures { λ r. ⌜ Shows (now (image .entry)) (ofNode node field) r ⌝ }
 {
-    let n = narrow(node);
-    let f = narrow(field);
-    pack_read(controller::connection(image, n, f))
+    if 65535 < field {
+        return refused(image);
+    }
+    let n = narrow(node, OUTSIDE);
+    pack_read(controller::connection(image, n, field as u16))
 }

@@ -6,8 +6,8 @@ use borrow.Author.Needs.{needs}
 use Rattle.northbound.proofs.makowist_fold.Statement.{statement}
 use Rattle.northbound.proofs.makowist_fold.Tie as tie
 
-log-number-requires : tie.Need-log-number-requires
-log-number-requires c κs = search needs
+narrow-requires : tie.Need-narrow-requires
+narrow-requires c κs = search needs
 
 fold-requires : tie.Need-fold-requires
 fold-requires c κs = search needs
@@ -20,8 +20,8 @@ same-length c = search needs
 
 returns : tie.Need-returns
 returns c =
-    claims _ _ _ _ _ (claims-wide _ foldTo _ _ _ _ _ (c .before .before .before .before .before .log-number .ensures) (wide-fold _ _) (c .before .before .before .fold .ensures)) (c .pack .ensures)
+    claims _ _ _ _ _ (claims-wide _ foldTo _ _ _ _ _ (c .before .before .before .before .before .narrow .ensures) (wide-fold _ _) (c .before .before .before .fold .ensures)) (c .pack .ensures)
 
 pub makowist-fold-spec : {M : Type 1} → statement M
 makowist-fold-spec =
-    tie.close (tie.spec log-number-requires fold-requires pack-requires same-length returns)
+    tie.close (tie.spec narrow-requires fold-requires pack-requires same-length returns)

@@ -6,8 +6,8 @@ use borrow.Author.Needs.{needs}
 use Rattle.northbound.proofs.makowist_rollback.Statement.{statement}
 use Rattle.northbound.proofs.makowist_rollback.Tie as tie
 
-log-number-requires : tie.Need-log-number-requires
-log-number-requires c κs = search needs
+narrow-requires : tie.Need-narrow-requires
+narrow-requires c κs = search needs
 
 rollback-requires : tie.Need-rollback-requires
 rollback-requires c κs = search needs
@@ -20,8 +20,8 @@ same-length c = search needs
 
 returns : tie.Need-returns
 returns c =
-    claims _ _ _ _ _ (claims-wide _ rollback _ _ _ _ _ (c .before .before .before .before .before .log-number .ensures) (wide-rollback _ _) (c .before .before .before .rollback .ensures)) (c .pack .ensures)
+    claims _ _ _ _ _ (claims-wide _ rollback _ _ _ _ _ (c .before .before .before .before .before .narrow .ensures) (wide-rollback _ _) (c .before .before .before .rollback .ensures)) (c .pack .ensures)
 
 pub makowist-rollback-spec : {M : Type 1} → statement M
 makowist-rollback-spec =
-    tie.close (tie.spec log-number-requires rollback-requires pack-requires same-length returns)
+    tie.close (tie.spec narrow-requires rollback-requires pack-requires same-length returns)
