@@ -91,10 +91,10 @@ refuse-requires-3 : tie.Need-refuse-requires-3
 refuse-requires-3 c κs = search needs
 
 returns : tie.Need-returns
-returns c = simp (c .entry-only .ensures, c .before .entry-at .ensures, c .before .before .enum-told .given .1, c .before .before .before .before .closed .ensures)
+returns c = simp (c .entry-only .ensures, c .before .entry-at .ensures, c .before .before .enum-told .given .1)
 
 returns-2 : tie.Need-returns-2
-returns-2 c = simp (c .head-then-entry .ensures, c .before .entry-at2 .ensures, c .before .before .aimed .ensures, c .before .before .before .event .ensures, c .before .before .before .before .enum-told2 .given .1, c .before .before .before .before .before .before .closed .ensures)
+returns-2 c = simp (c .head-then-entry .ensures, c .before .entry-at2 .ensures, c .before .before .aimed .ensures, c .before .before .before .event .ensures, c .before .before .before .before .enum-told2 .given .1)
 
 returns-3 : tie.Need-returns-3
 returns-3 c = simp (c .entry-then-head .ensures, c .before .entry-at3 .ensures, c .before .before .event2 .ensures, c .before .before .before .enum-told3 .given .1, c .before .before .before .before .before .closed .ensures)
@@ -103,19 +103,19 @@ returns-4 : tie.Need-returns-4
 returns-4 c = simp (c .head-only .ensures, c .before .enum-told4 .given .1, c .before .before .before .closed .ensures)
 
 returns-5 : tie.Need-returns-5
-returns-5 c = simp (c .entry-only2 .ensures, c .before .entry-at4 .ensures, c .before .before .enum-told5 .given .1, c .before .before .before .before .closed .ensures)
+returns-5 c = simp (c .entry-only2 .ensures, c .before .entry-at4 .ensures, c .before .before .enum-told5 .given .1)
 
 returns-6 : tie.Need-returns-6
-returns-6 c = simp (c .head-then-entry2 .ensures, c .before .entry-at5 .ensures, c .before .before .landed .ensures, c .before .before .before .event3 .ensures, c .before .before .before .before .enum-told6 .given .1, c .before .before .before .before .before .before .closed .ensures)
+returns-6 c = simp (c .head-then-entry2 .ensures, c .before .entry-at5 .ensures, c .before .before .landed .ensures, c .before .before .before .event3 .ensures, c .before .before .before .before .enum-told6 .given .1)
 
 returns-7 : tie.Need-returns-7
-returns-7 c = simp (c .refuse .ensures, c .before .enum-told7 .given .1, c .before .before .before .closed .ensures)
+returns-7 c = simp (c .refuse .ensures, c .before .enum-told7 .given .1)
 
 returns-8 : tie.Need-returns-8
-returns-8 c = simp (c .refuse2 .ensures, c .before .enum-told8 .given .1, c .before .before .before .closed .ensures)
+returns-8 c = simp (c .refuse2 .ensures, c .before .enum-told8 .given .1)
 
 returns-9 : tie.Need-returns-9
-returns-9 c = simp (c .refuse3 .ensures, c .before .enum-told9 .given .1, c .before .before .before .closed .ensures)
+returns-9 c = simp (c .refuse3 .ensures, c .before .enum-told9 .given .1)
 
 pub plans-spec : {M : Type 1} → statement M
 plans-spec =
