@@ -6,7 +6,7 @@
 //          only             no second outcome
 //          shows-run        any calls: the machine's state, and its replies
 // Fresh    shows-run-fresh  from the fresh image: the machine's run
-// Unused   same-outcome     entries past the log's end are not read
+// Unused   same-outcome     slots of no number kept are not read
 //          keeps-unused, append-unused    nor changed, but append's new entry
 // Agree    agree-run        images that agree on what is used give the same replies to any calls, and go on to agree
 // Refused has a lemma of theirs; the others are in the crate `staying`.

@@ -1,0 +1,136 @@
+-- Each demand holds of every public call, in the controller and as C sees it; the third of any calls, one after another, on
+-- bytes that `fresh` was called on. Assumes nothing.
+use Prim.Native.Nat.{ℕ}
+use mathlib.Core.Path.{_≡_, refl, sym, ap, subst, _∙_}
+use mathlib.Core.Bool.{Bool, true, false, _&&_, true≢false}
+use mathlib.Core.List.{List, [], _∷_, map}
+use borrow.Author.Tests.{lt-ltb}
+use lib.Dec.{ltb}
+use lib.ListN.{length, getD}
+use Rattle.kinds.specs.declared.Reply.{Reply}
+use Rattle.kinds.specs.declared.Event.{Event}
+use Rattle.fields.proofs.Laws.{Bytes}
+use Rattle.machine.specs.State.{State, unfolded}
+use Rattle.machine.specs.LiveList as list
+use Rattle.machine.specs.Calls.{Call}
+use Rattle.machine.specs.Step.{run}
+use Rattle.machine.specs.Reads.{ofTable, tableNumbers, read}
+use Rattle.machine.specs.Reads as reads
+use Rattle.machine.proofs.Kept.{refused-changes-nothing, refusal-one}
+use Rattle.image.specs.Layout.{imageLength}
+use Rattle.image.specs.View.{view}
+use Rattle.image.specs.Formed.{formed}
+use Rattle.image.proofs.Scanned.{formed-length, formed-state}
+use Rattle.controller.specs.Claims.{Claims}
+use Rattle.controller.specs.Fresh.{Freshens}
+use Rattle.controller.specs.Live.{Listing, listingIn, listingOf}
+use Rattle.controller.specs.Reads.{readOf}
+use Rattle.controller.specs.Reads as shown
+use Rattle.northbound.specs.Packing.{unpacked, packedRead}
+use Rattle.northbound.specs.Exports as north
+use Rattle.link.specs.Runs.{Calling, none, next}
+use Rattle.link.proofs.Link.{shows-next, not-formed, refused-same, stays-formed, eventOf}
+use Rattle.link.proofs.Fresh.{shows-run-freshened}
+use Rattle.history.specs.Demand3.{Demand3, live, highest}
+use Rattle.history.specs.Given.{given}
+use Rattle.history.proofs.Reached as history
+use Rattle.history.proofs.ByGiven.{by-given}
+use Rattle.promise.specs.Demands.{Demand1, Demand2, Demand3C, Serving, nothing, further, found, eventIn}
+
+-- ---- one call
+module _ (l : List ℕ) (k : Call) (r : Reply) (m : List ℕ) (p : Claims l k r m) (y : Bytes l) where
+  -- any bytes and any numbers
+  pub demand-1 : Demand1 l r m
+  demand-1 =
+      by (formed l) refl
+    where
+      by : (b : Bool) → formed l ≡ b → Demand1 l r m
+      by true w =
+          let h = shows-next l k r m p y w in
+          record {
+            refused = λ x. (ap (λ (q : Reply). q .event) (h .0) ∙ refused-changes-nothing (view l) k (λ z. x (ap (λ (q : Reply). q .answer) (h .0) ∙ z)) .1, refused-same l k r m p x);
+            unformed = λ z. absurd (true≢false (sym w ∙ z));
+            formed = λ _ z. true≢false (sym (formed-state l w) ∙ refusal-one (view l) k (sym (ap (λ (q : Reply). q .answer) (h .0)) ∙ z));
+            length = formed-length m (stays-formed l k r m p y w) ∙ sym (formed-length l w);
+          }
+      by false w =
+          let h = not-formed l k r m p w in
+          record {
+            refused = λ x. (ap (λ (q : Reply). q .event) (h .0), h .1);
+            unformed = λ _. h .0;
+            formed = λ z. absurd (true≢false (sym z ∙ w));
+            length = ap length (h .1);
+          }
+
+  -- a well-formed image
+  pub demand-2 : formed l ≡ true → Demand2 l k r m
+  demand-2 w = let h = shows-next l k r m p y w in record { reply = h .0; state = h .1; formed = stays-formed l k r m p y w }
+
+-- ---- any calls, on bytes that `fresh` was called on
+module _ (l k : List ℕ) (u : Reply) (z : length l ≡ imageLength) (f : Freshens l u k) {cs : List Call} {rs : List Reply} {m : List ℕ} (d : Calling k cs rs m) where
+  pub demand-3 : Demand3 (view m) (map eventOf rs)
+  demand-3 =
+      let h = shows-run-freshened l k u z f d in
+      subst (λ (s : State). Demand3 s (map eventOf rs)) (sym (h .0)) (subst (λ (es : List Event). Demand3 (run cs .state) es) (sym (h .1 .0)) (history.demand-3 cs))
+
+-- ---- as C sees it
+-- a packed answer reads back as the controller's reply
+in-c : (l : List ℕ) (k : Call) (x : ℕ) (m : List ℕ) → north.Claims l k x m → Claims l k (unpacked x) m
+in-c l k x m p = (p .0 .1, p .1)
+
+pub demand-1-c : (l : List ℕ) (k : Call) (x : ℕ) (m : List ℕ) → north.Claims l k x m → Bytes l → Demand1 l (unpacked x) m
+demand-1-c l k x m p = demand-1 l k (unpacked x) m (in-c l k x m p)
+
+pub demand-2-c : (l : List ℕ) (k : Call) (x : ℕ) (m : List ℕ) → north.Claims l k x m → Bytes l → formed l ≡ true → Demand2 l k (unpacked x) m
+demand-2-c l k x m p = demand-2 l k (unpacked x) m (in-c l k x m p)
+
+calling : {l : List ℕ} {cs : List Call} {xs m : List ℕ} → Serving l cs xs m → Calling l cs (map unpacked xs) m
+calling nothing = none
+calling (further {k = k} d e x m p) = next (calling d) e (unpacked x) m (in-c k e x m p)
+
+events : (xs : List ℕ) → map eventOf (map unpacked xs) ≡ map eventIn xs
+events [] = refl
+events (x ∷ xs) = ap (λ es. unpacked x .event ∷ es) (events xs)
+
+-- a table's value as it is read
+value : (m : List ℕ) (b p : ℕ) → formed m ≡ true → (reads.isField 4 b && ltb p 32) ≡ true → readOf m (ofTable b p) ≡ found (getD (tableNumbers (view m) b) p 0)
+unfolding readOf read
+value m b p w h = rw (w, h)
+
+-- the target's, where it holds the applied values
+same : (m : List ℕ) (p : ℕ) → view m .net .values ≡ view m .applied .values → readOf m (ofTable 2 p) ≡ readOf m (ofTable 3 p)
+unfolding readOf read
+same m p e = ap (λ (vs : List ℕ). shown.given (shown.unless (formed m) (reads.unless 2 (ltb p 32) (reads.shows (getD vs p 0))))) (sym e)
+
+module _ (l k : List ℕ) (u : ℕ) (z : length l ≡ imageLength) (f : north.Freshens l u k) {cs : List Call} {xs m : List ℕ} (d : Serving k cs xs m) where
+  abbrev es : List Event
+  es = map eventIn xs
+
+  shows-run : (view m ≡ run cs .state) × ((run cs .events ≡ es) × (formed m ≡ true))
+  shows-run = let h = shows-run-freshened l k (unpacked u) z (f .0 .1, f .1) (calling d) in (h .0, (sym (h .1 .0) ∙ events xs, h .1 .1))
+
+  demand-3-shown : Demand3 (view m) es
+  demand-3-shown = subst (λ (e : List Event). Demand3 (view m) e) (events xs) (demand-3 l k (unpacked u) z (f .0 .1, f .1) (calling d))
+
+  -- the value of the highest-numbered change, by the calls and what C was answered
+  abbrev byGiven : (stage path : ℕ) → List Event → ℕ
+  byGiven g p e = highest (unfolded (given cs)) (live e g) (length (given cs)) p
+
+  pub demand-3-c : Demand3C cs es m
+  unfolding listingOf
+  demand-3-c =
+      let h = shows-run in
+      let g = by-given cs in
+      record {
+        committed = λ p x i s.
+            s .1 ∙ value m 1 p (h .1 .1) (lt-ltb p 32 i) ∙ ap (λ (v : State). found (getD (v .committed .values) p 0)) (h .0)
+            ∙ ap found (g .committed p i ∙ ap (byGiven 1 p) (h .1 .0));
+        applied = λ p x i s.
+            s .1 ∙ value m 2 p (h .1 .1) (lt-ltb p 32 i) ∙ ap (λ (v : State). found (getD (v .applied .values) p 0)) (h .0)
+            ∙ ap found (g .applied p i ∙ ap (byGiven 2 p) (h .1 .0));
+        line = λ n p x v o s t. s .0 ∙ ap packedRead (same m p (demand-3-shown .line n o)) ∙ sym (t .0);
+        list = λ room room′ x s.
+            let w : listingOf m room ≡ listingIn (list.live (view m)) room = rw (h .1 .1) in
+            let v = w ∙ ap (λ (ks : List ℕ). listingIn ks room) (demand-3-shown .live) in
+            (s .0 .1 ∙ ap (λ (a : Listing). a .listed) v, s .1 ∙ ap (λ (a : Listing). a .room) v);
+      }

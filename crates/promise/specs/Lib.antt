@@ -1,0 +1,2 @@
+-- The promise in definitions: all that one has to believe of this crate. Assumes nothing.
+pub mod Demands
