@@ -31,6 +31,7 @@ use Rattle.connections.specs.declared.Tabled.{Tabled}
 use Rattle.connections.specs.Table as table
 use Rattle.connections.specs.Decides as decides
 use Rattle.mastership.specs.Lent.{masterOf}
+use Rattle.mastership.specs.Decides.{decides-master, outcomeOf as masteredOutcome}
 use Rattle.image.specs.Records.{entryAt, putEntryAt, lastOf, foldedOf, configurationOf, putConfiguration, mastershipOf, putMastership, targetOf, putTarget, connectionsOf, putConnections}
 use Rattle.image.specs.Layout.{slots, highest}
 use Rattle.image.specs.View.{tableOf, view, write, written}
@@ -147,11 +148,10 @@ module _ (l : List ℕ) (n : ℕ) (b : Bool) (r : Reply) (eb : b ≡ isNode n) w
   module _ (t : b ≡ true) (m : Mastership) (c : Connection) (em : m ≡ mastershipOf l) (ec : c ≡ nodeOf (connectionsOf l) n) where
     module _ (x : Mastered) (ex : x ≡ masterOf m n (c .id) (c .connected)) where
       master-by : decide (view l) (master n) ≡ answers (x .answer) (mastership (x .mastership) ∷ [])
-      unfolding decide view
+      unfolding view
       master-by =
-          rw (← eb, t)
-          (ap (λ (y : Mastered). answers (y .answer) (mastership (y .mastership) ∷ []))
-          (sym (ex ∙ ap₂ (λ (y : Mastership) (z : Connection). outside.master y n z) em ec)))
+          decides-master (view l) n
+          ∙ ap masteredOutcome (sym (ex ∙ ap₂ (λ (y : Mastership) (z : Connection). masterOf y n (z .id) (z .connected)) em ec))
 
       pub master-refused : (x .answer ≡ 0 → ⊥) → r ≡ refusal (x .answer) → Does l (master n) r l
       master-refused k p = refused-by l (master n) (x .answer) _ master-by r k p

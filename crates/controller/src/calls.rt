@@ -174,6 +174,7 @@ pub fn master(s: &mut [u8], node: u16) -> Reply
     requires { ⌜ formed (now s) ≡ true ⌝ }
     ensures { λ r. ⌜ Does (now (s .entry)) (master node) r (now (s .exit)) ⌝ }
 {
+    // asked here although `master_of` refuses it too: a node that is none has no connection to load
     if is_node(node) {
         let n = node as u8;
         let c = load_connection(s, n);

@@ -8,16 +8,24 @@ ghost use mathlib.Core.Path.{_≡_};
 ghost use Rattle.mastership.specs.Lent.{masterBy, Masters};
 ghost use Rattle.mastership.specs.Promises.{MastersOf};
 
-// The rule on the record's parts, for node n with a connection of this id.
+// The rule on the record's parts, for node n with a connection of this id; 2 where there is no such node.
 fn master_by(master: u8, term: Term, conn: u32, n: u8, id: u32, connected: bool) -> Mastered
     ensures { λ r. ⌜ r ≡ masterBy master term conn n id connected ⌝ }
 {
     let m = Mastership { master, term, conn };
     let x = Connection { id, connected };
-    rules::master(m, n, x)
+    let node = (1 <= n) & (n <= 8);
+    if node {
+        return rules::master(m, n, x);
+    }
+    Mastered {
+        answer: 2,
+        mastership: m,
+    }
 }
 
-// Node n, whose connection has this id, asks for mastership, or is found lost or reconnected.
+// Node n, whose connection has this id, asks for mastership, or is found lost or reconnected: refuses 2, then what the rule
+// refuses.
 pub fn master(m: &mut Mastership, n: u8, id: u32, connected: bool) -> u8
     ensures { λ r. ⌜ Masters (now (m .entry)) n id connected r (now (m .exit)) ⌝ }
 {
