@@ -648,7 +648,8 @@ impl State {
         connection.connected && connection.id == self.mastership.conn && self.target.running
     }
 
-    fn line_open(&self, node: Node) -> bool {
+    /// Whether the line is open for the node.
+    pub fn line_open(&self, node: Node) -> bool {
         self.mastership.master == Some(node)
             && self.reaches_target(node)
             && self.configuration.state == ConfigurationState::Complete

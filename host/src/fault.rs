@@ -1,13 +1,19 @@
 //! Wrong copies of one rule, to show that the comparison finds them. Only the comparison asks for one.
+//! Those of the calls from outside and of the order of refusals are in the modules below.
+
+pub mod order;
+pub mod outside;
 
 use crate::arguments::{Argument, Numbers};
 use crate::controller::{
     overlay, ConfigurationState, Event, Hindrance, Number, Phase, Refusal, Stage, State, Status, Term, Values, LOG_LIMIT,
 };
-use crate::image::{at, ENTRY};
+use crate::image::{self, at, entry, entry_at, entry_at_mut, ENTRY};
 use crate::jobs::Rule;
 use crate::northbound::{self, act, Answer, Request, Served};
 use crate::reads::Query;
+use order::{Call, Swapped};
+use outside::Slip;
 
 #[derive(Clone, Copy, PartialEq, Eq, Debug)]
 pub enum Fault {
@@ -57,22 +63,24 @@ pub enum Fault {
     FullByHighest,
     /// An append after the last number is taken, as number 0.
     LastNumberForgotten,
-    /// An append that both 4 and 9 refuse is refused by 9.
-    LastBeforeFull,
-    /// A rollback of a folded number goes on to 6.
-    RollbackWithout18,
     /// A job on a folded number goes on to 10 and 11.
     WorkWithout18,
     /// A read of a folded transaction is refused by 5.
     ReadWithout18,
-    /// A job on a folded number is refused by 10 before 18.
-    MasterBefore18,
-    /// Number 0 is refused by 18 before 5.
-    FoldedBefore5,
     /// Of a number of that meaning only so many bits are looked at.
     Narrowed(Argument, u32),
     /// A room of an odd length is taken for one byte longer.
     OddRoomTakenAsMore,
+    /// A call from outside does that wrong.
+    Outside(Slip),
+    /// An append leaves the places past the new entry's pairs as they were.
+    UnusedKept,
+    /// A fresh image keeps the bytes that carry nothing.
+    FreshOverOld,
+    /// Of two refusals that follow on each other in a call's order, the second is asked first.
+    Swapped(Call, u8, u8),
+    /// Nothing is wrong. None of those that must be found: it shows that one which is not found is told.
+    Harmless,
 }
 
 impl Fault {
@@ -88,16 +96,17 @@ impl Fault {
         all.extend(Hindrance::ALL.map(Fault::FoldDespite));
         all.extend([Fault::BaseNotLaid, Fault::BaseNewestFirst, Fault::BaseOfAll, Fault::RingOffByOne]);
         all.extend([Fault::FoldedMarkNotDone, Fault::LivePastTheFold, Fault::FullByHighest]);
-        all.extend([Fault::LastNumberForgotten, Fault::LastBeforeFull, Fault::RollbackWithout18]);
-        all.extend([Fault::WorkWithout18, Fault::ReadWithout18, Fault::MasterBefore18, Fault::FoldedBefore5]);
+        all.extend([Fault::LastNumberForgotten, Fault::WorkWithout18, Fault::ReadWithout18]);
         all.extend(Argument::ALL.iter().flat_map(|argument| [16, 32].map(|bits| Fault::Narrowed(*argument, bits))));
-        all.push(Fault::OddRoomTakenAsMore);
+        all.extend([Fault::OddRoomTakenAsMore, Fault::UnusedKept, Fault::FreshOverOld]);
+        all.extend(Slip::ALL.iter().copied().map(Fault::Outside));
+        all.extend(Swapped::all().map(|Swapped(call, first, then)| Fault::Swapped(call, first, then)));
         all
     }
 
     /// The fault of that name, as `{:?}` writes it.
     pub fn named(name: &str) -> Option<Fault> {
-        Fault::all().into_iter().find(|fault| format!("{fault:?}") == name)
+        Fault::all().into_iter().chain([Fault::Harmless]).find(|fault| format!("{fault:?}") == name)
     }
 
     /// As `northbound::act`, with this fault in it.
@@ -107,7 +116,20 @@ impl Fault {
             narrow(narrowed.numbers(), argument, bits);
             return act(state, &narrowed);
         }
+        if let Fault::Outside(slip) = self {
+            return slip.act(state, request);
+        }
         self.acted(state, request)
+    }
+
+    /// As `northbound::serve` of bytes that are no image, with this fault in it.
+    pub fn serve_damaged(self, bytes: &mut [u8], request: &Request) -> Served {
+        let served = northbound::serve(bytes, request);
+        let other = match self {
+            Fault::Swapped(call, first, then) => Swapped(call, first, then).of_damaged(bytes, request),
+            _ => None,
+        };
+        other.map_or(served, |refusal| Served { reply: Err(refusal), ..served })
     }
 
     /// The faults of single rules.
@@ -188,18 +210,12 @@ impl Fault {
             (Fault::LastNumberForgotten, Request::Append(_), Err(Refusal::CounterAtLimit)) => {
                 return Some(Ok(Answer::Appended(Number::NONE)));
             }
-            (Fault::LastBeforeFull, _, Err(Refusal::LogFull)) if before.highest() == Number::LIMIT => {
-                Refusal::CounterAtLimit
-            }
-            (Fault::RollbackWithout18, Request::Rollback(_), Err(Refusal::Folded)) => Refusal::NoRollback,
-            (Fault::WorkWithout18 | Fault::MasterBefore18, Request::Work { node, .. }, Err(Refusal::Folded))
-                if not_master(*node) =>
-            {
+            (Fault::WorkWithout18, Request::Work { node, .. }, Err(Refusal::Folded)) if not_master(*node) => {
                 Refusal::NotMaster
             }
             (Fault::WorkWithout18, Request::Work { .. }, Err(Refusal::Folded)) => Refusal::NoRule,
-            (Fault::FoldedBefore5, Request::Rollback(0) | Request::Work { number: 0, .. }, Err(Refusal::NoSuchNumber)) => {
-                Refusal::Folded
+            (Fault::Swapped(call, first, then), _, Err(refusal)) => {
+                Swapped(call, first, then).refusal(before, request, refusal)?
             }
             _ => return None,
         };
@@ -210,13 +226,27 @@ impl Fault {
     pub fn store(self, state: &State, request: &Request, image: &mut [u8]) {
         let off_by_one = self == Fault::RingOffByOne && usize::from(state.highest().0) > LOG_LIMIT;
         let slots = if off_by_one { ENTRY } else { 0 };
+        let before = image.to_vec();
         image[..at::HIGHEST].rotate_left(slots);
-        northbound::store(state, request, image);
+        match (self, request) {
+            (Fault::FreshOverOld, Request::Fresh) => image::encode(state, image),
+            _ => northbound::store(state, request, image),
+        }
         image[..at::HIGHEST].rotate_right(slots);
+        if let (Fault::UnusedKept, Request::Append(_)) = (self, request) {
+            let (old, new) = (entry_at(&before, state.highest()), entry_at_mut(image, state.highest()));
+            let pairs = usize::from(new[entry::PAIRS]);
+            for unused in [entry::PATHS + pairs..entry::VALUES, entry::VALUES + 2 * pairs..entry::R_VALUES] {
+                new[unused.clone()].copy_from_slice(&old[unused]);
+            }
+        }
     }
 
     /// As `northbound::live_of`, with this fault in it.
-    pub fn live_of(self, state: Option<&State>, room: &mut [u8]) -> u64 {
+    pub fn live_of(self, state: Option<&State>, bytes: &[u8], room: &mut [u8]) -> u64 {
+        if let Fault::Swapped(call, first, then) = self {
+            return Swapped(call, first, then).live_of(state, bytes, room);
+        }
         match state {
             Some(state) if self == Fault::LivePastTheFold => northbound::listed(&live_past_the_fold(state), room),
             Some(state) if self == Fault::OddRoomTakenAsMore => live_in_even_room(state, room),
@@ -224,8 +254,16 @@ impl Fault {
         }
     }
 
+    /// As `Query::packed`, with this fault in it.
+    pub fn read(self, state: Option<&State>, bytes: &[u8], query: Query) -> u64 {
+        match self {
+            Fault::Swapped(call, first, then) => Swapped(call, first, then).read(state, bytes, query),
+            _ => self.misread(state, query).packed(state, bytes),
+        }
+    }
+
     /// The query that is answered in place of this one, with this fault.
-    pub fn misread(self, state: Option<&State>, query: Query) -> Query {
+    fn misread(self, state: Option<&State>, query: Query) -> Query {
         let is_folded = |number: u64| {
             state.is_some_and(|state| state.given(number).and_then(|number| state.place(number)) == Err(Refusal::Folded))
         };

@@ -119,7 +119,10 @@ impl Desk {
             return self.call_from(state, bytes, request).map(|_| ());
         }
         let mut after_bytes = bytes.to_vec();
-        let served = northbound::serve(&mut after_bytes, request);
+        let served = match self.fault {
+            None => northbound::serve(&mut after_bytes, request),
+            Some(fault) => fault.serve_damaged(&mut after_bytes, request),
+        };
         self.hold(&after_bytes, request, served)?;
         self.lend(bytes);
         Ok(())
@@ -156,7 +159,10 @@ impl Desk {
 
     /// Compares one read from bytes that have been lent.
     pub fn query(&mut self, state: Option<&State>, bytes: &[u8], query: Query) -> Compared<()> {
-        let expected = self.fault.map_or(query, |fault| fault.misread(state, query)).packed(state, bytes);
+        let expected = match self.fault {
+            None => query.packed(state, bytes),
+            Some(fault) => fault.read(state, bytes, query),
+        };
         let lent = self.lent.bytes(bytes.len(), self.edge);
         let reply = peer::read(lent, query);
         self.counts.queried(state, query, expected);
@@ -174,7 +180,7 @@ impl Desk {
         let mut expected_room = [UNWRITTEN; MOST_ROOM];
         let expected = match self.fault {
             None => northbound::live_of(state, &mut expected_room[..room]),
-            Some(fault) => fault.live_of(state, &mut expected_room[..room]),
+            Some(fault) => fault.live_of(state, bytes, &mut expected_room[..room]),
         };
         let lent_room = self.lent_room.bytes(room, self.edge);
         lent_room.fill(UNWRITTEN);

@@ -3,11 +3,12 @@
 //! Arguments, each `name=value`, in any order:
 //!
 //! - `sessions`, `unreached`, `damaged`: how many calls of each kind; `transactions`: how far the exhaustive walk goes
+//! - `edges`: at how many edges of lent memory wide numbers, rooms and sessions are compared, to 2: its end, then its beginning
 //! - `migrations`: how many logs are led to the last number, to 2: in the second every change is rolled back
 //! - `seed`: another one makes another run
 //! - `minutes`: go on with new seeds, the walk once and for at most half of them, and stop when they have passed
 //! - `fault=NAME`: put that fault into the independent copy; a difference is then expected, and ends the run with 1
-//! - `fault=all`: try every fault, and end with 1 where one is not found
+//! - `fault=all`: try every fault, and end with 1 where one is not found; `found=NAME` tries that one alone
 //! - `overrun=End`, `overrun=Begin`: write the byte outside that edge of a lent slice, which must end the program
 //!
 //! Ends with 0 where there is no difference and no count is 0: every answer, every rule, whole and cut, every read, every
@@ -18,6 +19,7 @@ mod desk;
 mod every;
 mod folds;
 mod long;
+mod outside;
 mod sessions;
 mod states;
 mod watch;
@@ -37,6 +39,7 @@ struct Sizes {
     unreached: u64,
     damaged: u64,
     transactions: usize,
+    edges: u64,
     migrations: u64,
 }
 
@@ -51,12 +54,13 @@ struct Arguments {
     seed: u64,
     minutes: u64,
     fault: Option<String>,
+    found: Option<String>,
     overrun: Option<Edge>,
 }
 
 fn arguments() -> Result<Arguments, String> {
-    let sizes = Sizes { sessions: 1_000_000, unreached: 400_000, damaged: 150_000, transactions: 3, migrations: 2 };
-    let mut arguments = Arguments { sizes, seed: 1, minutes: 0, fault: None, overrun: None };
+    let sizes = Sizes { sessions: 1_000_000, unreached: 400_000, damaged: 150_000, transactions: 3, edges: 2, migrations: 2 };
+    let mut arguments = Arguments { sizes, seed: 1, minutes: 0, fault: None, found: None, overrun: None };
     for argument in std::env::args().skip(1) {
         let (name, value) = argument.split_once('=').ok_or(format!("{argument}: expected name=value"))?;
         let number = || value.parse::<u64>().map_err(|error| format!("{argument}: {error}"));
@@ -65,10 +69,12 @@ fn arguments() -> Result<Arguments, String> {
             "unreached" => arguments.sizes.unreached = number()?,
             "damaged" => arguments.sizes.damaged = number()?,
             "transactions" => arguments.sizes.transactions = number()?.min(5) as usize,
+            "edges" => arguments.sizes.edges = number()?,
             "migrations" => arguments.sizes.migrations = number()?,
             "seed" => arguments.seed = number()?,
             "minutes" => arguments.minutes = number()?,
             "fault" => arguments.fault = Some(value.to_string()),
+            "found" => arguments.found = Some(value.to_string()),
             "overrun" if value == "End" => arguments.overrun = Some(Edge::End),
             "overrun" if value == "Begin" => arguments.overrun = Some(Edge::Begin),
             _ => return Err(format!("{argument}: no such argument")),
@@ -85,12 +91,14 @@ fn compare(desk: &mut Desk, sizes: &Sizes, seed: u64, tells: bool) -> Compared<(
         }
     };
     let mut random = Random::new(seed);
+    outside::run(desk)?;
+    told("every call from chosen states, every order of refusals", desk);
     if sizes.transactions > 0 {
         let extent = if every::run(desk, sizes.transactions)? { "all" } else { "not all, for time" };
         let (states, transactions) = (desk.counts.states, sizes.transactions);
         told(&format!("{states} states with up to {transactions} transactions ({extent}), every call from each"), desk);
     }
-    for edge in [Edge::End, Edge::Begin] {
+    for edge in [Edge::End, Edge::Begin].into_iter().take(sizes.edges as usize) {
         desk.edge = edge;
         wide::run(desk)?;
         told("numbers of more than 16 bits in every argument", desk);
@@ -135,11 +143,10 @@ fn compare_for(arguments: &Arguments, fault: Option<Fault>) -> bool {
     unseen == 0
 }
 
-/// Tries every fault in the independent copy, and answers whether each was found.
-fn find_faults(arguments: &Arguments) -> bool {
-    let faults = Fault::all();
+/// Tries these faults in the independent copy, and answers whether each was found.
+fn find_faults(arguments: &Arguments, faults: &[Fault]) -> bool {
     let mut missed = 0;
-    for fault in &faults {
+    for fault in faults {
         let mut desk = Desk::new(Some(*fault), Watch::new(0));
         let found = compare(&mut desk, &arguments.sizes, arguments.seed, false).is_err();
         println!("{:>10}  {fault:?}{}", desk.counts.calls, if found { "" } else { " was NOT found" });
@@ -170,22 +177,22 @@ fn main() -> ExitCode {
             return ExitCode::from(2);
         }
     };
-    let fault = arguments.fault.as_deref().filter(|name| *name != "all");
-    let passed = if let Some(edge) = arguments.overrun {
-        overrun(edge);
-        false
-    } else if arguments.fault.as_deref() == Some("all") {
-        find_faults(&arguments)
-    } else if let Some(name) = fault {
-        match Fault::named(name) {
-            Some(fault) => compare_for(&arguments, Some(fault)),
-            None => {
-                eprintln!("compare: no fault is named {name}; there are {:?}", Fault::all());
-                return ExitCode::from(2);
-            }
-        }
-    } else {
-        compare_for(&arguments, None)
+    let named = |name: &str| {
+        Fault::named(name).ok_or_else(|| eprintln!("compare: no fault is named {name}; there are {:?}", Fault::all()))
     };
-    if passed { ExitCode::SUCCESS } else { ExitCode::FAILURE }
+    let passed = match (arguments.overrun, arguments.fault.as_deref(), arguments.found.as_deref()) {
+        (Some(edge), ..) => {
+            overrun(edge);
+            Ok(false)
+        }
+        (_, Some("all"), _) => Ok(find_faults(&arguments, &Fault::all())),
+        (_, Some(name), _) => named(name).map(|fault| compare_for(&arguments, Some(fault))),
+        (.., Some(name)) => named(name).map(|fault| find_faults(&arguments, &[fault])),
+        _ => Ok(compare_for(&arguments, None)),
+    };
+    match passed {
+        Ok(true) => ExitCode::SUCCESS,
+        Ok(false) => ExitCode::FAILURE,
+        Err(()) => ExitCode::from(2),
+    }
 }

@@ -137,20 +137,21 @@ const FOLDED: [Number; 3] = [Number::NONE, Number(127), Number(65_533)];
 pub fn run(desk: &mut Desk) -> Compared<()> {
     for folded in FOLDED {
         let (mut state, mut bytes) = opened(desk, folded)?;
-        every_wide(desk, &state, &bytes)?;
+        every(desk, &state, &bytes)?;
         for number in u64::from(folded.0) + 1..=u64::from(folded.0) + 2 {
             let append = Request::Append(bytes_of(&[(3, number as u16), (31, 7)]));
             let work = |job: u64| Request::Work { node: 1, job, number, outcome: 0, cut: 0 };
             for request in [append, work(1), work(1), work(2), work(2), Request::Rollback(number), work(3)] {
                 desk.call(&mut state, &mut bytes, &request)?;
-                every_wide(desk, &state, &bytes)?;
+                every(desk, &state, &bytes)?;
             }
         }
     }
     Ok(())
 }
 
-fn every_wide(desk: &mut Desk, state: &State, bytes: &[u8]) -> Compared<()> {
+/// Every call that is in range from a state, with each of its numbers made wide in each way; and every read so.
+pub fn every(desk: &mut Desk, state: &State, bytes: &[u8]) -> Compared<()> {
     for request in requests(state).iter().flat_map(|request| widened(request, Request::numbers)) {
         desk.call_from(state, bytes, &request)?;
     }
