@@ -16,10 +16,10 @@ use Rattle.machine.specs.Rows.{overlay, rowsOf}
 use Rattle.machine.specs.WellFormed.{allFrom, pairsOk, entryOk, headOk, wellFormed}
 use Rattle.machine.specs.LiveList.{hops, live}
 use Rattle.machine.specs.Folding.{baseRow}
-use Rattle.machine.specs.Reads.{Query, ofTable, ofEntry, ofState, entryNumbers, stateNumbers, read}
+use Rattle.machine.specs.Reads.{ofTable, ofEntry, ofState, entryNumbers, stateNumbers, read}
 use Rattle.machine.specs.Calls.{append, rollback, work, foldTo, valuesOk, present, planOf, decide}
 use Rattle.machine.specs.Step.{outcome, step}
-use Rattle.machine.specs.Sessions.{Line, gives, reads, shows, stands, agrees, accepts, refuses, adds, does, mastered, opened, commitsChange, appliesChange, commitsRollback, appliesRollback}
+use Rattle.machine.specs.Sessions.{Line, gives, tells, reads, shows, stands, marks, heads, nets, nodes, asks, agrees, accepts, refuses, adds, does, mastered, opened, commitsChange, appliesChange, commitsRollback, appliesRollback}
 
 -- ---- lines of the paper's kind; and what is seen of a fold
 pub data Piece : Type 0 where
@@ -27,7 +27,6 @@ pub data Piece : Type 0 where
   bases : (path value : ℕ) → Piece  -- the base value of a path
   lists : List ℕ → Piece  -- the live list
   keeps : (fold kept : ℕ) → Piece  -- the last fold, and how many are kept
-  answers : Query → (answer value : ℕ) → Piece  -- a read
 
 unfoldable pub sameList : List ℕ → List ℕ → Bool
 sameList [] [] = true
@@ -39,9 +38,15 @@ sameList (x ∷ xs) (y ∷ ys) = eqb x y && sameList xs ys
 unfoldable pub ended : State → List Line → State
 ended s [] = s
 ended s (gives c r ∷ ls) = ended (step s c .next) ls
+ended s (tells c a p g i x ∷ ls) = ended (step s c .next) ls
 ended s (reads p c a v ∷ ls) = ended s ls
 ended s (stands c o a u ∷ ls) = ended s ls
 ended s (shows p g i x ∷ ls) = ended s ls
+ended s (marks i xs ∷ ls) = ended s ls
+ended s (heads xs ∷ ls) = ended s ls
+ended s (nets xs ∷ ls) = ended s ls
+ended s (nodes n xs ∷ ls) = ended s ls
+ended s (asks q a v ∷ ls) = ended s ls
 
 unfoldable pub holds : State → List Piece → Bool
 holds s [] = true
@@ -49,7 +54,6 @@ holds s (says ls ∷ ps) = agrees s ls && holds (ended s ls) ps
 holds s (bases p v ∷ ps) = eqb (getD (s .log .base) p 0) v && holds s ps
 holds s (lists ks ∷ ps) = sameList (live s) ks && holds s ps
 holds s (keeps b n ∷ ps) = (eqb (s .log .folded .0) b && eqb (length (s .log .entries)) n) && holds s ps
-holds s (answers q a v ∷ ps) = let x = read s q in (eqb (x .answer) a && eqb (x .value) v) && holds s ps
 
 unfoldable pub hold : List (List Piece) → Bool
 hold [] = true
@@ -82,9 +86,10 @@ numbers =
     (reads 3 7 7 7 ∷ stands 1 1 1 1
     ∷ refuses 5 (rollback 0) ∷ refuses 18 (rollback 1) ∷ refuses 5 (rollback 2)
     ∷ refuses 2 (work 9 1 1 0 0) ∷ refuses 5 (work 1 1 0 0 0) ∷ refuses 18 (work 1 1 1 0 0) ∷ refuses 18 (work 2 2 1 0 0) ∷ refuses 5 (work 1 1 2 0 0)
-    ∷ refuses 5 (foldTo 0) ∷ refuses 5 (foldTo 1) ∷ refuses 5 (foldTo 2) ∷ adds 2 3 9 ∷ [])
-    ∷ answers (ofEntry 1 22) 2 0 ∷ answers (ofEntry 0 1) 5 0 ∷ answers (ofEntry 1 1) 18 0 ∷ answers (ofEntry 2 1) 0 1 ∷ answers (ofEntry 3 1) 5 0
-    ∷ answers (ofTable 4 3) 0 7 ∷ answers (ofState 1) 0 2 ∷ answers (ofState 18) 0 1 ∷ []
+    ∷ refuses 5 (foldTo 0) ∷ refuses 5 (foldTo 1) ∷ refuses 5 (foldTo 2) ∷ adds 2 3 9
+    ∷ asks (ofEntry 1 22) 2 0 ∷ asks (ofEntry 0 1) 5 0 ∷ asks (ofEntry 1 1) 18 0 ∷ asks (ofEntry 2 1) 0 1 ∷ asks (ofEntry 3 1) 5 0
+    ∷ asks (ofTable 4 3) 0 7 ∷ asks (ofState 1) 0 2 ∷ asks (ofState 18) 0 1 ∷ [])
+    ∷ []
 
 pub numbered : List (List Piece)
 numbered = numbers ∷ []
@@ -98,8 +103,8 @@ numbered-hold = refl
 returned : List Piece
 returned =
     says (two ++ (takes 1 ++ (takes 2 ++ (accepts (foldTo 1) ∷ reads 3 9 9 9 ∷ []))))
-    ∷ bases 3 7 ∷ lists (2 ∷ []) ∷ answers (ofEntry 2 8) 0 1
-    ∷ says (undoes 2 ++ (reads 3 7 7 7 ∷ stands 1 3 1 3 ∷ []))
+    ∷ bases 3 7 ∷ lists (2 ∷ [])
+    ∷ says (asks (ofEntry 2 8) 0 1 ∷ undoes 2 ++ (reads 3 7 7 7 ∷ stands 1 3 1 3 ∷ []))
     ∷ lists []
     ∷ says (accepts (foldTo 2) ∷ reads 3 7 7 7 ∷ refuses 5 (foldTo 1) ∷ adds 3 4 1 ∷ (takes 3 ++ (stands 3 4 3 4 ∷ [])))
     ∷ bases 3 7 ∷ bases 4 0 ∷ lists (3 ∷ []) ∷ []
@@ -271,6 +276,25 @@ pub finishing-hold : hold finishing ≡ true
 unfolding hold holds ended agrees sameList step outcome decide wellFormed allFrom entryOk headOk pairsOk valuesOk planOf rowsOf overlay present after afters hops baseRow finishing failed asked invalid
 finishing-hold = refl
 
+-- ---- the live list: 1 and 3 are live and 2 is not, whatever is applied; then 1, and then none
+living : List Piece
+living =
+    says
+    (two
+    ++ (adds 3 4 1
+    ∷ (takes 1
+    ++ (does 1 1 1 0 2 InProgress ∷ does 1 1 1 1 2 Failed ∷ commitsChange 3))))
+    ∷ lists (3 ∷ 1 ∷ [])
+    ∷ says (accepts (rollback 3) ∷ commitsRollback 3) ∷ lists (1 ∷ [])
+    ∷ says (accepts (rollback 1) ∷ commitsRollback 1) ∷ lists [] ∷ []
+
+pub listing : List (List Piece)
+listing = living ∷ []
+
+pub listing-hold : hold listing ≡ true
+unfolding hold holds ended agrees sameList step outcome decide wellFormed allFrom entryOk headOk pairsOk valuesOk planOf rowsOf overlay present after afters hops baseRow listing living
+listing-hold = refl
+
 -- ---- room for later appends
 -- entries 2 to n after the first, then the rest
 filled : ℕ → List Line → List Line
@@ -295,5 +319,5 @@ unfolding hold holds ended agrees sameList step outcome decide wellFormed allFro
 roomy-hold = refl
 
 -- ---- the table
-pub sessions-hold : (hold numbered && (hold left && (hold resting && (hold settling && (hold waiting && (hold finishing && hold roomy)))))) ≡ true
-sessions-hold = rw (numbered-hold, left-hold, resting-hold, settling-hold, waiting-hold, finishing-hold, roomy-hold) refl
+pub sessions-hold : (hold numbered && (hold left && (hold resting && (hold settling && (hold waiting && (hold finishing && (hold listing && hold roomy))))))) ≡ true
+sessions-hold = rw (numbered-hold, left-hold, resting-hold, settling-hold, waiting-hold, finishing-hold, listing-hold, roomy-hold) refl

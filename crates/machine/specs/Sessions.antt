@@ -2,10 +2,10 @@
 -- line of it. Assumes nothing.
 use Prim.Native.Nat.{ℕ, zero, suc}
 use mathlib.Core.List.{List, [], _∷_, _++_}
-use mathlib.Core.Bool.{Bool, true, _&&_, cond}
+use mathlib.Core.Bool.{Bool, true, false, _&&_, cond}
 use mathlib.Core.Path.{_≡_, refl}
 use lib.Dec.{eqb}
-use lib.ListN.{getD}
+use lib.ListN.{getD, drop}
 use Rattle.kinds.specs.declared.Transaction.{Transaction}
 use Rattle.kinds.specs.declared.Event.{Event}
 use Rattle.kinds.specs.declared.Reply.{Reply}
@@ -14,19 +14,27 @@ use Rattle.kinds.specs.declared.Status.the-variants.{InProgress, Complete, Abor
 use Rattle.kinds.specs.Numbers.{num}
 use Rattle.kinds.specs.Statuses.{codeOf}
 use Rattle.kinds.specs.Events.{event, numbered, refusal}
-use Rattle.machine.specs.State.{State, fresh, entryOf}
+use Rattle.machine.specs.State.{State, fresh, entryOf, nodeOf}
 use Rattle.machine.specs.Stores.{after, afters}
 use Rattle.machine.specs.Rows.{overlay, rowsOf}
 use Rattle.machine.specs.WellFormed.{allFrom, pairsOk, entryOk, headOk, wellFormed}
+use Rattle.machine.specs.Reads.{Query, entryNumbers, stateNumbers, nodeNumbers, read}
 use Rattle.machine.specs.Calls.{Call, append, rollback, start, connect, master, sync, work, valuesOk, present, planOf, decide}
 use Rattle.machine.specs.Step.{outcome, step}
 
--- a call with its whole reply; or what the state then shows
+-- a call with its whole reply, also as the five numbers that the program prints; or what the state then shows. Lists are of
+-- the first numbers, in the order of the reads
 pub data Line : Type 0 where
   gives : Call → Reply → Line
+  tells : Call → (answer phase stage number status : ℕ) → Line
   reads : (path committed applied target : ℕ) → Line
   stands : (committed committedOrdinal applied appliedOrdinal : ℕ) → Line
   shows : (phase stage number : ℕ) → Status → Line
+  marks : (number : ℕ) → List ℕ → Line  -- of an entry
+  heads : List ℕ → Line  -- Committed's index, change, target, revision, ordinal; Applied's index, target, revision, ordinal
+  nets : List ℕ → Line  -- the configuration's state, its term; master, term, conn; target id, running
+  nodes : (node : ℕ) → List ℕ → Line  -- id, connected
+  asks : Query → (answer value : ℕ) → Line
 
 abbrev pub sameEvent : Event → Event → Bool
 sameEvent a b =
@@ -34,6 +42,17 @@ sameEvent a b =
 
 abbrev pub sameReply : Reply → Reply → Bool
 sameReply a b = eqb (a .answer) (b .answer) && sameEvent (a .event) (b .event)
+
+abbrev pub sameNumbers : Reply → (answer phase stage number status : ℕ) → Bool
+sameNumbers r a p g i x =
+    eqb (r .answer) a
+    && ((eqb (r .event .phase) p && eqb (r .event .stage) g) && (eqb (r .event .number .0) i && eqb (codeOf (r .event .status)) x))
+
+-- a list begins with another
+unfoldable pub begins : List ℕ → List ℕ → Bool
+begins xs [] = true
+begins [] (y ∷ ys) = false
+begins (x ∷ xs) (y ∷ ys) = eqb x y && begins xs ys
 
 -- the status of a phase (1, 2) and a stage (1, 2)
 abbrev pub statusAt : ℕ → ℕ → Transaction → Status
@@ -43,6 +62,7 @@ statusAt p g t =
 unfoldable pub agrees : State → List Line → Bool
 agrees s [] = true
 agrees s (gives c r ∷ ls) = let o = step s c in sameReply (o .reply) r && agrees (o .next) ls
+agrees s (tells c a p g i x ∷ ls) = let o = step s c in sameNumbers (o .reply) a p g i x && agrees (o .next) ls
 agrees s (reads p c a v ∷ ls) =
     (eqb (getD (s .committed .values) p 0) c && (eqb (getD (s .applied .values) p 0) a && eqb (getD (s .net .values) p 0) v)) && agrees s ls
 agrees s (stands c o a u ∷ ls) =
@@ -50,6 +70,11 @@ agrees s (stands c o a u ∷ ls) =
     && (eqb (s .applied .head .revision .0) a && eqb (s .applied .head .ordinal .0) u))
     && agrees s ls
 agrees s (shows p g i x ∷ ls) = eqb (codeOf (statusAt p g (entryOf (s .log) i))) (codeOf x) && agrees s ls
+agrees s (marks i xs ∷ ls) = begins (entryNumbers (entryOf (s .log) i)) xs && agrees s ls
+agrees s (heads xs ∷ ls) = begins (drop 1 (stateNumbers s)) xs && agrees s ls
+agrees s (nets xs ∷ ls) = begins (drop 10 (stateNumbers s)) xs && agrees s ls
+agrees s (nodes n xs ∷ ls) = begins (nodeNumbers (nodeOf (s .net .connections) n)) xs && agrees s ls
+agrees s (asks q a v ∷ ls) = let x = read s q in (eqb (x .answer) a && eqb (x .value) v) && agrees s ls
 
 unfoldable pub agree : List (List Line) → Bool
 agree [] = true
@@ -134,8 +159,8 @@ p9 =
     ∷ (mastered
     ++ (commitsChange 1
     ++ (commitsChange 2
-    ++ (reads 3 9 0 0 ∷ accepts (rollback 1) ∷ accepts (rollback 2) ∷ waits 3 1
-    ∷ (commitsRollback 2 ++ (reads 3 7 0 0 ∷ (commitsRollback 1 ++ (reads 3 0 0 0 ∷ []))))))))
+    ++ (reads 3 9 0 0 ∷ accepts (rollback 1) ∷ accepts (rollback 2) ∷ waits 3 1 ∷ does 2 1 3 0 2 InProgress ∷ waits 3 1 ∷ does 2 1 3 0 2 Complete
+    ∷ (reads 3 7 0 0 ∷ (commitsRollback 1 ++ (reads 3 0 0 0 ∷ [])))))))
 
 p10 : List Line
 p10 =
