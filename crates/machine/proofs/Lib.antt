@@ -5,6 +5,7 @@ pub mod Onward
 pub mod ByCall
 pub mod Entries
 pub mod Kept
+pub mod LiveEnds
 pub mod FoldWitnesses
 pub mod Traps
 pub mod Reconnected
