@@ -6,13 +6,10 @@ use mathlib.Core.Bool.{Bool, true, _&&_}
 use mathlib.Core.Path.{_≡_, refl}
 use lib.ListN.{replicate}
 use Rattle.kinds.specs.declared.Transaction.{Transaction}
-use Rattle.kinds.specs.declared.Head.{Head}
-use Rattle.kinds.specs.declared.Side.{Side}
-use Rattle.kinds.specs.declared.Status.{Status}
 use Rattle.kinds.specs.declared.Status.the-variants.{None, Pending, InProgress, Complete}
-use Rattle.kinds.specs.Numbers.{num, ord}
+use Rattle.kinds.specs.Numbers.{num}
 use Rattle.rules.specs.Sides.{untouched}
-use Rattle.machine.specs.State.{State, Log, absent, four, fresh}
+use Rattle.machine.specs.State.{State}
 use Rattle.machine.specs.Stores.{after, afters}
 use Rattle.machine.specs.Rows.{overlay, rowsOf}
 use Rattle.machine.specs.WellFormed.{allFrom, pairsOk, entryOk, headOk, wellFormed}
@@ -20,40 +17,17 @@ use Rattle.machine.specs.LiveList.{hops}
 use Rattle.machine.specs.Folding.{baseRow}
 use Rattle.machine.specs.Calls.{append, start, work, foldTo, valuesOk, present, planOf, decide}
 use Rattle.machine.specs.Step.{outcome, step}
+use Rattle.machine.specs.Built.{side, entry, log, head, none, stateOf, logged}
 use Rattle.machine.specs.Sessions.{stands, agrees, accepts, refuses, adds, does, mastered}
 use Rattle.machine.specs.FoldSessions.{Piece, says, bases, lists, ended, holds, sameList}
 
--- ---- states with a log, two heads and a change of our own
-abbrev side : Status → Status → ℕ → Side
-side c a o = record { commit = c; apply = a; ordinal = ord o }
-
--- 3:7, in a phase, with its two sides and its r.index
-abbrev entry : ℕ → Side → Side → ℕ → Transaction
-entry p c r i = record { phase = p; count = 1; paths = 3 ∷ 0 ∷ 0 ∷ 0 ∷ []; values = 7 ∷ 0 ∷ 0 ∷ 0 ∷ []; change = c; rollback = r; index = num i; kept = four }
-
+-- ---- entries
 -- not yet committed; and taken by the switch, the first event of all
 abbrev unmoved : Transaction
 unmoved = entry 1 (side Pending Pending 0) untouched 0
 
 abbrev taken : Transaction
 taken = entry 1 (side Complete Complete 1) untouched 0
-
-abbrev log : ℕ → List Transaction → Log
-log b ts = record { folded = num b; base = absent; entries = ts }
-
-abbrev head : (index target revision ordinal : ℕ) → Head
-head i g r o = record { index = num i; target = num g; revision = num r; ordinal = ord o }
-
-abbrev stateOf : Log → (change : ℕ) → (committed applied : Head) → State
-stateOf l n c a =
-    record { log = l; change = num n; committed = record { head = c; values = absent }; applied = record { head = a; values = absent }; net = fresh .net }
-
-abbrev none : Head
-none = head 0 0 0 0
-
--- a log alone
-abbrev logged : Log → State
-logged l = stateOf l 0 none none
 
 -- ---- a state that is well-formed, and one that is not
 abbrev formed : List Piece
@@ -66,7 +40,7 @@ malformed = says (refuses 1 start ∷ []) ∷ []
 pub limits : Bool
 limits =
     holds (logged (log 65534 [])) (says (adds 65535 3 7 ∷ refuses 9 (append (record { path = 3; value = 7 } ∷ [])) ∷ refuses 3 (append []) ∷ []) ∷ [])
-    && (holds (logged (log 65407 (replicate 128 unmoved))) (says (refuses 4 (append (record { path = 3; value = 7 } ∷ [])) ∷ []) ∷ [])
+    && (holds (logged (log 65407 (replicate 128 unmoved))) (says (refuses 4 (append (record { path = 3; value = 7 } ∷ [])) ∷ refuses 3 (append []) ∷ []) ∷ [])
     && (holds (logged (log 65408 (replicate 128 unmoved))) malformed
     && (holds (logged (log 65536 [])) malformed && (holds (logged (log 0 (replicate 128 unmoved))) formed && holds (logged (log 0 (replicate 129 unmoved))) malformed))))
 

@@ -6,6 +6,7 @@ pub mod ByCall
 pub mod Entries
 pub mod Kept
 pub mod LiveEnds
+pub mod Unreached
 pub mod FoldWitnesses
 pub mod Traps
 pub mod Reconnected
