@@ -1,27 +1,21 @@
--- Bytes taken one by one make the lines that the grammar speaks of. Assumes nothing.
-use Prim.Native.Nat.{ℕ, _+_, _≤_, _<_}
+-- Bytes taken one by one: the steps of the loop over a block, and how much their answers fill. Assumes nothing.
+use Prim.Native.Nat.{ℕ, _+_, _*_, _≤_, _<_}
 use mathlib.Core.Path.{_≡_, refl, ap, sym, subst, _∙_}
-use mathlib.Core.Bool.{Bool, true, false, not}
-use mathlib.Core.List.{List, [], _∷_, _++_, foldl}
+use mathlib.Core.Bool.{Bool, true, false}
+use mathlib.Core.List.{List, [], _∷_, _++_}
 use native.Mathlib.Numerals.{add-one}
+use native.Mathlib.Omega.{arith}
 use borrow.Author.Tests.{eq-eqb, ne-eqb}
 use lib.Dec.{eqb}
 use lib.ListN.{length, take, getD}
 use lib.Seq.{take-all, take-suc}
-use Rattle.kinds.specs.declared.Reply.{Reply}
-use Rattle.kinds.specs.Events.{refusal}
-use Rattle.machine.specs.Calls.{Call}
 use Rattle.lines.specs.declared.reading.Reader.{Reader}
-use Rattle.lines.specs.Forms.{Asked, calls}
-use Rattle.lines.specs.Grammar.{Says}
-use Rattle.lines.specs.Reading.{fresh, pushed, pushedIn, stepped, keptIn, finished, said, saidIn}
-use Rattle.lines.specs.Replies.{replyLine}
-use Rattle.lines.proofs.Classes.{and-left, and-right}
+use Rattle.lines.specs.Reading.{fresh, pushed, pushedIn, keptIn}
 use Rattle.stepper.specs.declared.Session.{Session}
-use Rattle.stepper.specs.Ended.{waiting, Ends}
-use Rattle.stepper.specs.Fed.{EndsLine, TakesIf, Takes, Feeds, none, next, EndsLast, unbroken, Replied}
-use Rattle.stepper.proofs.Joint.{answers-said, refuses-unsaid}
-use Rattle.stepper.proofs.Waiting.{waits-behind}
+use Rattle.stepper.specs.declared.Turn.{Turn}
+use Rattle.stepper.specs.Fed.{emptied, EndsLine, TakesIf, Takes, Feeds, none, next, EndsLastIf, EndsLast}
+use Rattle.stepper.specs.Closed.{EndsInput}
+use Rattle.stepper.specs.Runs.{start, block, Reads, ReadsAll}
 
 -- ---- one byte
 pub newline :
@@ -63,56 +57,58 @@ pub fed-all :
     Feeds l out room s (take i bs) q m after kept → Feeds l out room s bs q m after kept
 fed-all l out room s bs i q m after kept h f = subst (λ (x : List ℕ). Feeds l out room s x q m after kept) (take-all i bs h) f
 
--- ---- a line and its newline
-not-true : (b : Bool) → not b ≡ true → b ≡ false
-not-true false e = refl
-not-true true e = sym e
+-- ---- how much the answers fill: 96 bytes for each byte taken, at most
+takes-if-room :
+    (e : Bool) (l out room : List ℕ) (s : Session) (b : ℕ) (q : Session) (m after kept : List ℕ) → TakesIf e l out room s b q m after kept →
+    q .used ≤ s .used + 96
+takes-if-room true l out room s b q m after kept x = omega (arith, x .0 .puts .ends, x .0 .puts .fits)
+takes-if-room false l out room s b q m after kept x =
+    let h : q .used ≡ s .used = ap (λ (y : Session). y .used) (x .0) in omega (arith, h)
 
--- the bytes t of a line, read on from a reader and its room, have ended
-abbrev EndsRun : List ℕ → List ℕ → Reader × List ℕ → List ℕ → ℕ → ℕ → List ℕ → List ℕ → Type 0
-EndsRun l out x t used end m after =
-    Ends l (finished (foldl stepped x t .0) (foldl stepped x t .1)) (keptIn (foldl stepped x t .0) (foldl stepped x t .1)) out used end m after
+pub takes-room :
+    (l out room : List ℕ) (s : Session) (b : ℕ) (q : Session) (m after kept : List ℕ) → Takes l out room s b q m after kept → q .used ≤ s .used + 96
+takes-room l out room s b = takes-if-room (eqb b 10) l out room s b
 
-line-ends :
-    (t l out room : List ℕ) (s q : Session) (m after kept : List ℕ) → unbroken t ≡ true → Feeds l out room s (t ++ (10 ∷ [])) q m after kept →
-    EndsRun l out (s .line, room) t (s .used) (q .used) m after × (q .line ≡ fresh)
-unfolding unbroken
-line-ends [] l out room s q m after kept e (next b u none) = (u .0, u .1)
-line-ends (c ∷ t) l out room s q m after kept e (next {k = k} {a = a} {n = n} {r = r} b u f) =
-    let v : TakesIf false l out room s c r k a n = subst (λ (x : Bool). TakesIf x l out room s c r k a n)
-    (not-true (eqb c 10) (and-left (not (eqb c 10)) (unbroken t) e)) u in
-    let w = line-ends t k a n r q m after kept (and-right (not (eqb c 10)) (unbroken t) e) f in
-    let y = subst (λ (z : Session). EndsRun k a (z .line, n) t (z .used) (q .used) m after) (v .0) (w .0) in
-    let z = subst (λ (x : List ℕ). EndsRun k a (pushed (s .line) c, x) t (s .used) (q .used) m after) (v .3) y in
-    let o = subst (λ (x : List ℕ). EndsRun x a (pushed (s .line) c, pushedIn (s .line) c room) t (s .used) (q .used) m after) (v .1) z in
-    (subst (λ (x : List ℕ). EndsRun l x (pushed (s .line) c, pushedIn (s .line) c room) t (s .used) (q .used) m after) (v .2) o, w .1)
+pub feeds-room :
+    {l out room bs : List ℕ} {s q : Session} {m after kept : List ℕ} → Feeds l out room s bs q m after kept → q .used ≤ s .used + 96 * length bs
+feeds-room none = omega arith
+feeds-room {l = l} {out = out} {room = room} {s = s} {q = q} (next {k = k} {a = a} {n = n} {bs = bs} {r = r} b t f) =
+    let h : r .used ≤ s .used + 96 = takes-room l out room s b r k a n t in
+    let g : q .used ≤ r .used + 96 * length bs = feeds-room f in
+    omega (arith, h, g)
 
-module _ (t l out room : List ℕ) (s q : Session) (m after kept : List ℕ) (e : unbroken t ≡ true) (b : s .line ≡ fresh)
-    (f : Feeds l out room s (t ++ (10 ∷ [])) q m after kept) where
-  -- the bytes of a line and a newline, taken where a line begins: that line has ended, and a line begins
-  pub line-ended : Ends l (said room t) (saidIn room t) out (s .used) (q .used) m after × (q .line ≡ fresh)
-  line-ended =
-      let x = line-ends t l out room s q m after kept e f in
-      (subst (λ (r : Reader). EndsRun l out (r, room) t (s .used) (q .used) m after) b (x .0), x .1)
+ends-last-if-room :
+    (e : Bool) (l out room : List ℕ) (s : Session) (end : ℕ) (m after kept : List ℕ) → EndsLastIf e l out room s end m after kept → end ≤ s .used + 96
+ends-last-if-room true l out room s end m after kept x = omega (arith, x .0 .puts .ends, x .0 .puts .fits)
+ends-last-if-room false l out room s end m after kept x = omega (arith, x .0)
 
-  -- where the line says a call, the reply that is decided for that call stands behind the answers that wait
-  pub line-replied : length room ≡ 20 → (c : Call) → Says t (calls c) → Replied l out (s .used) c (q .used) m after
-  line-replied n c x =
-      let y = line-ended .0 in
-      record {
-        reply = y .reply;
-        claims = answers-said t room l (y .reply) m (y .answers) n c x;
-        waits = waits-behind l (said room t) (saidIn room t) out (s .used) (q .used) m after y;
-      }
+pub ends-last-room :
+    (l out room : List ℕ) (s : Session) (end : ℕ) (m after kept : List ℕ) → EndsLast l out room s end m after kept → end ≤ s .used + 96
+ends-last-room l out room s = ends-last-if-room (s .begun) l out room s
 
-  -- where it says none, the line of refusal 2 does, and every byte of the image is what it had been
-  pub line-refused :
-      ((x : Asked) → Says t x → ⊥) →
-      (96 ≤ length out → take (q .used) after ≡ take (waiting (length out) (s .used)) out ++ replyLine (refusal 2)) × (m ≡ l)
-  line-refused n =
-      let y = line-ended .0 in
-      let z = refuses-unsaid t room l (y .reply) m (y .answers) n in (
-        λ h. waits-behind l (said room t) (saidIn room t) out (s .used) (q .used) m after y h ∙ ap
-            (λ (r : Reply). take (waiting (length out) (s .used)) out ++ replyLine r) (z .0),
-        z .1,
-      )
+pub ends-input-room :
+    (l out room : List ℕ) (s : Session) (end : ℕ) (m after kept : List ℕ) → EndsInput l out room s end m after kept → end ≤ s .used + 192
+ends-input-room l out room s end m after kept x =
+    let h : x .used ≤ s .used + 96 = ends-last-room l out room s (x .used) m (x .answers) kept (x .last) in
+    omega (arith, h, x .closes .ends, x .closes .fits)
+
+-- ---- a read and the reads
+pub read-fed :
+    (l out room : List ℕ) (s e : Session) (bs : List ℕ) (r : Turn) (m after kept : List ℕ) → e ≡ emptied s →
+    Feeds l out room e bs (r .session) m after kept → Reads l room s r m kept
+read-fed l out room s e bs r m after kept h f =
+    record { bytes = bs; out = out; after = after; feeds = subst (λ (x : Session). Feeds l out room x bs (r .session) m after kept) h f }
+
+pub none-read : (l room : List ℕ) (line : Reader) → line ≡ fresh → ReadsAll l room (record { line = line; begun = false; used = 0 }) l room
+none-read l room line e =
+    subst (λ (x : Reader). ReadsAll l room (record { line = x; begun = false; used = 0 }) l room) (sym e) (record { bytes = []; text = []; runs = start })
+
+pub read-more :
+    (l room : List ℕ) (q : Session) (k n : List ℕ) (r : Turn) (m kept : List ℕ) → ReadsAll l room q k n → Reads k n q r m kept →
+    ReadsAll l room (r .session) m kept
+read-more l room q k n r m kept x y =
+    record {
+      bytes = x .bytes ++ y .bytes;
+      text = x .text ++ take (r .session .used) (y .after);
+      runs = block (x .runs) (y .bytes) (y .out) (y .after) m kept (r .session) (y .feeds);
+    }

@@ -3,3 +3,4 @@ pub mod Answered
 pub mod Joint
 pub mod Waiting
 pub mod Fed
+pub mod Transcribed

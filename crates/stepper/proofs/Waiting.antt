@@ -1,70 +1,87 @@
--- The answers that wait, and the line of a reply behind them. Assumes nothing.
-use Prim.Native.Nat.{ℕ, _+_, _-_, _≤_, _<_}
+-- The answers that wait, and a line put behind them. Assumes nothing.
+use Prim.Native.Nat.{ℕ, _+_, _-_, _≤_}
 use mathlib.Core.Path.{_≡_, refl, ap, ap₂, sym, subst, _∙_}
-use mathlib.Core.Bool.{Bool, true, false, cond}
-use mathlib.Core.List.{List, _++_, append-nil}
+use mathlib.Core.Bool.{true}
+use mathlib.Core.List.{List, _++_, append-assoc}
 use native.Mathlib.Omega.{arith}
-use borrow.Author.Tests.{le-leb, lt-leb, lt-ltb, le-ltb, ltb-false, leb-true}
-use lib.Dec.{ltb, leb}
-use lib.ListN.{length, take, drop, length-drop, drop-of-length-le}
-use lib.Seq.{take-all, length-take-le, take-append-add, take-append-seam}
+use borrow.Author.Tests.{le-leb}
+use lib.Dec.{leb}
+use lib.ListN.{length, take, drop, length-drop, take-append-drop}
+use lib.Seq.{length-take-le, take-append-add, take-append-seam, drop-append-add, drop-append-seam, drop-append-le, drop-drop}
 use Rattle.kinds.specs.declared.Reply.{Reply}
 use Rattle.lines.specs.declared.reading.Line.{Line}
-use Rattle.lines.specs.Replies.{replyLine, Written}
+use Rattle.lines.specs.Replies.{replyLine, closingLine, Written}
+use Rattle.controller.specs.declared.reads.Heads.{Heads}
+use Rattle.controller.specs.Reads.{headsOf}
 use Rattle.stepper.specs.Answers.{Answers}
-use Rattle.stepper.specs.Ended.{waiting, MakesRoom, Ends}
+use Rattle.stepper.specs.Ended.{Puts, Ends}
+use Rattle.stepper.specs.Closed.{lineOfHeads, closing, Closes}
 
--- ---- room
-module _ (out : List ℕ) (used : ℕ) where
-  pub none-wait : length out < used → MakesRoom out used 0
-  none-wait h = record { waits = rw (lt-ltb (length out) used h); fits = omega arith }
+module _ (out : List ℕ) (used : ℕ) (t : List ℕ) where
+  -- ---- the text in its place
+  spliced : used ≤ length out → length t ≤ 96 → Puts out used t (used + length t) (take used out ++ (t ++ drop (length t) (drop used out)))
+  spliced h f =
+      let p : List ℕ = take used out in
+      let d : List ℕ = drop (length t) (drop used out) in
+      let e : length p ≡ used = length-take-le used out h in
+      record {
+        ends = refl;
+        fits = f;
+        holds =
+            ap (λ (k : ℕ). take (k + length t) (p ++ (t ++ d))) (sym e) ∙ take-append-add p (t ++ d) (length t) ∙ ap (λ (x : List ℕ). p ++ x)
+            (take-append-seam t d);
+        behind =
+            ap (λ (k : ℕ). drop (k + length t) (p ++ (t ++ d))) (sym e) ∙ drop-append-add p (t ++ d) (length t) ∙ drop-append-seam t d
+            ∙ drop-drop (length t) used out;
+      }
 
-  pub all-wait : used ≤ length out → 96 ≤ length out - used → MakesRoom out used used
-  all-wait h g = record { waits = rw (le-ltb (length out) used h, le-leb 96 (length out - used) g); fits = h }
+  -- ---- the part lent is as long as a line may be
+  puts-in :
+      (w size : ℕ) (rest : List ℕ) → w ≡ 96 → used + 96 ≤ length out → Written (take w (drop used out)) t size rest →
+      Puts out used t (used + size) (take used out ++ (rest ++ drop w (drop used out)))
+  puts-in w size rest e h x =
+      let d : List ℕ = drop used out in
+      let n : w ≤ length d = omega (arith, length-drop used out, e) in
+      let q : length (take w d) ≡ w = length-take-le w d n in
+      let m : 96 ≤ length (take w d) = omega (arith, q, e) in
+      let g : leb 96 (length (take w d)) ≡ true = le-leb 96 (length (take w d)) m in
+      let s : size ≡ length t = rw g at (x .sized) in
+      let r : rest ≡ t ++ drop (length t) (take w d) = rw g at (x .holds) in
+      let f : length t ≤ 96 = omega (arith, s, q, e, x .fits) in
+      let i : length t ≤ length (take w d) = omega (arith, s, x .fits) in
+      let j : rest ++ drop w d ≡ t ++ drop (length t) d =
+      ap (λ (y : List ℕ). y ++ drop w d) r ∙ append-assoc t (drop (length t) (take w d)) (drop w d) ∙ ap (λ (y : List ℕ). t ++ y)
+      (sym (drop-append-le (length t) (take w d) (drop w d) i) ∙ ap (drop (length t)) (take-append-drop w d)) in
+      let z = spliced (omega arith) f in
+      subst (λ (y : List ℕ). Puts out used t (used + size) (take used out ++ y)) (sym j)
+      (subst (λ (k : ℕ). Puts out used t (used + k) (take used out ++ (t ++ drop (length t) d))) (sym s) z)
 
-  pub all-written : used ≤ length out → length out - used < 96 → MakesRoom out used 0
-  all-written h g = record { waits = rw (le-ltb (length out) used h, lt-leb 96 (length out - used) g); fits = omega arith }
+  pub puts-written :
+      (size : ℕ) (rest : List ℕ) → used + 96 ≤ length out → Written (take (used + 96 - used) (drop used out)) t size rest →
+      Puts out used t (used + size) (take used out ++ (rest ++ drop (used + 96 - used) (drop used out)))
+  puts-written size rest h x = let e : used + 96 - used ≡ 96 = omega arith in puts-in (used + 96 - used) size rest e h x
 
--- ---- the part lent is all that lies behind those that wait
+-- ---- a line has ended
 pub ended :
-    (l : List ℕ) (line read : Line) (room kept out : List ℕ) (used at size : ℕ) (r : Reply) (m rest : List ℕ) → read ≡ line → kept ≡ room →
-    Answers l read kept r m → MakesRoom out used at →
-    Written (take (length out - at) (drop at out)) (replyLine r) size rest →
-    Ends l line room out used (at + size) m (take at out ++ (rest ++ drop (length out - at) (drop at out)))
-ended l line read room kept out used at size r m rest e k a n w =
-    let s : length (drop at out) ≤ length out - at = omega (arith, length-drop at out) in
+    (l : List ℕ) (line read : Line) (room kept out : List ℕ) (used size : ℕ) (r : Reply) (m rest : List ℕ) → read ≡ line → kept ≡ room →
+    Answers l read kept r m → used + 96 ≤ length out → Written (take (used + 96 - used) (drop used out)) (replyLine r) size rest →
+    Ends l line room out used (used + size) m (take used out ++ (rest ++ drop (used + 96 - used) (drop used out)))
+ended l line read room kept out used size r m rest e k a h x =
     record {
       reply = r;
-      answers = subst (λ (x : Line). Answers l x room r m) e (subst (λ (x : List ℕ). Answers l read x r m) k a);
-      size = size;
-      rest = rest;
-      written = subst (λ (x : List ℕ). Written x (replyLine r) size rest)
-          (take-all (length out - at) (drop at out) s ∙ ap (λ (k : ℕ). drop k out) (n .waits)) w;
-      ends = ap (λ (k : ℕ). k + size) (n .waits);
-      holds =
-          ap (λ (x : List ℕ). take at out ++ (rest ++ x)) (drop-of-length-le (drop at out) s)
-          ∙ ap₂ (λ (k : ℕ) (x : List ℕ). take k out ++ x) (n .waits) (append-nil rest);
+      answers = subst (λ (y : Line). Answers l y room r m) e (subst (λ (y : List ℕ). Answers l read y r m) k a);
+      puts = puts-written out used (replyLine r) size rest h x;
     }
 
--- ---- in a buffer that has room for an answer, what waits then is what waited, and the reply's line
-room-behind : (n used : ℕ) → 96 ≤ n → (waiting n used ≤ n) × (96 ≤ n - waiting n used)
-room-behind n used h = by (ltb n used) (leb 96 (n - used)) refl refl
-  where
-    by : (s t : Bool) → ltb n used ≡ s → leb 96 (n - used) ≡ t → (cond s 0 (cond t used 0) ≤ n) × (96 ≤ n - cond s 0 (cond t used 0))
-    by true t d e = (omega arith, omega arith)
-    by false true d e = (ltb-false n used d, leb-true 96 (n - used) e)
-    by false false d e = (omega arith, omega arith)
-
-module _ (l : List ℕ) (line : Line) (room out : List ℕ) (used end : ℕ) (m after : List ℕ) (x : Ends l line room out used end m after) where
-  pub waits-behind : 96 ≤ length out → take end after ≡ take (waiting (length out) used) out ++ replyLine (x .reply)
-  waits-behind h =
-      let at = waiting (length out) used in
-      let t = replyLine (x .reply) in
-      let b = room-behind (length out) used h in
-      let q : 96 ≤ length (drop at out) = omega (arith, length-drop at out, b .1) in
-      let s : x .size ≡ length t = rw (le-leb 96 (length (drop at out)) q) at (x .written .sized) in
-      let r : x .rest ≡ t ++ drop (length t) (drop at out) = rw (le-leb 96 (length (drop at out)) q) at (x .written .holds) in
-      let f : length (take at out) ≡ at = length-take-le at out (b .0) in
-      ap₂ take (x .ends ∙ ap₂ (λ (i j : ℕ). i + j) (sym f) s) (x .holds ∙ ap (λ (y : List ℕ). take at out ++ y) r)
-      ∙ take-append-add (take at out) (t ++ drop (length t) (drop at out)) (length t)
-      ∙ ap (λ (y : List ℕ). take at out ++ y) (take-append-seam t (drop (length t) (drop at out)))
+-- ---- the closing line
+pub closed :
+    (l : List ℕ) (h : Heads) (out : List ℕ) (used size : ℕ) (c o a u : ℕ) (rest : List ℕ) → h ≡ headsOf l → c ≡ h .committed .revision .0 →
+    o ≡ h .committed .ordinal .0 → a ≡ h .applied .revision .0 → u ≡ h .applied .ordinal .0 → used + 96 ≤ length out →
+    Written (take (used + 96 - used) (drop used out)) (closingLine c o a u) size rest →
+    Closes l out used (used + size) (take used out ++ (rest ++ drop (used + 96 - used) (drop used out)))
+closed l h out used size c o a u rest e p q r s n x =
+    let t : closingLine c o a u ≡ closing l =
+    ap₂ (λ (i j : ℕ). closingLine i j a u) p q ∙ ap₂ (λ (i j : ℕ). closingLine (h .committed .revision .0) (h .committed .ordinal .0) i j) r s ∙ ap
+    lineOfHeads e in
+    puts-written out used (closing l) size rest n
+    (subst (λ (y : List ℕ). Written (take (used + 96 - used) (drop used out)) y size rest) t x)

@@ -1,47 +1,48 @@
 -- A line that has ended: its reply's line is put behind the answers that wait; and that no second outcome is this.
 -- Assumes nothing.
-use Prim.Native.Nat.{ℕ, _+_, _-_, _≤_}
-use mathlib.Core.Path.{_≡_, ap, subst, _∙_}
-use mathlib.Core.Bool.{cond}
+use Prim.Native.Nat.{ℕ, _+_, _≤_}
+use mathlib.Core.Path.{_≡_, ap, ap₂, sym, subst, _∙_}
 use mathlib.Core.List.{List, _++_}
-use lib.Dec.{ltb, leb}
-use lib.ListN.{length, take, drop}
+use lib.ListN.{length, take, drop, take-append-drop}
 use Rattle.kinds.specs.declared.Reply.{Reply}
 use Rattle.kinds.specs.Outcome.{one}
 use Rattle.lines.specs.declared.reading.Line.{Line}
-use Rattle.lines.specs.Replies.{replyLine, Written}
-use Rattle.lines.specs.Promises.{written-only}
+use Rattle.lines.specs.Replies.{replyLine}
 use Rattle.stepper.specs.Answers.{Answers, answers-only}
 
--- of `used` bytes that wait in a buffer of n: all, where another answer has room behind them; else none, for they are written
-abbrev pub waiting : ℕ → ℕ → ℕ
-waiting n used = cond (ltb n used) 0 (cond (leb 96 (n - used)) used 0)
+-- the bytes that are lent for the line of an answer; the buffer of answers has them for each byte of a block
+abbrev pub answerRoom : ℕ
+answerRoom = 96
 
-pub record MakesRoom (out : List ℕ) (used r : ℕ) : Type 0 where
-  pub waits : r ≡ waiting (length out) used
-  pub fits : r ≤ length out
+-- the text t is put behind the first `used` bytes of a buffer: these and t are its first `end` bytes then, and behind them it
+-- is as it was
+pub record Puts (out : List ℕ) (used : ℕ) (t : List ℕ) (end : ℕ) (after : List ℕ) : Type 0 where
+  pub ends : end ≡ used + length t
+  pub fits : length t ≤ answerRoom
+  pub holds : take end after ≡ take used out ++ t
+  pub behind : drop end after ≡ drop end out
 
 -- the line, with its room, on the image l is answered with a reply and leaves m; behind those that wait stands the line of
 -- that reply
 pub record Ends (l : List ℕ) (line : Line) (room out : List ℕ) (used end : ℕ) (m after : List ℕ) : Type 0 where
   pub reply : Reply
   pub answers : Answers l line room reply m
-  pub size : ℕ
-  pub rest : List ℕ
-  pub written : Written (drop (waiting (length out) used) out) (replyLine reply) size rest
-  pub ends : end ≡ waiting (length out) used + size
-  pub holds : after ≡ take (waiting (length out) used) out ++ rest
+  pub puts : Puts out used (replyLine reply) end after
 
 -- ---- no second outcome
-pub makes-room-only : (out : List ℕ) (used r q : ℕ) → MakesRoom out used r → MakesRoom out used q → r ≡ q
-makes-room-only out used r q a b = one (a .waits) (b .waits)
+parted : (out : List ℕ) (used : ℕ) (t : List ℕ) (e : ℕ) (a : List ℕ) → Puts out used t e a → a ≡ take used out ++ t ++ drop e out
+parted out used t e a x = sym (take-append-drop e a) ∙ ap₂ (λ (i j : List ℕ). i ++ j) (x .holds) (x .behind)
+
+pub puts-only : (out : List ℕ) (used : ℕ) (t : List ℕ) (e f : ℕ) (a b : List ℕ) → Puts out used t e a → Puts out used t f b → (e ≡ f) × (a ≡ b)
+puts-only out used t e f a b x y =
+    let h = one (x .ends) (y .ends) in
+    (h, parted out used t e a x ∙ ap (λ (k : ℕ). take used out ++ t ++ drop k out) h ∙ sym (parted out used t f b y))
 
 pub ends-only :
     (l : List ℕ) (line : Line) (room out : List ℕ) (used e f : ℕ) (m n a b : List ℕ) → Ends l line room out used e m a → Ends l line room out used f n b →
     (e ≡ f) × (m ≡ n) × (a ≡ b)
 ends-only l line room out used e f m n a b x y =
     let s = answers-only l line room (x .reply) (y .reply) m n (x .answers) (y .answers) in
-    let at = waiting (length out) used in
-    let w = subst (λ (r : Reply). Written (drop at out) (replyLine r) (x .size) (x .rest)) (s .0) (x .written) in
-    let t = written-only (drop at out) (replyLine (y .reply)) (x .size) (y .size) (x .rest) (y .rest) w (y .written) in
-    (one (x .ends ∙ ap (λ (k : ℕ). at + k) (t .0)) (y .ends), s .1, one (x .holds ∙ ap (λ (r : List ℕ). take at out ++ r) (t .1)) (y .holds))
+    let p = subst (λ (r : Reply). Puts out used (replyLine r) e a) (s .0) (x .puts) in
+    let t = puts-only out used (replyLine (y .reply)) e f a b p (y .puts) in
+    (t .0, s .1, t .1)

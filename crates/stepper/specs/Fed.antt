@@ -1,17 +1,19 @@
--- Bytes taken one by one: a newline ends the line so far, any other byte belongs to it. Assumes nothing.
-use Prim.Native.Nat.{ℕ, _≤_}
-use mathlib.Core.Path.{_≡_}
-use mathlib.Core.Bool.{Bool, true, false, not, _&&_}
-use mathlib.Core.List.{List, [], _∷_, _++_}
+-- Bytes taken one by one: a newline ends the line so far, any other byte belongs to it; and that no second outcome is this.
+-- Assumes nothing.
+use Prim.Native.Nat.{ℕ}
+use mathlib.Core.Path.{_≡_, refl, ap, subst, _∙_}
+use mathlib.Core.Bool.{Bool, true, false}
+use mathlib.Core.List.{List, [], _∷_}
 use lib.Dec.{eqb}
-use lib.ListN.{length, take}
-use Rattle.kinds.specs.declared.Reply.{Reply}
-use Rattle.machine.specs.Calls.{Call}
+use Rattle.kinds.specs.Outcome.{one}
+use Rattle.lines.specs.declared.reading.Reader.{Reader}
 use Rattle.lines.specs.Reading.{fresh, pushed, pushedIn, keptIn, finished}
-use Rattle.lines.specs.Replies.{replyLine}
-use Rattle.controller.specs.Claims.{Claims}
 use Rattle.stepper.specs.declared.Session.{Session}
-use Rattle.stepper.specs.Ended.{waiting, Ends}
+use Rattle.stepper.specs.Ended.{Ends, ends-only}
+
+-- no answer waits any more
+abbrev pub emptied : Session → Session
+emptied s = record { line = s .line; begun = s .begun; used = 0 }
 
 -- the line so far of the session s, in the room, has ended
 abbrev pub EndsLine : List ℕ → List ℕ → List ℕ → Session → ℕ → List ℕ → List ℕ → Type 0
@@ -41,13 +43,47 @@ EndsLastIf false l out room s end m after kept = (end ≡ s .used) × (m ≡ l) 
 abbrev pub EndsLast : List ℕ → List ℕ → List ℕ → Session → ℕ → List ℕ → List ℕ → List ℕ → Type 0
 EndsLast l out room s end m after kept = EndsLastIf (s .begun) l out room s end m after kept
 
--- bytes with no newline among them
-unfoldable pub unbroken : List ℕ → Bool
-unbroken [] = true
-unbroken (b ∷ t) = not (eqb b 10) && unbroken t
+-- ---- no second outcome
+same-session : (q p : Session) → q .line ≡ p .line → q .begun ≡ p .begun → q .used ≡ p .used → q ≡ p
+same-session q p e f g =
+    ap (λ (x : Reader). record { line = x; begun = q .begun; used = q .used }) e
+    ∙ ap (λ (x : Bool). record { line = p .line; begun = x; used = q .used }) f
+    ∙ ap (λ (x : ℕ). record { line = p .line; begun = p .begun; used = x }) g
 
--- a line on the image l was answered with what is decided for c: m is left, and behind the answers that wait stands the reply's line
-pub record Replied (l out : List ℕ) (used : ℕ) (c : Call) (end : ℕ) (m after : List ℕ) : Type 0 where
-  pub reply : Reply
-  pub claims : Claims l c reply m
-  pub waits : 96 ≤ length out → take end after ≡ take (waiting (length out) used) out ++ replyLine reply
+takes-if-only :
+    (e : Bool) (l out room : List ℕ) (s : Session) (b : ℕ) (q p : Session) (m n a c k j : List ℕ) → TakesIf e l out room s b q m a k →
+    TakesIf e l out room s b p n c j → (q ≡ p) × (m ≡ n) × (a ≡ c) × (k ≡ j)
+takes-if-only true l out room s b q p m n a c k j x y =
+    let z = ends-only l (finished (s .line) room) (keptIn (s .line) room) out (s .used) (q .used) (p .used) m n a c (x .0) (y .0) in
+    (same-session q p (one (x .1) (y .1)) (one (x .2) (y .2)) (z .0), z .1, z .2, one (x .3) (y .3))
+takes-if-only false l out room s b q p m n a c k j x y = (one (x .0) (y .0), one (x .1) (y .1), one (x .2) (y .2), one (x .3) (y .3))
+
+pub takes-only :
+    (l out room : List ℕ) (s : Session) (b : ℕ) (q p : Session) (m n a c k j : List ℕ) → Takes l out room s b q m a k → Takes l out room s b p n c j →
+    (q ≡ p) × (m ≡ n) × (a ≡ c) × (k ≡ j)
+takes-only l out room s b = takes-if-only (eqb b 10) l out room s b
+
+pub feeds-only :
+    {l out room bs : List ℕ} {s q p : Session} {m n a c k j : List ℕ} → Feeds l out room s bs q m a k → Feeds l out room s bs p n c j →
+    (q ≡ p) × (m ≡ n) × (a ≡ c) × (k ≡ j)
+feeds-only none none = (refl, refl, refl, refl)
+feeds-only {l = l} {out = out} {room = room} {s = s} {p = p} {n = n} {c = c} {j = j} (next {k = k₁} {a = a₁} {n = n₁} {bs = bs} {r = r₁} b t f)
+    (next {k = k₂} {a = a₂} {n = n₂} {r = r₂} d u g) =
+    let z = takes-only l out room s b r₂ r₁ k₂ k₁ a₂ a₁ n₂ n₁ u t in
+    let g₁ = subst (λ (x : Session). Feeds k₂ a₂ n₂ x bs p n c j) (z .0) g in
+    let g₂ = subst (λ (x : List ℕ). Feeds x a₂ n₂ r₁ bs p n c j) (z .1) g₁ in
+    let g₃ = subst (λ (x : List ℕ). Feeds k₁ x n₂ r₁ bs p n c j) (z .2) g₂ in
+    feeds-only f (subst (λ (x : List ℕ). Feeds k₁ a₁ x r₁ bs p n c j) (z .3) g₃)
+
+ends-last-if-only :
+    (b : Bool) (l out room : List ℕ) (s : Session) (e f : ℕ) (m n a c k j : List ℕ) → EndsLastIf b l out room s e m a k →
+    EndsLastIf b l out room s f n c j → (e ≡ f) × (m ≡ n) × (a ≡ c) × (k ≡ j)
+ends-last-if-only true l out room s e f m n a c k j x y =
+    let z = ends-only l (finished (s .line) room) (keptIn (s .line) room) out (s .used) e f m n a c (x .0) (y .0) in
+    (z .0, z .1, z .2, one (x .1) (y .1))
+ends-last-if-only false l out room s e f m n a c k j x y = (one (x .0) (y .0), one (x .1) (y .1), one (x .2) (y .2), one (x .3) (y .3))
+
+pub ends-last-only :
+    (l out room : List ℕ) (s : Session) (e f : ℕ) (m n a c k j : List ℕ) → EndsLast l out room s e m a k → EndsLast l out room s f n c j →
+    (e ≡ f) × (m ≡ n) × (a ≡ c) × (k ≡ j)
+ends-last-only l out room s = ends-last-if-only (s .begun) l out room s

@@ -2,3 +2,6 @@
 pub mod Answers
 pub mod Ended
 pub mod Fed
+pub mod Closed
+pub mod Runs
+pub mod Transcript

@@ -1,21 +1,35 @@
 // The stepper: calls from standard input, one to a line, an answer to a line on standard output, and a closing line (paper:
-// Program and host). It reads and writes by blocks and keeps one image, one block, one buffer of answers, the reader of one
-// line and the room that it is lent, whatever the input's length and its lines' length.
-ghost use Prim.Native.Nat.{_≤_};
+// Program and host). It reads a block, writes what its lines are answered, and reads on. It keeps one image, one block, one
+// buffer of answers, the reader of one line and the room that it is lent, whatever the input's length and its lines' length.
+// What is written is made by functions on slices; the reads and writes themselves, of which no contract can speak, stand in
+// `read_once`, `put` and `tell` alone.
+ghost use Prim.Native.Nat.{_+_, _*_, _≤_};
 ghost use mathlib.Core.Path.{_≡_};
 ghost use lib.ListN.{length, take};
 ghost use Rattle.lines.specs.Reading.{keptIn};
 ghost use Rattle.controller.specs.Bytes.{appendOf};
 ghost use Rattle.controller.specs.Claims.{Claims};
 ghost use Rattle.stepper.specs.Answers.{Answers};
-ghost use Rattle.stepper.specs.Ended.{MakesRoom};
-ghost use Rattle.stepper.specs.Fed.{EndsLine, Takes, Feeds, EndsLast};
+ghost use Rattle.stepper.specs.Ended.{answerRoom};
+ghost use Rattle.stepper.specs.Fed.{emptied, EndsLine, Takes, Feeds, EndsLast};
+ghost use Rattle.stepper.specs.Closed.{Closes, EndsInput};
+ghost use Rattle.stepper.specs.Runs.{Reads, ReadsAll};
 use kinds::Reply;
+use libc::STDERR_FILENO;
 use libc::STDIN_FILENO;
 use libc::STDOUT_FILENO;
 use lines::Call;
 use lines::Line;
 use lines::Reader;
+
+// The room that a line of an answer asks for.
+const ANSWER: usize = 96;
+
+// The most bytes of one read: those of `io::buffer`.
+const BLOCK: usize = 4096;
+
+// Room for an answer to each byte of a block, for each may be a newline: so no answer waits while a block is fed.
+const ANSWERS: usize = ANSWER * BLOCK;
 
 // Between two bytes: the line so far, whether it has a byte, and how much of the buffer is answers not yet written.
 struct Session {
@@ -24,9 +38,11 @@ struct Session {
     used: usize,
 }
 
+// After a read: whether there may be more, and whether all was read and written that should have been.
 struct Turn {
-    more: bool,
     session: Session,
+    more: bool,
+    whole: bool,
 }
 
 fn append(image: &mut [u8], room: &[u8], n: usize) -> Reply
@@ -63,39 +79,22 @@ fn answer(image: &mut [u8], line: Line, room: &[u8]) -> Reply
     }
 }
 
-// Writes the answers that wait, if another might not fit behind them; answers how many bytes wait.
-fn space(out: &[u8], used: usize) -> usize
-    ensures { λ r. ⌜ MakesRoom (now (out .entry)) used r ⌝ }
-{
-    if out.len() < used {
-        return 0;
-    }
-    if 96 <= out.len() - used {
-        return used;
-    }
-    io::write_all(STDOUT_FILENO, &out[..used]);
-    0
-}
-
-// Writes the answers that wait.
-fn flush(out: &[u8], used: usize) {
-    if used <= out.len() {
-        io::write_all(STDOUT_FILENO, &out[..used]);
-    }
-}
-
-// A line has ended: its call is made, and its answer put behind those that wait.
+// A line has ended: its call is made, and its answer put behind those that wait; answers how many bytes wait.
 fn end_line(image: &mut [u8], out: &mut [u8], room: &mut [u8; 20], s: Session) -> usize
+    requires { ⌜ s .used + answerRoom ≤ length (now out) ⌝ }
     ensures { λ r. ⌜ EndsLine (now (image .entry)) (now (out .entry)) (now (room .entry)) s r (now (image .exit)) (now (out .exit)) × (now (room .exit) ≡ keptIn (s .line) (now (room .entry))) ⌝ }
 {
     let line = lines::finish(s.line, room);
     let reply = answer(image, line, &room[..]);
-    let at = space(out, s.used);
-    let n = lines::write_reply(&mut out[at..], reply);
+    let at = s.used;
+    let end = at + ANSWER;
+    let n = lines::write_reply(&mut out[at..end], reply);
     at + n
 }
 
+// One byte: a newline ends the line, any other belongs to it.
 fn take_byte(image: &mut [u8], out: &mut [u8], room: &mut [u8; 20], s: Session, b: u8) -> Session
+    requires { ⌜ s .used + answerRoom ≤ length (now out) ⌝ }
     ensures { λ r. ⌜ Takes (now (image .entry)) (now (out .entry)) (now (room .entry)) s b r (now (image .exit)) (now (out .exit)) (now (room .exit)) ⌝ }
 {
     if b == b'\n' {
@@ -117,6 +116,7 @@ fn take_byte(image: &mut [u8], out: &mut [u8], room: &mut [u8; 20], s: Session, 
 
 // The bytes of one read.
 fn feed(image: &mut [u8], out: &mut [u8], room: &mut [u8; 20], s: Session, block: &[u8]) -> Session
+    requires { ⌜ s .used + answerRoom * length (now block) ≤ length (now out) ⌝ }
     ensures { λ r. ⌜ Feeds (now (image .entry)) (now (out .entry)) (now (room .entry)) s (now (block .entry)) r (now (image .exit)) (now (out .exit)) (now (room .exit)) ⌝ }
 {
     let mut session = s;
@@ -128,33 +128,107 @@ fn feed(image: &mut [u8], out: &mut [u8], room: &mut [u8; 20], s: Session, block
     session
 }
 
-// Reads once, answers every line that ended, and says whether to go on: who types a line sees its answer.
-fn read_once(image: &mut [u8], out: &mut [u8], room: &mut [u8; 20], s: Session) -> Turn {
-    let mut block = io::large_buffer();
-    let got = libc::read(STDIN_FILENO, &mut block);
-    if got <= 0 {
-        return Turn {
-            more: false,
-            session: s,
-        };
+// The last line, if it has no newline; answers how many bytes wait.
+fn end_last(image: &mut [u8], out: &mut [u8], room: &mut [u8; 20], s: Session) -> usize
+    requires { ⌜ s .used + answerRoom ≤ length (now out) ⌝ }
+    ensures { λ r. ⌜ EndsLast (now (image .entry)) (now (out .entry)) (now (room .entry)) s r (now (image .exit)) (now (out .exit)) (now (room .exit)) ⌝ }
+{
+    if s.begun {
+        return end_line(image, out, room, s);
     }
-    let n = io::count(got, &block);
-    let fed = feed(image, out, room, s, &block[..n]);
-    flush(out, fed.used);
-    let line = fed.line;
-    let session = Session {
+    s.used
+}
+
+// The closing line, both heads as the image shows them, put behind the answers that wait; answers how many bytes wait.
+fn close(image: &[u8], out: &mut [u8], used: usize) -> usize
+    requires { ⌜ used + answerRoom ≤ length (now out) ⌝ }
+    ensures { λ r. ⌜ Closes (now (image .entry)) (now (out .entry)) used r (now (out .exit)) ⌝ }
+{
+    let heads = controller::both_heads(image);
+    let c = heads.committed;
+    let a = heads.applied;
+    let revision = c.revision;
+    let ordinal = c.ordinal;
+    let applied = a.revision;
+    let applied_ordinal = a.ordinal;
+    let end = used + ANSWER;
+    let n = lines::write_closing(
+        &mut out[used..end],
+        revision.get(),
+        ordinal.get(),
+        applied.get(),
+        applied_ordinal.get(),
+    );
+    used + n
+}
+
+// The input's end: the last line and the closing line; answers how many bytes wait.
+fn end_input(image: &mut [u8], out: &mut [u8], room: &mut [u8; 20], s: Session) -> usize
+    requires { ⌜ s .used + answerRoom * 2 ≤ length (now out) ⌝ }
+    ensures { λ r. ⌜ EndsInput (now (image .entry)) (now (out .entry)) (now (room .entry)) s r (now (image .exit)) (now (out .exit)) (now (room .exit)) ⌝ }
+{
+    let used = end_last(image, out, room, s);
+    close(image, out, used)
+}
+
+// The session with no answer that waits: all are written.
+fn written(s: Session) -> Session
+    ensures { λ r. ⌜ r ≡ emptied s ⌝ }
+{
+    let line = s.line;
+    Session {
         line,
-        begun: fed.begun,
+        begun: s.begun,
         used: 0,
-    };
+    }
+}
+
+// Says on standard error what failed: the language gives a program no other status than 0 to end with.
+fn tell(what: &[u8]) {
+    io::write_all(STDERR_FILENO, what);
+}
+
+// Writes the answers that wait, and answers whether all were taken.
+fn put(out: &[u8], used: usize) -> bool
+    requires { ⌜ used ≤ length (now out) ⌝ }
+{
+    if io::write_all(STDOUT_FILENO, &out[..used]) {
+        return true;
+    }
+    tell(b"stepper: standard output cannot be written\n");
+    false
+}
+
+// Whether what a read answered is no failure; else says so.
+fn readable(got: isize) -> bool {
+    if got < 0 {
+        tell(b"stepper: standard input cannot be read\n");
+        return false;
+    }
+    true
+}
+
+// Reads once and writes the answer to every line that ended: who types a line sees its answer.
+fn read_once(image: &mut [u8], out: &mut [u8; ANSWERS], room: &mut [u8; 20], s: Session) -> Turn
+    ensures { λ r. ⌜ Reads (now (image .entry)) (now (room .entry)) s r (now (image .exit)) (now (room .exit)) ⌝ }
+{
+    let mut block = io::buffer();
+    let got = libc::read(STDIN_FILENO, &mut block);
+    let n = io::count(got, &block);
+    let session = feed(image, out, room, written(s), &block[..n]);
+    let sent = put(out, session.used);
+    let read = readable(got);
     Turn {
-        more: true,
         session,
+        more: (n > 0) & sent,
+        whole: read & sent,
     }
 }
 
 // Nothing says that the input ends, so the reads are counted down, from a number that no run uses up.
-fn read_all(image: &mut [u8], out: &mut [u8], room: &mut [u8; 20]) -> Session {
+fn read_all(image: &mut [u8], out: &mut [u8; ANSWERS], room: &mut [u8; 20]) -> Turn
+    ensures { λ r. ⌜ ReadsAll (now (image .entry)) (now (room .entry)) (r .session) (now (image .exit)) (now (room .exit)) ⌝ }
+{
     let line = lines::fresh();
     let mut session = Session {
         line,
@@ -166,51 +240,31 @@ fn read_all(image: &mut [u8], out: &mut [u8], room: &mut [u8; 20]) -> Session {
         let turn = read_once(image, out, room, session);
         session = turn.session;
         if !turn.more {
-            return session;
+            return turn;
         }
         reads -= 1;
     }
-    session
-}
-
-// The last line, if it has no newline; answers how many bytes wait.
-fn end_last(image: &mut [u8], out: &mut [u8], room: &mut [u8; 20], s: Session) -> usize
-    ensures { λ r. ⌜ EndsLast (now (image .entry)) (now (out .entry)) (now (room .entry)) s r (now (image .exit)) (now (out .exit)) (now (room .exit)) ⌝ }
-{
-    if s.begun {
-        return end_line(image, out, room, s);
+    Turn {
+        session,
+        more: true,
+        whole: false,
     }
-    s.used
 }
 
-// All that waits is written, and then the closing line.
-fn close(image: &[u8], out: &mut [u8], used: usize) {
-    let heads = controller::both_heads(image);
-    let c = heads.committed;
-    let a = heads.applied;
-    let revision = c.revision;
-    let ordinal = c.ordinal;
-    let applied = a.revision;
-    let applied_ordinal = a.ordinal;
-    if used <= out.len() {
-        io::write_all(STDOUT_FILENO, &out[..used]);
-    }
-    let n = lines::write_closing(
-        out,
-        revision.get(),
-        ordinal.get(),
-        applied.get(),
-        applied_ordinal.get(),
-    );
-    io::write_all(STDOUT_FILENO, &out[..n]);
+// Writes what the input's end is answered: the last line, if it has no newline, and the closing line.
+fn write_end(image: &mut [u8], out: &mut [u8; ANSWERS], room: &mut [u8; 20], s: Session) {
+    let used = end_input(image, out, room, written(s));
+    put(out, used);
 }
 
+// After a failure no closing line is written: what was written is then known not to be the whole.
 fn main() {
     let mut image = [0u8; controller::IMAGE_LENGTH];
     controller::fresh(&mut image);
-    let mut out = [0u8; 65536];
+    let mut out = [0u8; ANSWERS];
     let mut room = [0u8; 20];
-    let last = read_all(&mut image, &mut out, &mut room);
-    let used = end_last(&mut image, &mut out, &mut room, last);
-    close(&image, &mut out, used);
+    let turn = read_all(&mut image, &mut out, &mut room);
+    if turn.whole {
+        write_end(&mut image, &mut out, &mut room, turn.session);
+    }
 }

@@ -1,6 +1,5 @@
--- `close` meets its contract. Assumes nothing.
-use mathlib.Core.Path.{sym}
-use lib.Seq.{length-take-le}
+-- `close`: both heads' line is put behind the answers that wait. Assumes nothing.
+use Rattle.stepper.proofs.Waiting.{closed}
 use borrow.Author.Needs.{needs}
 use Rattle.stepper.proofs.close.Statement.{statement}
 use Rattle.stepper.proofs.close.Tie as tie
@@ -8,14 +7,17 @@ use Rattle.stepper.proofs.close.Tie as tie
 both-heads-requires : tie.Need-both-heads-requires
 both-heads-requires c κs = search needs
 
-slice-reshare-prefix-write-all : tie.Need-slice-reshare-prefix-write-all
-slice-reshare-prefix-write-all c = search needs
+add-end : tie.Need-add-end
+add-end c = search needs
 
-slice-aggregate-write-all : tie.Need-slice-aggregate-write-all
-slice-aggregate-write-all c = sym (length-take-le _ _ (search needs))
+sub-write-closing : tie.Need-sub-write-closing
+sub-write-closing c = search needs
 
-write-all-requires : tie.Need-write-all-requires
-write-all-requires c κs = search needs
+part-write-closing-start : tie.Need-part-write-closing-start
+part-write-closing-start c = search needs
+
+part-write-closing-end : tie.Need-part-write-closing-end
+part-write-closing-end c = search needs
 
 get-requires : tie.Need-get-requires
 get-requires c κs = search needs
@@ -32,36 +34,34 @@ get-requires-4 c κs = search needs
 write-closing-requires : tie.Need-write-closing-requires
 write-closing-requires c κs = search needs
 
-slice-reshare-prefix-write-all-2 : tie.Need-slice-reshare-prefix-write-all-2
-slice-reshare-prefix-write-all-2 c = search needs
-
-slice-aggregate-write-all-2 : tie.Need-slice-aggregate-write-all-2
-slice-aggregate-write-all-2 c = sym (length-take-le _ _ (search needs))
-
-write-all-requires-2 : tie.Need-write-all-requires-2
-write-all-requires-2 c κs = search needs
+add-result : tie.Need-add-result
+add-result c = search needs
 
 same-length : tie.Need-same-length
 same-length c = search needs
 
 returns : tie.Need-returns
-returns c = search needs
+returns c = closed _
+    (c .before .before .before .before .before .before .before .before .before .before .before .before .before .before .both-heads .result) _ _ _ _ _ _ _ _
+    (c .before .before .before .before .before .before .before .before .before .before .before .before .before .before .both-heads .ensures)
+    (c .before .before .before .before .before .before .get .ensures) (c .before .before .before .before .before .get2 .ensures)
+    (c .before .before .before .before .get3 .ensures) (c .before .before .before .get4 .ensures) (search needs)
+    (c .before .before .write-closing .ensures)
 
 pub close-spec : {M : Type 1} → statement M
 close-spec =
     tie.close
     (tie.spec
     both-heads-requires
-    slice-reshare-prefix-write-all
-    slice-aggregate-write-all
-    write-all-requires
+    add-end
+    sub-write-closing
+    part-write-closing-start
+    part-write-closing-end
     get-requires
     get-requires-2
     get-requires-3
     get-requires-4
     write-closing-requires
-    slice-reshare-prefix-write-all-2
-    slice-aggregate-write-all-2
-    write-all-requires-2
+    add-result
     same-length
     returns)

@@ -15,8 +15,8 @@ same-length-2 c = search needs
 
 returns : tie.Need-returns
 returns c = last-line _ _ _ (c .before .before .before .before .before .before .before .before .before .before .before .args .s) _ _ _ _
-    (c .before .before .before .before .before .before .before .before .if1 .taken) (c .before .before .before .before .end-line .ensures .0)
-    (c .before .before .before .before .end-line .ensures .1)
+    (c .before .before .before .before .before .before .before .before .if1 .taken)
+    (c .before .before .before .before .end-line .ensures .0) (c .before .before .before .before .end-line .ensures .1)
 
 returns-2 : tie.Need-returns-2
 returns-2 c = no-line _ _ _ (c .before .before .before .args .s) (c .if1 .left)

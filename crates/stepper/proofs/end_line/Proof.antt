@@ -1,9 +1,9 @@
--- `end_line` meets its contract. Assumes nothing.
-use Rattle.lines.proofs.Readable.{within}
-use Rattle.stepper.proofs.Waiting.{ended}
-use denote.Ref.{now}
-use native.Mathlib.Omega.{arith}
+-- `end_line`: the reply's line is put behind the answers that wait. Assumes nothing.
 use Prim.Native.Nat.{_≤_}
+use native.Mathlib.Omega.{arith}
+use denote.Ref.{now}
+use Rattle.stepper.proofs.Waiting.{ended}
+use Rattle.lines.proofs.Readable.{within}
 use borrow.Author.Needs.{needs}
 use Rattle.stepper.proofs.end_line.Statement.{statement}
 use Rattle.stepper.proofs.end_line.Tie as tie
@@ -13,11 +13,11 @@ finish-requires c κs = search needs
 
 answer-requires : tie.Need-answer-requires
 answer-requires c κs = let h : c .before .before .before .finish .result .length ≤ 20 = rw (c .before .before .before .finish .ensures .0)
-    (within (c .before .before .before .before .before .before .before .args .s .line)
-    (now (c .before .before .before .before .before .before .before .args .room))) in omega (arith, c .answer-arg3 .given .0)
+    (within (c .before .before .before .before .before .before .before .args .s .line) (now
+    (c .before .before .before .before .before .before .before .args .room))) in omega (arith, c .answer-arg3 .given .0)
 
-space-requires : tie.Need-space-requires
-space-requires c κs = search needs
+add-end : tie.Need-add-end
+add-end c = search needs
 
 sub-write-reply : tie.Need-sub-write-reply
 sub-write-reply c = search needs
@@ -42,12 +42,12 @@ same-length-2 c = search needs
 
 returns : tie.Need-returns
 returns c = (
-  ended _ _ (c .before .before .before .before .before .before .before .before .before .before .before .before .finish .result) _ _ _ _ _ _ _ _ _
-      (c .before .before .before .before .before .before .before .before .before .before .before .before .finish .ensures .0)
-      (c .before .before .before .before .before .before .before .before .before .before .before .before .finish .ensures .1)
-      (c .before .before .before .before .before .before .before .before .answer .ensures) (c .before .before .before .before .space .ensures)
+  ended _ _ (c .before .before .before .before .before .before .before .before .before .before .finish .result) _ _ _ _ _ _ _ _
+      (c .before .before .before .before .before .before .before .before .before .before .finish .ensures .0)
+      (c .before .before .before .before .before .before .before .before .before .before .finish .ensures .1)
+      (c .before .before .before .before .before .before .answer .ensures) (search needs)
       (c .before .before .write-reply .ensures),
-  c .before .before .before .before .before .before .before .before .before .before .before .before .finish .ensures .1,
+  c .before .before .before .before .before .before .before .before .before .before .finish .ensures .1,
 )
 
 pub end-line-spec : {M : Type 1} → statement M
@@ -56,7 +56,7 @@ end-line-spec =
     (tie.spec
     finish-requires
     answer-requires
-    space-requires
+    add-end
     sub-write-reply
     part-write-reply-start
     part-write-reply-end

@@ -1,23 +1,24 @@
 -- `feed` takes the bytes of a block one by one; what is lent keeps its length. Assumes nothing.
 use borrow.Author.Needs.{needs}
-use Rattle.stepper.proofs.Fed.{fed-more, fed-all}
+use Rattle.stepper.proofs.Fed.{fed-more, fed-all, takes-room}
 use Rattle.stepper.specs.Fed.{Feeds, none}
-use lib.ListN.{length, take}
+use lib.ListN.{length, take, getD}
+use denote.Ref.{now}
 use native.Mathlib.Omega.{arith}
 use mathlib.Core.Path.{_≡_, refl}
-use Prim.Native.Nat.{_-_, _≤_}
+use Prim.Native.Nat.{_+_, _-_, _*_, _≤_}
 use Rattle.stepper.proofs.feed.Statement.{statement}
 use Rattle.stepper.proofs.feed.Tie as tie
 
 abbrev Inv-loop : tie.InvT-loop
 Inv-loop image₀ out₀ room₀ block session₀ i₀ image out room session i = (i ≤ length block) × Feeds image₀ out₀ room₀ session₀
-    (take i block) session image out room × (length image ≡ length image₀) × (length out ≡ length out₀)
+    (take i block) session image out room × (length image ≡ length image₀) × (length out ≡ length out₀) × (session .used ≤ session₀ .used + 96 * i)
 
 abbrev μ-loop : tie.MeasureT-loop
 μ-loop image₀ out₀ room₀ block session₀ i₀ image out room session i = length block - i
 
 loop-holds : tie.Need-loop-holds Inv-loop μ-loop
-loop-holds c = (omega arith, none, refl, refl)
+loop-holds c = (omega arith, none, refl, refl, omega arith)
 
 shared-slice-read-take-byte : tie.Need-shared-slice-read-take-byte Inv-loop μ-loop
 shared-slice-read-take-byte c = search needs
@@ -40,6 +41,13 @@ loop-again c = (
       (c .before .before .before .before .before .before .before .before .before .before .loop .inv .1) (c .before .before .before .before .take-byte .ensures),
   search needs,
   search needs,
+  let h : c .before .before .before .before .take-byte .result .used
+      ≤ c .before .before .before .before .before .before .before .before .before .before .loop .session .used + 96 = takes-room _ _ _
+      (c .before .before .before .before .before .before .before .before .before .before .loop .session)
+      (getD (now (c .before .before .before .before .before .before .before .before .before .before .before .before .before .before .args .block))
+      (c .before .before .before .before .before .before .before .before .before .before .loop .i) 0) _ _ _ _
+      (c .before .before .before .before .take-byte .ensures) in
+      omega (arith, h, c .before .before .before .before .before .before .before .before .before .before .loop .inv .4),
 )
 
 same-length : tie.Need-same-length Inv-loop μ-loop

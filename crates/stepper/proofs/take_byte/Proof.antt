@@ -17,9 +17,11 @@ same-length-2 : tie.Need-same-length-2
 same-length-2 c = search needs
 
 returns : tie.Need-returns
-returns c = newline _ _ _ (c .before .before .before .before .before .before .before .before .before .before .before .before .args .s) _ _ _ _ _ _
-    (c .before .before .before .before .before .before .before .before .before .if1 .taken) (c .before .before .before .before .before .end-line .ensures .0)
-    (c .before .before .before .before .before .end-line .ensures .1) (c .fresh .ensures)
+returns c = newline _ _ _
+    (c .before .before .before .before .before .before .before .before .before .before .before .before .args .s) _ _ _ _ _ _
+    (c .before .before .before .before .before .before .before .before .before .if1 .taken)
+    (c .before .before .before .before .before .end-line .ensures .0) (c .before .before .before .before .before .end-line .ensures .1)
+    (c .fresh .ensures)
 
 push-requires : tie.Need-push-requires
 push-requires c κs = search needs

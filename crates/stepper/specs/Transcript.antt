@@ -1,0 +1,57 @@
+-- What the program writes for an input (paper: Program and host): the lines of its bytes are answered in order, each with what
+-- the controller decides for the call that it says, and then the closing line stands. Assumes nothing.
+use Prim.Native.Nat.{ℕ}
+use mathlib.Core.Path.{_≡_}
+use mathlib.Core.Bool.{cond}
+use mathlib.Core.List.{List, [], _∷_, _++_}
+use lib.Dec.{eqb}
+use Rattle.kinds.specs.declared.Reply.{Reply}
+use Rattle.kinds.specs.Events.{refusal}
+use Rattle.machine.specs.Calls.{Call}
+use Rattle.lines.specs.Forms.{Asked, calls}
+use Rattle.lines.specs.Grammar.{Says}
+use Rattle.lines.specs.Replies.{replyLine}
+use Rattle.controller.specs.Claims.{Claims}
+use Rattle.stepper.specs.Closed.{closing}
+
+-- ---- the lines of some bytes
+-- behind the bytes t of a line: the lines that end in a newline
+unfoldable pub linesFrom : List ℕ → List ℕ → List (List ℕ)
+linesFrom t [] = []
+linesFrom t (b ∷ bs) = cond (eqb b 10) (t ∷ linesFrom [] bs) (linesFrom (t ++ (b ∷ [])) bs)
+
+-- and the bytes behind the last newline
+unfoldable pub restFrom : List ℕ → List ℕ → List ℕ
+restFrom t [] = t
+restFrom t (b ∷ bs) = restFrom (cond (eqb b 10) [] (t ++ (b ∷ []))) bs
+
+-- they are a line too, if there are any
+abbrev pub lastLine : List ℕ → List (List ℕ)
+lastLine [] = []
+lastLine (b ∷ t) = (b ∷ t) ∷ []
+
+abbrev pub linesOf : List ℕ → List (List ℕ)
+linesOf bs = linesFrom [] bs ++ lastLine (restFrom [] bs)
+
+-- ---- their answers
+-- the line t on the image l: a line that says a call is replied what is decided for it; one that says none, 2, and every byte
+-- is what it had been
+pub record Answered (l t : List ℕ) (r : Reply) (m : List ℕ) : Type 0 where
+  pub asks : (c : Call) → Says t (calls c) → Claims l c r m
+  pub refuses : ((x : Asked) → Says t x → ⊥) → (r ≡ refusal 2) × (m ≡ l)
+
+-- the lines on the image l were replied one after another, and m is left
+pub data Told : List ℕ → List (List ℕ) → List Reply → List ℕ → Type 0 where
+  none : {l : List ℕ} → Told l [] [] l
+  next :
+      {l k m : List ℕ} {ts : List (List ℕ)} {rs : List Reply} (t : List ℕ) (r : Reply) → Answered l t r k → Told k ts rs m → Told l (t ∷ ts) (r ∷ rs) m
+
+unfoldable pub replyLines : List Reply → List ℕ
+replyLines [] = []
+replyLines (r ∷ rs) = replyLine r ++ replyLines rs
+
+-- ---- all that is written for the bytes of an input
+pub record Transcript (l bytes text m : List ℕ) : Type 0 where
+  pub replies : List Reply
+  pub told : Told l (linesOf bytes) replies m
+  pub writes : text ≡ replyLines replies ++ closing m
