@@ -10,14 +10,14 @@ use Rattle.kinds.specs.declared.Reply.{Reply}
 use Rattle.fields.proofs.Laws.{Bytes}
 use Rattle.machine.specs.State.{State}
 use Rattle.machine.specs.Calls.{Call}
-use Rattle.machine.specs.Step.{run}
+use Rattle.machine.specs.Step.{run, stateFrom}
 use Rattle.image.specs.Layout.{configurationAt, imageLength}
 use Rattle.image.specs.View.{view}
 use Rattle.image.specs.Formed.{formed}
 use Rattle.image.specs.Fresh.{zeros, freshImage}
 use Rattle.image.proofs.Freshened.{shows-fresh, formed-fresh}
 use Rattle.controller.specs.Fresh.{imageIf, Freshens}
-use Rattle.link.specs.Runs.{Calling, stateFrom, repliesFrom}
+use Rattle.link.specs.Runs.{Calling, repliesFrom}
 use Rattle.staying.proofs.Lent.{bytes-put}
 use Rattle.link.proofs.Link.{Shows, shows-run, state-run, events-run, eventOf}
 

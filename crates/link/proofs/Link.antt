@@ -10,11 +10,11 @@ use Rattle.kinds.specs.Events.{refusal}
 use Rattle.fields.proofs.Laws.{Bytes}
 use Rattle.machine.specs.State.{State, fresh}
 use Rattle.machine.specs.Calls.{Call, Outcome, decide}
-use Rattle.machine.specs.Step.{outcome, step, run}
+use Rattle.machine.specs.Step.{outcome, step, run, stateFrom}
 use Rattle.image.specs.View.{view, written}
 use Rattle.image.specs.Formed.{formed}
 use Rattle.controller.specs.Claims.{outcomeOf, Claims}
-use Rattle.link.specs.Runs.{Calling, none, next, stateFrom, repliesFrom}
+use Rattle.link.specs.Runs.{Calling, none, next, repliesFrom}
 use Rattle.staying.proofs.Lent.{bytes-written}
 use Rattle.staying.proofs.Stays as stays
 use Rattle.staying.proofs.Stays.{steps}

@@ -5,7 +5,7 @@ use mathlib.Core.List.{List, [], _∷_}
 use Rattle.kinds.specs.declared.Reply.{Reply}
 use Rattle.machine.specs.State.{State}
 use Rattle.machine.specs.Calls.{Call}
-use Rattle.machine.specs.Step.{step}
+use Rattle.machine.specs.Step.{step, stateFrom}
 use Rattle.controller.specs.Claims.{Claims}
 
 -- the calls cs on the image l were replied with rs, and left m
@@ -14,11 +14,7 @@ pub data Calling (l : List ℕ) : List Call → List Reply → List ℕ → Type
   next : {cs : List Call} {rs : List Reply} {k : List ℕ} → Calling l cs rs k → (c : Call) (r : Reply) (m : List ℕ) → Claims k c r m
       → Calling l (c ∷ cs) (r ∷ rs) m
 
--- the machine's state after the calls, and its replies
-unfoldable pub stateFrom : State → List Call → State
-stateFrom s [] = s
-stateFrom s (c ∷ cs) = step (stateFrom s cs) c .next
-
+-- the machine's replies to them
 unfoldable pub repliesFrom : State → List Call → List Reply
 repliesFrom s [] = []
 repliesFrom s (c ∷ cs) = step (stateFrom s cs) c .reply ∷ repliesFrom s cs

@@ -10,3 +10,4 @@ pub mod Unreached
 pub mod FoldWitnesses
 pub mod Traps
 pub mod Reconnected
+pub mod Retried

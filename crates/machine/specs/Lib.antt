@@ -10,6 +10,7 @@ pub mod LiveList
 pub mod Reads
 pub mod Calls
 pub mod Step
+pub mod Retry
 pub mod Built
 pub mod Sessions
 pub mod Witnesses

@@ -25,3 +25,8 @@ pub record Past : Type 0 where
 unfoldable pub run : List Call → Past
 run [] = record { state = fresh; events = [] }
 run (c ∷ cs) = let o = step (run cs .state) c in record { state = o .next; events = o .reply .event ∷ run cs .events }
+
+-- the state after calls made from any state, the newest first
+unfoldable pub stateFrom : State → List Call → State
+stateFrom s [] = s
+stateFrom s (c ∷ cs) = step (stateFrom s cs) c .next
