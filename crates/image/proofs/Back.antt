@@ -1,6 +1,6 @@
 -- Storing what was loaded changes nothing: each record of an image whose codes are codes, written back as it was read,
 -- leaves every byte. Assumes nothing.
-use Prim.Native.Nat.{ℕ, zero, suc, _+_, _≤_}
+use Prim.Native.Nat.{ℕ, zero, suc, _+_, _≤_, _<_}
 use mathlib.Core.Path.{_≡_, refl}
 use mathlib.Core.Bool.{true, _&&_}
 use mathlib.Core.List.{List}
@@ -13,8 +13,8 @@ use Rattle.fields.specs.Field.{field, putField, fieldsAt, putFields}
 use Rattle.fields.proofs.Laws.{Bytes, put-back}
 use Rattle.fields.proofs.Runs.{puts-back}
 use Rattle.machine.specs.Stores.{Table}
-use Rattle.image.specs.Layout.{entryWidths, headWidths, tableWidths, configurationWidths, mastershipWidths, targetWidths, connectionsWidths, placeOf, changeAt, valuesAt, configurationAt, mastershipAt, targetAt, connectionsAt, connectedAt, runningIn}
-use Rattle.image.specs.Records.{flagCode, flagOf, entryAt, putEntryAt, changeOf, headAt, putHeadAt, configurationOf, putConfiguration, mastershipOf, putMastership, targetOf, putTarget, connectionsOf, putConnections}
+use Rattle.image.specs.Layout.{entryWidths, headWidths, tableWidths, configurationWidths, mastershipWidths, targetWidths, nodeWidths, connectionsWidths, placeOf, changeAt, valuesAt, configurationAt, mastershipAt, targetAt, connectionsAt, nodeAt, connectedAt, runningIn}
+use Rattle.image.specs.Records.{flagCode, flagOf, entryAt, putEntryAt, changeOf, headAt, putHeadAt, configurationOf, putConfiguration, mastershipOf, putMastership, targetOf, putTarget, toNode, putNodeAt, connectionsOf, putConnections}
 use Rattle.image.specs.View.{tableOf}
 use Rattle.image.specs.Formed.{flagOk, statusesOk, flagsOk}
 use Rattle.image.proofs.UpTo.{and-left, and-right}
@@ -115,12 +115,19 @@ module _ (l : List ℕ) (y : Bytes l) where
         let h3 = and-right (flagOk l b) _ h2 in
         (leb-true _ _ (and-left _ _ h), (leb-true _ _ (and-left _ _ h2), (leb-true _ _ (and-left _ _ h3), leb-true _ _ (and-right (flagOk l d) _ h3))))
 
+    first-four : (field l (connectedAt 0) 1 ≤ 1) × ((field l (connectedAt 1) 1 ≤ 1) × ((field l (connectedAt 2) 1 ≤ 1) × (field l (connectedAt 3) 1 ≤ 1)))
+    first-four = four-flags (connectedAt 0) (connectedAt 1) (connectedAt 2) (connectedAt 3) (and-left _ _ nodes)
+
+    last-four : (field l (connectedAt 4) 1 ≤ 1) × ((field l (connectedAt 5) 1 ≤ 1) × ((field l (connectedAt 6) 1 ≤ 1) × (field l (connectedAt 7) 1 ≤ 1)))
+    last-four =
+        four-flags (connectedAt 4) (connectedAt 5) (connectedAt 6) (connectedAt 7)
+        (and-right (flagOk l (connectedAt 0) && (flagOk l (connectedAt 1) && (flagOk l (connectedAt 2) && flagOk l (connectedAt 3)))) _ nodes)
+
     pub connections-stored-back : putConnections l (connectionsOf l) ≡ l
     unfolding putConnections connectionsOf fieldsAt
     connections-stored-back =
-        let p = four-flags (connectedAt 0) (connectedAt 1) (connectedAt 2) (connectedAt 3) (and-left _ _ nodes) in
-        let q = four-flags (connectedAt 4) (connectedAt 5) (connectedAt 6) (connectedAt 7)
-        (and-right (flagOk l (connectedAt 0) && (flagOk l (connectedAt 1) && (flagOk l (connectedAt 2) && flagOk l (connectedAt 3)))) _ nodes) in
+        let p = first-four in
+        let q = last-four in
         rw (
           flag-back (field l (connectedAt 0) 1) (p .0),
           flag-back (field l (connectedAt 1) 1) (p .1 .0),
@@ -132,3 +139,19 @@ module _ (l : List ℕ) (y : Bytes l) where
           flag-back (field l (connectedAt 7) 1) (q .1 .1 .1),
         )
         (puts-back connectionsWidths l connectionsAt y)
+
+    -- each node's flag is a flag, k from 0
+    node-flag : (k : ℕ) → k < 8 → field l (connectedAt k) 1 ≤ 1
+    node-flag zero h = first-four .0
+    node-flag (suc zero) h = first-four .1 .0
+    node-flag (suc (suc zero)) h = first-four .1 .1 .0
+    node-flag (suc (suc (suc zero))) h = first-four .1 .1 .1
+    node-flag (suc (suc (suc (suc zero)))) h = last-four .0
+    node-flag (suc (suc (suc (suc (suc zero))))) h = last-four .1 .0
+    node-flag (suc (suc (suc (suc (suc (suc zero)))))) h = last-four .1 .1 .0
+    node-flag (suc (suc (suc (suc (suc (suc (suc zero))))))) h = last-four .1 .1 .1
+    node-flag (suc (suc (suc (suc (suc (suc (suc (suc k)))))))) h = absurd (omega arith)
+
+    pub node-stored-back : (k : ℕ) → k < 8 → putNodeAt l (nodeAt k) (toNode l (nodeAt k)) ≡ l
+    unfolding putNodeAt fieldsAt
+    node-stored-back k h = rw (flag-back (field l (connectedAt k) 1) (node-flag k h)) (puts-back (nodeWidths 1) l (nodeAt k) y)

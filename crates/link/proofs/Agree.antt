@@ -46,10 +46,10 @@ set-made (x ∷ l) (y ∷ m) zero v z = refl
 set-made (x ∷ l) (y ∷ m) (suc at) v z = set-made l m at v (omega arith)
 
 -- it is one of those written, or it was the same
-abbrev Both : List ℕ → List ℕ → ℕ → ℕ → ℕ → Type 0
+abbrev pub Both : List ℕ → List ℕ → ℕ → ℕ → ℕ → Type 0
 Both l m at w j = ((at ≤ j) × (j < at + w)) ⊎ (getD m j 0 ≡ getD l j 0)
 
-put-both : (w : ℕ) (l m : List ℕ) (at x j : ℕ) → length m ≡ length l → Both l m at w j → getD (putField m at w x) j 0 ≡ getD (putField l at w x) j 0
+pub put-both : (w : ℕ) (l m : List ℕ) (at x j : ℕ) → length m ≡ length l → Both l m at w j → getD (putField m at w x) j 0 ≡ getD (putField l at w x) j 0
 unfolding putField
 put-both zero l m at x j z h = ⊎-elim (λ p. absurd (omega (arith, p .0, p .1))) (λ q. q) h
 put-both (suc w) l m at x j z h =
@@ -63,10 +63,10 @@ put-both (suc w) l m at x j z h =
     go p false e = inl (omega (arith, p .0, eqb-false j at e), omega (arith, p .1))
 
 -- a whole run, or what was the same
-abbrev Boths : List ℕ → List ℕ → List ℕ → List ℕ → ℕ → ℕ → Type 0
+abbrev pub Boths : List ℕ → List ℕ → List ℕ → List ℕ → ℕ → ℕ → Type 0
 Boths ws xs l m at j = ((length ws ≡ length xs) × ((at ≤ j) × (j < at + total ws))) ⊎ (getD m j 0 ≡ getD l j 0)
 
-puts-both : (ws xs l m : List ℕ) (at j : ℕ) → length m ≡ length l → Boths ws xs l m at j → getD (putFields m at ws xs) j 0 ≡ getD (putFields l at ws xs) j 0
+pub puts-both : (ws xs l m : List ℕ) (at j : ℕ) → length m ≡ length l → Boths ws xs l m at j → getD (putFields m at ws xs) j 0 ≡ getD (putFields l at ws xs) j 0
 unfolding putFields
 puts-both [] xs l m at j z h = ⊎-elim (λ p. absurd (omega (arith, p .1 .0, p .1 .1))) (λ q. q) h
 puts-both (w ∷ ws) [] l m at j z h = ⊎-elim (λ p. absurd (omega (arith, p .0))) (λ q. q) h

@@ -3,4 +3,6 @@ pub mod Refused
 pub mod Link
 pub mod Unused
 pub mod Agree
+pub mod Same
+pub mod Plain
 pub mod Fresh

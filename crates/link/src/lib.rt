@@ -3,10 +3,12 @@
 //          not-formed       an image that is not well-formed is refused with 1, and stays
 //          refused-same     a refused call leaves every byte
 //          stays-bytes, stays-formed    bytes stay bytes, and a well-formed image stays well-formed
-//          only             no second outcome
 //          shows-run        any calls: the machine's state, and its replies
 // Fresh    shows-run-fresh  from the fresh image: the machine's run
 // Unused   same-outcome     slots of no number kept are not read
 //          keeps-unused, append-unused    nor changed, but append's new entry
+// Plain    plain-run        calls that neither append nor fold leave the log's ends, and the slots of no number kept
+// Same     image-same       images that show the same state and agree in those slots are the same bytes
+//          beside-same      the same but for the connections, where only those differ
 // Agree    agree-run        images that agree on what is used give the same replies to any calls, and go on to agree
 // Refused has a lemma of theirs; the others are in the crate `staying`.
