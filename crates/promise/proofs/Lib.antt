@@ -1,2 +1,3 @@
 -- Why the promise holds. Assumes nothing.
 pub mod Promise
+pub mod Retried

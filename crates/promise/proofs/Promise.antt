@@ -75,7 +75,7 @@ module _ (l k : List ℕ) (u : Reply) (z : length l ≡ imageLength) (f : Freshe
 
 -- ---- as C sees it
 -- a packed answer reads back as the controller's reply
-in-c : (l : List ℕ) (k : Call) (x : ℕ) (m : List ℕ) → north.Claims l k x m → Claims l k (unpacked x) m
+pub in-c : (l : List ℕ) (k : Call) (x : ℕ) (m : List ℕ) → north.Claims l k x m → Claims l k (unpacked x) m
 in-c l k x m p = (p .0 .1, p .1)
 
 pub demand-1-c : (l : List ℕ) (k : Call) (x : ℕ) (m : List ℕ) → north.Claims l k x m → Bytes l → Demand1 l (unpacked x) m
