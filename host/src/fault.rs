@@ -33,6 +33,8 @@ pub enum Fault {
     StaleTerm,
     /// A push lays the values on the target alone.
     AppliedForgotten,
+    /// Of what a cut has left to the job's next call.
+    Retried(Again),
     /// A master that has reconnected is refused.
     ReconnectedRefused,
     /// A master that has reconnected is freed, and conn is set to 0.
@@ -91,6 +93,7 @@ impl Fault {
         all.extend(two_stores().map(Fault::AlwaysCut));
         all.extend(two_stores().map(Fault::Silent));
         all.extend([Fault::AbortedOnceBegun, Fault::RestInFlight, Fault::StaleTerm, Fault::AppliedForgotten]);
+        all.extend(Again::ALL.map(Fault::Retried));
         all.extend([Fault::ReconnectedRefused, Fault::ReconnectedForgetsConn, Fault::ReconnectedForgetsTerm]);
         all.extend([Fault::FreedAtConn, Fault::AppliedReadFromTarget, Fault::OrdinalReadFromRollback]);
         all.extend(Hindrance::ALL.map(Fault::FoldDespite));
@@ -155,6 +158,7 @@ impl Fault {
                 state.applied.values = before.applied.values;
                 served
             }
+            Fault::Retried(again) => again.acted(&before, state, request, served),
             Fault::ReconnectedRefused if request.is_of_reconnected(&before) => {
                 *state = before;
                 Served { reply: Err(Refusal::NoRule), rule: None }
@@ -281,6 +285,63 @@ impl Fault {
             }
             _ => query,
         }
+    }
+}
+
+/// Faults of order 3: what the store that a cut has left does wrong when the job is called again.
+#[derive(Clone, Copy, PartialEq, Eq, Debug)]
+pub enum Again {
+    /// A commit's finish counts the ordinal again.
+    CountsOrdinal,
+    /// An apply's close leaves the target where it was.
+    LeavesTarget,
+    /// The event is given again.
+    Tells,
+    /// A rejected outcome refuses it.
+    AsksOutcome,
+    /// A cut leaves it out again.
+    IsCut,
+}
+
+impl Again {
+    const ALL: [Again; 5] = [Again::CountsOrdinal, Again::LeavesTarget, Again::Tells, Again::AsksOutcome, Again::IsCut];
+
+    /// What a call comes to with this fault, from the state before it and the one that it left.
+    fn acted(self, before: &State, state: &mut State, request: &Request, served: Served) -> Served {
+        let Request::Work { job, number, outcome, cut, .. } = *request else {
+            return served;
+        };
+        let Some(rule) = served.rule.filter(|rule| rule.stores() == 1) else {
+            return served;
+        };
+        let number = state.given(number).expect("a job's number is given");
+        let place = state.place(number).expect("a job's number is kept");
+        let transaction = &mut state.log[place];
+        let (phase, progress) = match job {
+            1 | 2 => (Phase::Change, &mut transaction.c),
+            _ => (Phase::Rollback, &mut transaction.r),
+        };
+        match self {
+            Again::CountsOrdinal if matches!(rule, Rule::CommitChangeFinish | Rule::CommitRollbackFinish) => {
+                state.committed.ordinal.0 += 1;
+                progress.ordinal = state.committed.ordinal;
+            }
+            Again::LeavesTarget if matches!(rule, Rule::ApplyChangeClose | Rule::ApplyRollbackClose) => {
+                state.applied.target = before.applied.target;
+            }
+            Again::Tells => {
+                let (stage, status) =
+                    if job % 2 == 1 { (Stage::Commit, progress.commit) } else { (Stage::Apply, progress.apply) };
+                return Served { reply: Ok(Answer::Told(Event { phase, stage, number, status })), ..served };
+            }
+            Again::AsksOutcome if outcome == 1 => {
+                *state = before.clone();
+                return Served { reply: Err(Refusal::PushRejected), ..served };
+            }
+            Again::IsCut if cut == 1 => *state = before.clone(),
+            _ => {}
+        }
+        served
     }
 }
 

@@ -19,3 +19,4 @@ pub mod peer;
 pub mod random;
 pub mod reads;
 pub mod requests;
+pub mod retry;

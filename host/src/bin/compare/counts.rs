@@ -1,6 +1,7 @@
 //! What a comparison has seen: calls, replies, and rules taken, whole and cut. Something not seen is a failure.
 
 use crate::folds;
+use crate::retries;
 use crate::wide;
 use makowist_host::controller::{Refusal, State};
 use makowist_host::jobs::Rule;
@@ -21,6 +22,8 @@ pub struct Counts {
     pub freed: u64,
     /// Logs led to the last number.
     pub migrations: u64,
+    /// Cut jobs called again, on copies; what is called there is not among the calls.
+    pub retries: retries::Seen,
     /// What order 10 brings.
     pub folds: folds::Seen,
     /// Numbers of more than 16 bits, and rooms by the byte.
@@ -100,6 +103,7 @@ impl Counts {
         }
         println!("{:>12}  masters that had reconnected freed", self.freed);
         println!("{:>12}  logs led to the last number", self.migrations);
+        let unseen_retries = self.retries.told();
         let unseen_folds = self.folds.told();
         let unseen_wide = self.wide.told();
         let unseen_reads = self.told_reads();
@@ -113,6 +117,6 @@ impl Counts {
         let rules = self.rules.iter().filter(|[whole, cut]| whole + cut > 0).count();
         println!("rules seen: {rules} of {}; refusals seen: {refusals} of {}", Rule::ALL.len(), Refusal::ALL.len());
         let unseen = [self.states, self.freed, self.migrations].iter().filter(|count| **count == 0).count();
-        unseen + unseen_answers + unseen_rules + unseen_reads + unseen_folds + unseen_wide
+        unseen + unseen_answers + unseen_rules + unseen_reads + unseen_retries + unseen_folds + unseen_wide
     }
 }

@@ -1,6 +1,7 @@
 //! Two controllers side by side: each call goes to both, and reply and every byte must be the same.
 
 use crate::counts::Counts;
+use crate::retries;
 use crate::watch::Watch;
 use makowist_host::controller::{State, LOG_LIMIT};
 use makowist_host::fault::Fault;
@@ -8,15 +9,30 @@ use makowist_host::guarded::{Edge, Guarded};
 use makowist_host::image;
 use makowist_host::northbound::{self, Request, Served};
 use makowist_host::peer;
+use makowist_host::random::Random;
 use makowist_host::reads::Query;
+use makowist_host::retry::CutJob;
 use std::fmt;
 
-/// A call on which the two did not agree.
-pub struct Difference(String);
+/// A call on which the two did not agree, or a retry that is not as promised.
+pub struct Difference {
+    text: String,
+    pub is_of_retry: bool,
+}
+
+impl Difference {
+    fn of_call(text: String) -> Difference {
+        Difference { text, is_of_retry: false }
+    }
+
+    pub fn of_retry(text: String) -> Difference {
+        Difference { text, is_of_retry: true }
+    }
+}
 
 impl fmt::Display for Difference {
     fn fmt(&self, to: &mut fmt::Formatter) -> fmt::Result {
-        to.write_str(&self.0)
+        to.write_str(&self.text)
     }
 }
 
@@ -32,9 +48,12 @@ pub struct Desk {
     lent: Guarded,
     lent_pairs: Guarded,
     lent_room: Guarded,
+    lent_copy: Guarded,
     pub edge: Edge,
     fault: Option<Fault>,
     pub counts: Counts,
+    /// What comes between a cut job and its retry.
+    pub random: Random,
     watch: Watch,
 }
 
@@ -44,11 +63,18 @@ impl Desk {
             lent: Guarded::new(),
             lent_pairs: Guarded::new(),
             lent_room: Guarded::new(),
+            lent_copy: Guarded::new(),
             edge: Edge::End,
             fault,
             counts: Counts::default(),
+            random: Random::new(0),
             watch,
         }
+    }
+
+    /// Whether the fault put in, if any, is one that a retry must find.
+    pub fn waits_for_a_retry(&self) -> bool {
+        matches!(self.fault, Some(Fault::Retried(_)))
     }
 
     /// Whether the comparison's time is up.
@@ -70,13 +96,20 @@ impl Desk {
         self.lent.bytes(bytes.len(), self.edge).copy_from_slice(bytes);
     }
 
-    /// Sends a call to both from the state and its image, which has been lent, and leaves both after the call.
+    /// Sends a call to both from the state and its image, which has been lent, and leaves both after the call. A job that was
+    /// cut is also called again, on copies.
     pub fn call(&mut self, state: &mut State, bytes: &mut [u8], request: &Request) -> Compared<Served> {
+        let may_be_cut = matches!(request, Request::Work { cut: 1, .. });
+        let before = may_be_cut.then(|| (state.clone(), bytes.to_vec()));
         let served = self.act(state, request);
         if served.reply.is_ok() {
             self.store(state, request, bytes);
         }
-        self.hold(bytes, request, served)
+        self.hold(bytes, request, served)?;
+        if let Some((before, before_bytes)) = before {
+            self.retry(request, &served, (&before, &before_bytes), (state, bytes))?;
+        }
+        Ok(served)
     }
 
     /// As `call`, leaving state and image as they were: answers those after the call where it was accepted.
@@ -89,6 +122,7 @@ impl Desk {
         let mut after_bytes = bytes.to_vec();
         self.store(&after, request, &mut after_bytes);
         self.hold(&after_bytes, request, served)?;
+        self.retry(request, &served, (state, bytes), (&after, &after_bytes))?;
         self.lend(bytes);
         Ok(Some((after, after_bytes)))
     }
@@ -96,10 +130,7 @@ impl Desk {
     fn act(&mut self, state: &mut State, request: &Request) -> Served {
         let reconnected = request.is_of_reconnected(state);
         let rested_at = state.committed.index;
-        let served = match self.fault {
-            None => northbound::act(state, request),
-            Some(fault) => fault.act(state, request),
-        };
+        let served = acted(self.fault, state, request);
         self.counts.freed += u64::from(reconnected && served.reply.is_ok());
         self.counts.folds.called(rested_at, state, request, &served);
         self.counts.wide.called(state, request, served.packed() & 0xff);
@@ -111,6 +142,35 @@ impl Desk {
             None => northbound::store(state, request, bytes),
             Some(fault) => fault.store(state, request, bytes),
         }
+    }
+
+    /// Calls a job again where it was cut after the first of two stores, by both, on copies of the state and the image before
+    /// it and behind it: it must leave what the uncut job leaves, from the copies before it.
+    fn retry(
+        &mut self,
+        request: &Request,
+        served: &Served,
+        before: (&State, &[u8]),
+        behind: (&State, &[u8]),
+    ) -> Compared<()> {
+        let Some(cut) = CutJob::of(request, served) else {
+            return Ok(());
+        };
+        let retry = self.counts.retries.next(cut, &mut self.random);
+        let act = |state: &mut State, request: &Request| acted(self.fault, state, request);
+        let uncut = retries::acted(before.0, &retry.uncut(), act);
+        let again = retries::acted(behind.0, &retry.again(), act);
+        retry.hold("independent", served, &uncut, &again)?;
+        let proved_uncut = retries::proved(&mut self.lent_copy, self.edge, before.1, &retry.uncut());
+        let proved_again = retries::proved(&mut self.lent_copy, self.edge, behind.1, &retry.again());
+        retry.hold("proved", served, &proved_uncut, &proved_again)?;
+        let mut expected = before.1.to_vec();
+        self.store(&uncut.left, &cut.uncut(), &mut expected);
+        if uncut.replies != proved_uncut.replies || expected != proved_uncut.left {
+            return Err(Difference::of_retry(format!("{cut:?}: the two leave other images, or answer otherwise")));
+        }
+        self.counts.retries.saw(&retry, &uncut.replies[1..]);
+        Ok(())
     }
 
     /// As `call_from`, from bytes that have been lent and may be no image; `state` is what they decode to.
@@ -140,7 +200,7 @@ impl Desk {
         let reply = peer::serve(lent, request, lent_pairs);
         self.counts.called(request, &served);
         if reply != served.packed() {
-            return Err(Difference(format!(
+            return Err(Difference::of_call(format!(
                 "{request:?}\n  independent reply {:#x} {:?} by rule {:?}\n  proved reply {reply:#x}\n{}",
                 served.packed(),
                 served.reply,
@@ -149,10 +209,10 @@ impl Desk {
             )));
         }
         if lent_pairs != pairs {
-            return Err(Difference(format!("{request:?}: the lent pairs were written")));
+            return Err(Difference::of_call(format!("{request:?}: the lent pairs were written")));
         }
-        same_bytes(expected, lent).map_err(|Difference(text)| {
-            Difference(format!("{request:?} by rule {:?}\n{text}\n{}", served.rule, shown(expected)))
+        same_bytes(expected, lent).map_err(|Difference { text, .. }| {
+            Difference::of_call(format!("{request:?} by rule {:?}\n{text}\n{}", served.rule, shown(expected)))
         })?;
         Ok(served)
     }
@@ -167,7 +227,7 @@ impl Desk {
         let reply = peer::read(lent, query);
         self.counts.queried(state, query, expected);
         if reply != expected {
-            return Err(Difference(format!(
+            return Err(Difference::of_call(format!(
                 "{query:?}\n  independent {expected:#x}\n  proved {reply:#x}\n{}",
                 shown(bytes)
             )));
@@ -192,7 +252,7 @@ impl Desk {
             self.counts.wide.listed(state.live().count(), room);
         }
         if reply != expected || lent_room != &expected_room[..room] {
-            return Err(Difference(format!(
+            return Err(Difference::of_call(format!(
                 "live list in room of {room} bytes\n  independent {expected:#x} {:?}\n  proved {reply:#x} {lent_room:?}\n{}",
                 &expected_room[..room],
                 shown(bytes)
@@ -200,9 +260,17 @@ impl Desk {
         }
         let expected = if state.is_some() { peer::WELL_FORMED } else { peer::NOT_WELL_FORMED };
         if formed != expected {
-            return Err(Difference(format!("well-formed: expected {expected}, proved {formed}\n{}", shown(bytes))));
+            return Err(Difference::of_call(format!("well-formed: expected {expected}, proved {formed}\n{}", shown(bytes))));
         }
         same_bytes(bytes, lent)
+    }
+}
+
+/// As `northbound::act`, with the fault where there is one.
+fn acted(fault: Option<Fault>, state: &mut State, request: &Request) -> Served {
+    match fault {
+        None => northbound::act(state, request),
+        Some(fault) => fault.act(state, request),
     }
 }
 
@@ -211,7 +279,7 @@ fn same_bytes(expected: &[u8], found: &[u8]) -> Compared<()> {
         return Ok(());
     }
     let place = expected.iter().zip(found).position(|(expected, found)| expected != found).unwrap_or(0);
-    Err(Difference(format!(
+    Err(Difference::of_call(format!(
         "  byte {place}: independent {}, proved {} ({} bytes differ)",
         expected[place],
         found[place],

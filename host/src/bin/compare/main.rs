@@ -1,4 +1,5 @@
-//! Holds the proved controller and the independent one together, call by call, reply and every byte.
+//! Holds the proved controller and the independent one together, call by call, reply and every byte; and each of them to what
+//! order 3 promises, at every job that is cut.
 //!
 //! Arguments, each `name=value`, in any order:
 //!
@@ -11,8 +12,8 @@
 //! - `fault=all`: try every fault, and end with 1 where one is not found; `found=NAME` tries that one alone
 //! - `overrun=End`, `overrun=Begin`: write the byte outside that edge of a lent slice, which must end the program
 //!
-//! Ends with 0 where there is no difference and no count is 0: every answer, every rule, whole and cut, every read, every
-//! argument too great in every way.
+//! Ends with 0 where there is no difference and no count is 0: every answer, every rule, whole and cut and called again, every
+//! read, every argument too great in every way.
 
 mod counts;
 mod desk;
@@ -20,6 +21,7 @@ mod every;
 mod folds;
 mod long;
 mod outside;
+mod retries;
 mod sessions;
 mod states;
 mod watch;
@@ -87,12 +89,16 @@ fn arguments() -> Result<Arguments, String> {
 fn compare(desk: &mut Desk, sizes: &Sizes, seed: u64, tells: bool) -> Compared<()> {
     let told = |what: &str, desk: &Desk| {
         if tells {
-            println!("compare: {what}; {} calls and {} reads so far", desk.counts.calls, desk.counts.reads);
+            let (calls, reads, retries) = (desk.counts.calls, desk.counts.reads, desk.counts.retries.retries());
+            println!("compare: {what}; {calls} calls, {reads} reads and {retries} retries so far");
         }
     };
     let mut random = Random::new(seed);
-    outside::run(desk)?;
-    told("every call from chosen states, every order of refusals", desk);
+    desk.random = Random::new(seed);
+    if !desk.waits_for_a_retry() {
+        outside::run(desk)?;
+        told("every call from chosen states, every order of refusals", desk);
+    }
     if sizes.transactions > 0 {
         let extent = if every::run(desk, sizes.transactions)? { "all" } else { "not all, for time" };
         let (states, transactions) = (desk.counts.states, sizes.transactions);
@@ -134,21 +140,25 @@ fn compare_for(arguments: &Arguments, fault: Option<Fault>) -> bool {
     }
     let unseen = desk.counts.told();
     println!(
-        "compare: {} calls, {} reads and {} states compared in {} s, 0 differences, {unseen} kinds never seen",
+        "compare: {} calls, {} reads, {} retries and {} states compared in {} s, 0 differences, {unseen} kinds never seen",
         desk.counts.calls,
         desk.counts.reads,
+        desk.counts.retries.retries(),
         desk.counts.states,
         desk.seconds()
     );
     unseen == 0
 }
 
-/// Tries these faults in the independent copy, and answers whether each was found.
+/// Tries these faults in the independent copy, and answers whether each was found, and those of a retry by a retry.
 fn find_faults(arguments: &Arguments, faults: &[Fault]) -> bool {
     let mut missed = 0;
     for fault in faults {
         let mut desk = Desk::new(Some(*fault), Watch::new(0));
-        let found = compare(&mut desk, &arguments.sizes, arguments.seed, false).is_err();
+        let found = match compare(&mut desk, &arguments.sizes, arguments.seed, false) {
+            Ok(()) => false,
+            Err(difference) => difference.is_of_retry || !desk.waits_for_a_retry(),
+        };
         println!("{:>10}  {fault:?}{}", desk.counts.calls, if found { "" } else { " was NOT found" });
         missed += usize::from(!found);
     }
