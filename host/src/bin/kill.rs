@@ -4,18 +4,22 @@
 //! same file in FOLDER, which must be empty; every few kills the file is a new one, missing at first or with a used image.
 //! The calls that were answered, and at most the one that was being made, must be what the file shows, byte by byte. The
 //! archive beside it must hold each folded transaction once, as it stood when it was folded, and behind them at most a part
-//! of what the fold that was being made would archive, which the next start must cut off. Ends with 1 where this is not so.
+//! of what the fold that was being made would archive, which the next start must cut off. A job that was cut after the first
+//! of its two stores is called again, by the server that is started next where the kill came first; and in the end both
+//! files must be those of a server that was never killed and made each of these jobs whole. Ends with 1 where this is not so.
 
 use makowist_host::controller::{Number, State, Status, Transaction, LOG_LIMIT};
 use makowist_host::image::{self, LENGTH};
 use makowist_host::lines;
-use makowist_host::northbound::{self, act, Request};
+use makowist_host::northbound::{self, act, Answer, Request, Served};
 use makowist_host::random::Random;
 use makowist_host::requests::{sensible, wild};
+use makowist_host::retry::CutJob;
+use std::fmt;
 use std::fs;
 use std::io::{BufRead, BufReader, ErrorKind, Read, Write};
 use std::path::{Path, PathBuf};
-use std::process::{Child, Command, ExitCode, Stdio};
+use std::process::{Child, Command, ExitCode, Output, Stdio};
 use std::thread;
 use std::time::{Duration, Instant};
 
@@ -47,17 +51,50 @@ struct Seen {
     dropped: usize,
     left_ahead: usize,
     mended: usize,
+    retried: usize,
+    cut_by_kill: usize,
+    made_whole: usize,
     idle: u64,
 }
 
 impl Seen {
     /// Makes a call that the server has made.
-    fn made(&mut self, call: &Call, kept: &mut Kept) -> bool {
-        let folded = kept.state.folded.0;
-        let accepted = kept.make(&call.request);
+    fn made(&mut self, request: &Request, kept: &mut Kept) -> bool {
+        let (folded, was_cut) = (kept.state.folded.0, kept.cut.is_some());
+        let accepted = kept.make(request);
+        self.retried += usize::from(was_cut && kept.cut.is_none());
         self.folds += usize::from(kept.state.folded.0 > folded);
         self.dropped += usize::from(kept.state.folded.0 - folded);
         accepted
+    }
+
+    /// Whether so many kills have shown what they must.
+    fn enough(&self, kills: u64) -> Checked<()> {
+        let Seen { idle, folds, mended, cut_by_kill, .. } = self;
+        if 2 * idle > kills {
+            return Err(format!("{idle} of {kills} kills fell when every call had been answered: feed more"));
+        }
+        if [folds, mended, cut_by_kill].contains(&&0) {
+            let seen = format!("{folds} folds, {mended} archives mended, {cut_by_kill} jobs cut");
+            return Err(format!("{seen}: too few kills to see what they must"));
+        }
+        Ok(())
+    }
+}
+
+impl fmt::Display for Seen {
+    fn fmt(&self, to: &mut fmt::Formatter) -> fmt::Result {
+        let Seen { answered, accepted, before_any_answer, in_flight_kept, left_aside, .. } = self;
+        let Seen { folds, dropped, left_ahead, mended, retried, cut_by_kill, made_whole, .. } = self;
+        write!(
+            to,
+            "{answered} calls answered, {accepted} of them accepted; killed before any answer {before_any_answer}, with a call \
+             kept that was not answered {in_flight_kept}, with a file left aside {left_aside}\n\
+             kill: {folds} folds kept, each of the {dropped} transactions that they dropped archived once; killed with lines \
+             archived whose fold was not kept {left_ahead}, archives mended at a start {mended}\n\
+             kill: {retried} cut jobs called again; killed before that {cut_by_kill}; {made_whole} images and archives in the \
+             end as those of a server that was never killed and made each job whole"
+        )
     }
 }
 
@@ -118,13 +155,25 @@ struct Kept {
     ahead: String,
     /// How many transactions the calls let it keep: where they are few, more of them get finished and folded.
     limit: usize,
+    /// The job that was cut and is still to be called again.
+    cut: Option<CutJob>,
+    /// What was made, without the cuts.
+    whole: Whole,
+}
+
+/// The calls of a run in which no job is cut and none called again, and its events, each as its answer's line.
+#[derive(Default)]
+struct Whole {
+    asked: String,
+    events: Vec<String>,
 }
 
 impl Kept {
     fn fresh(limit: usize) -> Kept {
         let mut bytes = vec![0; LENGTH];
         northbound::serve(&mut bytes, &Request::Fresh);
-        Kept { state: State::fresh(), bytes, archive: Archive::empty(), ahead: String::new(), limit }
+        let (archive, ahead, whole) = (Archive::empty(), String::new(), Whole::default());
+        Kept { state: State::fresh(), bytes, archive, ahead, limit, cut: None, whole }
     }
 
     /// An image that sensible calls have led to.
@@ -132,21 +181,35 @@ impl Kept {
         let mut kept = Kept::fresh(limit);
         for _ in 0..random.below(2000) {
             let request = onward(&kept.state, limit, random);
-            kept.make(&request);
+            kept.serve(&request);
         }
         kept
     }
 
-    fn make(&mut self, request: &Request) -> bool {
+    fn serve(&mut self, request: &Request) -> Served {
         let archive = self.archive_after(request);
-        let accepted = act(&mut self.state, request).reply.is_ok();
-        if accepted {
+        let served = act(&mut self.state, request);
+        if served.reply.is_ok() {
             northbound::store(&self.state, request, &mut self.bytes);
             if let Some(archive) = archive {
                 self.archive = archive;
             }
         }
-        accepted
+        served
+    }
+
+    /// Makes a call, and takes it into the run without cuts: a cut job whole, and a retry not at all.
+    fn make(&mut self, request: &Request) -> bool {
+        let served = self.serve(request);
+        if !is_retry(self.cut, request) {
+            let asked = CutJob::of(request, &served).map_or(request.clone(), CutJob::uncut);
+            self.whole.asked.extend(lines::asking(&asked));
+        }
+        if matches!(served.reply, Ok(Answer::Told(_))) {
+            self.whole.events.push(lines::written(&served));
+        }
+        self.cut = cut_after(self.cut, request, &served);
+        served.reply.is_ok()
     }
 
     /// The archive that an accepted fold leads to.
@@ -168,18 +231,32 @@ struct Call {
     answer: String,
 }
 
-/// Calls from a state on, most of them accepted.
+/// Whether a call is the retry of a job that was cut: no other job comes before it.
+fn is_retry(cut: Option<CutJob>, request: &Request) -> bool {
+    cut.is_some() && matches!(request, Request::Work { .. })
+}
+
+/// The job that is to be called again after a call.
+fn cut_after(cut: Option<CutJob>, request: &Request, served: &Served) -> Option<CutJob> {
+    if is_retry(cut, request) { None } else { cut.or(CutJob::of(request, served)) }
+}
+
+/// Calls from a state on, most of them accepted. A job that was cut is called again before anything else is done but on other
+/// nodes' connections.
 fn calls(kept: &Kept, random: &mut Random) -> Vec<Call> {
-    let mut state = kept.state.clone();
+    let (mut state, mut cut) = (kept.state.clone(), kept.cut);
     let mut calls = Vec::new();
     while calls.len() < CALLS {
-        let request = match random.once_in(12) {
-            true => wild(&state, random),
-            false => onward(&state, kept.limit, random),
+        let request = match cut {
+            Some(cut) if random.once_in(3) => cut.elsewhere(random),
+            Some(cut) => cut.again(random.once_in(2), random.once_in(2)),
+            None if random.once_in(12) => wild(&state, random),
+            None => onward(&state, kept.limit, random),
         };
         if let Some(asked) = lines::asking(&request) {
             let served = act(&mut state, &request);
             if served.reply.is_ok() || random.once_in(4) {
+                cut = cut_after(cut, &request, &served);
                 calls.push(Call { request, asked, answer: lines::written(&served) });
             }
         }
@@ -310,6 +387,51 @@ impl Server<'_> {
         }
     }
 
+    /// Starts it, feeds it the calls, and lets it leave by itself.
+    fn fed(&self, asked: &str) -> Checked<Output> {
+        let mut child = self.start()?;
+        let input = child.stdin.take();
+        let asked = asked.to_string();
+        let feeder = thread::spawn(move || input.map(|mut input| input.write_all(asked.as_bytes())));
+        let output = child.wait_with_output().map_err(|error| error.to_string())?;
+        drop(feeder.join());
+        match output.status.success() {
+            true => Ok(output),
+            false => Err(format!("the server ended with {}: {:?}", output.status, String::from_utf8_lossy(&output.stderr))),
+        }
+    }
+
+    /// Lays down the image and the archive that a server is to begin with, where they are not fresh.
+    fn lay(&self, kept: &Kept) -> Checked<()> {
+        if kept.state == State::fresh() {
+            return Ok(());
+        }
+        let laid = fs::write(&self.file, &kept.bytes).and_then(|()| fs::write(self.beside(".archive"), &kept.archive.text));
+        laid.map_err(|error| error.to_string())
+    }
+
+    /// A job that is still cut is called again. Then the files must be those of a server that was never killed and made each
+    /// cut job whole, and that server's events must be those of the killed one.
+    fn ends_as(&self, whole: &Server, kept: &mut Kept, seen: &mut Seen) -> Checked<()> {
+        self.closes_with(kept, seen)?;
+        if let Some(retry) = kept.cut.map(|cut| cut.again(false, false)) {
+            self.fed(&lines::asking(&retry).ok_or("a job that no line asks for")?)?;
+            seen.made(&retry, kept);
+        }
+        let output = whole.fed(&kept.whole.asked)?;
+        let shown = String::from_utf8_lossy(&output.stdout);
+        let is_event = |line: &&str| line.starts_with("answer=") && !line.contains(" phase=0 ");
+        if !shown.split_inclusive('\n').filter(is_event).eq(&kept.whole.events) {
+            return Err("a server that was never killed and made each job whole gave other events".to_string());
+        }
+        let image = self.kept()?;
+        if image != whole.kept()? || image != Some(kept.bytes.clone()) || self.archive()? != whole.archive()? {
+            return Err("the files are not those of a server that was never killed and made each job whole".to_string());
+        }
+        seen.made_whole += 1;
+        Ok(())
+    }
+
     /// Starts it without a call: it must mend the archive, show the heads, leave by itself and change nothing else.
     fn closes_with(&self, kept: &mut Kept, seen: &mut Seen) -> Checked<()> {
         let output = self.start()?.wait_with_output().map_err(|error| error.to_string())?;
@@ -347,7 +469,7 @@ fn kill_once(server: &Server, kept: &mut Kept, seen: &mut Seen, random: &mut Ran
         if *answer != call.answer {
             return Err(format!("{:?} was answered {answer:?}, not {:?}", call.asked, call.answer));
         }
-        seen.accepted += usize::from(seen.made(call, kept));
+        seen.accepted += usize::from(seen.made(&call.request, kept));
     }
     seen.answered += answers.len();
     seen.before_any_answer += usize::from(answers.is_empty());
@@ -363,6 +485,7 @@ fn kill_once(server: &Server, kept: &mut Kept, seen: &mut Seen, random: &mut Ran
     if !answers.is_empty() || not_kept.is_none() {
         kept.ahead.clear();
     }
+    seen.cut_by_kill += usize::from(kept.cut.is_some());
     holds_archive(&server.archive()?, not_kept, kept, seen)
 }
 
@@ -372,7 +495,7 @@ fn holds_image<'a>(found: &[u8], next: Option<&'a Call>, kept: &mut Kept, seen: 
         return Ok(next);
     }
     let answered = format!("{:?}", kept.state);
-    if next.is_some_and(|next| seen.made(next, kept)) && found == kept.bytes {
+    if next.is_some_and(|next| seen.made(&next.request, kept)) && found == kept.bytes {
         seen.in_flight_kept += 1;
         return Ok(None);
     }
@@ -408,28 +531,25 @@ fn run(kills: u64, seed: u64, folder: &Path, command: &[String]) -> Checked<Seen
     let mut random = Random::new(seed);
     let mut seen = Seen::default();
     let mut kept = Kept::fresh(LOG_LIMIT);
-    let mut server = Server { command, file: PathBuf::new() };
+    let (mut server, mut whole) = (Server { command, file: PathBuf::new() }, Server { command, file: PathBuf::new() });
     for kill in 0..kills {
         if kill % KILLS_TO_A_FILE == 0 {
             server.file = folder.join(format!("image{}", kill / KILLS_TO_A_FILE));
+            whole.file = server.beside(".whole");
             let limit = random.one_of(&[3, 8, LOG_LIMIT]);
             kept = if random.once_in(2) { Kept::fresh(limit) } else { Kept::used(limit, &mut random) };
-            if kept.state != State::fresh() {
-                fs::write(&server.file, &kept.bytes).map_err(|error| error.to_string())?;
-                fs::write(server.beside(".archive"), &kept.archive.text).map_err(|error| error.to_string())?;
-            }
+            [&server, &whole].iter().try_for_each(|server| server.lay(&kept))?;
         }
         kill_once(&server, &mut kept, &mut seen, &mut random).map_err(|error| format!("kill {}: {error}", kill + 1))?;
-        if kill % KILLS_TO_A_FILE == KILLS_TO_A_FILE - 1 || random.once_in(3) {
-            server.closes_with(&mut kept, &mut seen).map_err(|error| format!("after kill {}: {error}", kill + 1))?;
-        }
+        let is_last = kill % KILLS_TO_A_FILE == KILLS_TO_A_FILE - 1 || kill == kills - 1;
+        let closed = match random.once_in(3) {
+            _ if is_last => server.ends_as(&whole, &mut kept, &mut seen),
+            true => server.closes_with(&mut kept, &mut seen),
+            false => Ok(()),
+        };
+        closed.map_err(|error| format!("after kill {}: {error}", kill + 1))?;
     }
-    if 2 * seen.idle > kills {
-        return Err(format!("{} of {kills} kills fell when every call had been answered: feed more", seen.idle));
-    }
-    if seen.folds == 0 || seen.mended == 0 {
-        return Err(format!("{} folds, {} archives mended: too few kills to see what they must", seen.folds, seen.mended));
-    }
+    seen.enough(kills)?;
     Ok(seen)
 }
 
@@ -448,22 +568,7 @@ fn main() -> ExitCode {
     let began = Instant::now();
     match run(*kills, *seed, Path::new(folder), command) {
         Ok(seen) => {
-            println!(
-                "kill: {kills} kills in {:.1} s, nothing lost, nothing half-written; {} calls answered, {} of them accepted; \
-                 killed before any answer {}, with a call kept that was not answered {}, with a file left aside {}\n\
-                 kill: {} folds kept, each of the {} transactions that they dropped archived once; killed with lines archived \
-                 whose fold was not kept {}, archives mended at a start {}",
-                began.elapsed().as_secs_f64(),
-                seen.answered,
-                seen.accepted,
-                seen.before_any_answer,
-                seen.in_flight_kept,
-                seen.left_aside,
-                seen.folds,
-                seen.dropped,
-                seen.left_ahead,
-                seen.mended
-            );
+            println!("kill: {kills} kills in {:.1} s, nothing lost, nothing half-written; {seen}", began.elapsed().as_secs_f64());
             ExitCode::SUCCESS
         }
         Err(error) => {
