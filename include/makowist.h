@@ -59,6 +59,18 @@
  * copy shows what is left of a step that was cut, and a push that the image does not show is a push again. What was lost
  * is reported, disconnect or stop; then start, connect, master (twice where the master has a new connection), sync.
  *
+ * Calling a job again. A job that was cut between its two stores, and is called again by the same node, leaves every byte as
+ * the uncut job would have left it, and the two calls give its event once: the first gives it, the second is accepted and
+ * gives none. It is so from every well-formed image, whatever the second call's outcome and cut are: what was rejected stays
+ * so, and nothing is pushed twice. Other nodes may connect and disconnect between the two, and then their connections are all
+ * that differs. (The theorem is retry-harmless.)
+ *
+ * Not promised: anything once the node is not master any more (MAKOWIST_NOT_MASTER), or after other calls between the two; nor
+ * that a job which was not cut may be called twice, and a host that keeps its images as above leaves none cut but by cut 1.
+ * Where the first call went through whole, the second is the job's next step, with an event and an outcome of its own, or
+ * MAKOWIST_NO_RULE where the job is finished. Who has no answer to the first call tries the second on a copy: accepted without
+ * an event, it is the rest of a job that was cut, and asks nobody; with an event it is a step like any other, driven as above.
+ *
  * To build and link, on x86-64 (elsewhere with a cross compiler, x86_64-linux-gnu-gcc):
  *
  *     rt staticlib northbound
@@ -213,7 +225,8 @@ uint64_t makowist_master(uint8_t *image, size_t length, uint64_t node);
 uint64_t makowist_sync(uint8_t *image, size_t length, uint64_t node);
 
 /* One step of a job on a transaction, by a node; its event is in the reply where the step gives one. A cut of 1 leaves
- * out the second store of a step that has two, as when the node is lost between them; the next step makes it good.
+ * out the second store of a step that has two, as when the node is lost between them; the same job called again makes it good
+ * ("Calling a job again", above).
  * Refuses MAKOWIST_OUT_OF_RANGE, MAKOWIST_NO_SUCH_NUMBER, MAKOWIST_FOLDED, MAKOWIST_NOT_MASTER, MAKOWIST_NO_RULE,
  * MAKOWIST_COUNTER_AT_LIMIT, MAKOWIST_LINE_NOT_OPEN, MAKOWIST_PUSH_REJECTED. */
 uint64_t makowist_work(uint8_t *image, size_t length, uint64_t node, uint64_t job, uint64_t number, uint64_t outcome,
