@@ -4,3 +4,4 @@ pub mod Joint
 pub mod Waiting
 pub mod Fed
 pub mod Transcribed
+pub mod Printed

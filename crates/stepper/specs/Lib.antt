@@ -5,3 +5,4 @@ pub mod Fed
 pub mod Closed
 pub mod Runs
 pub mod Transcript
+pub mod Steps

@@ -1,0 +1,86 @@
+-- THE PROGRAM: from the image that `fresh` makes, what is handed on to be written is what the machine's steps reply to the lines
+-- of the input, however the reads cut it, and then the heads of the state that is reached. Assumes nothing.
+use Prim.Native.Nat.{ℕ}
+use mathlib.Core.Path.{_≡_, refl, ap, sym, subst, _∙_}
+use mathlib.Core.Logic.{_⊎_, inl, inr}
+use mathlib.Core.Bool.{Bool, true}
+use mathlib.Core.List.{List, [], _∷_, _++_}
+use borrow.Author.Tests.{eq-eqb}
+use lib.ListN.{length, take, replicate}
+use Rattle.kinds.specs.declared.Reply.{Reply}
+use Rattle.machine.specs.State.{State, fresh}
+use Rattle.fields.proofs.Laws.{Bytes}
+use Rattle.image.specs.Layout.{imageLength}
+use Rattle.image.specs.View.{view}
+use Rattle.image.specs.Formed.{formed}
+use Rattle.image.specs.Fresh.{freshImage}
+use Rattle.image.proofs.Freshened.{shows-fresh, formed-fresh}
+use Rattle.lines.specs.Forms.{Asked, calls}
+use Rattle.lines.specs.Grammar.{Says}
+use Rattle.lines.proofs.Readable.{Readable, Unread, read-right}
+use Rattle.controller.specs.Fresh.{imageIf, Freshens}
+use Rattle.controller.specs.Reads.{headsOf, headsIn}
+use Rattle.link.proofs.Link.{shows-next, stays-bytes, stays-formed}
+use Rattle.link.proofs.Fresh.{fresh-bytes}
+use Rattle.stepper.specs.declared.Session.{Session}
+use Rattle.stepper.specs.Fed.{emptied}
+use Rattle.stepper.specs.Closed.{lineOfHeads, closing, EndsInput}
+use Rattle.stepper.specs.Runs.{begins, Runs}
+use Rattle.stepper.specs.Transcript as transcript
+use Rattle.stepper.specs.Transcript.{linesOf, Answered, Told, replyLines, Transcript}
+use Rattle.stepper.specs.Steps as steps
+use Rattle.stepper.specs.Steps.{Stepped, Steps, Prints}
+use Rattle.stepper.proofs.Transcribed.{transcribed}
+
+-- ---- one line
+module _ (l t : List ℕ) (r : Reply) (m : List ℕ) (x : Answered l t r m) (y : Bytes l) (w : formed l ≡ true) where
+  stepped : Stepped (view l) t r (view m)
+  stepped = record { asks = λ c s. shows-next l c r m (x .asks c s) y w; refuses = λ n. (x .refuses n .0, ap view (x .refuses n .1)) }
+
+  -- the image stays one
+  stays : Bytes m × (formed m ≡ true)
+  stays = by (read-right (replicate 20 0) t refl)
+    where
+      asked : (a : Asked) → Says t a → Bytes m × (formed m ≡ true)
+      asked (calls c) s = (stays-bytes l c r m (x .asks c s) y, stays-formed l c r m (x .asks c s) y w)
+
+      by : Readable (replicate 20 0) t ⊎ Unread (replicate 20 0) t → Bytes m × (formed m ≡ true)
+      by (inl a) = asked (a .asked) (a .says)
+      by (inr u) =
+          let e : l ≡ m = sym (x .refuses (u .says) .1) in
+          (subst (λ (i : List ℕ). Bytes i) e y, subst (λ (i : List ℕ). formed i ≡ true) e w)
+
+-- ---- the lines
+told-steps :
+    {l m : List ℕ} {ts : List (List ℕ)} {rs : List Reply} → Told l ts rs m → Bytes l → formed l ≡ true →
+    Steps (view l) ts rs (view m) × (formed m ≡ true)
+told-steps transcript.none y w = (steps.none, w)
+told-steps {l = l} (transcript.next {k = k} t r x f) y w =
+    let s = stays l t r k x y w in
+    let z = told-steps f (s .0) (s .1) in
+    (steps.next t r (stepped l t r k x y w) (z .0), z .1)
+
+closing-heads : (m : List ℕ) → formed m ≡ true → closing m ≡ lineOfHeads (headsIn (view m))
+unfolding headsOf
+closing-heads m w = rw w
+
+prints : (l bytes text m : List ℕ) → Transcript l bytes text m → Bytes l → formed l ≡ true → Prints (view l) bytes text (view m)
+prints l bytes text m x y w =
+    let z = told-steps (x .told) y w in
+    record {
+      replies = x .replies;
+      steps = z .0;
+      writes = x .writes ∙ ap (λ (i : List ℕ). replyLines (x .replies) ++ i) (closing-heads m (z .1));
+    }
+
+-- ---- the whole
+pub printed :
+    (l k : List ℕ) (u : Reply) {room bytes text i n out m after kept : List ℕ} {q : Session} {end : ℕ} → length l ≡ imageLength → Freshens l u k →
+    length room ≡ 20 → Runs k room begins bytes text q i n → EndsInput i out n (emptied q) end m after kept →
+    Prints fresh bytes (text ++ take end after) (view m)
+printed l k u {bytes = bytes} {text = text} {m = m} {after = after} {end = end} e f h x y =
+    let g : k ≡ freshImage = f .1 ∙ ap (λ (b : Bool). imageIf b l) (eq-eqb _ _ e) in
+    let t : Transcript freshImage bytes (text ++ take end after) m =
+    subst (λ (j : List ℕ). Transcript j bytes (text ++ take end after) m) g (transcribed h x y) in
+    subst (λ (s : State). Prints s bytes (text ++ take end after) (view m)) shows-fresh
+    (prints freshImage bytes (text ++ take end after) m t fresh-bytes formed-fresh)

@@ -1,0 +1,32 @@
+-- What the program writes for an input, said of the machine: its lines are replied as `step` decides from the fresh state on, and
+-- the closing line has the heads of the state that is reached. Assumes nothing.
+use Prim.Native.Nat.{ℕ}
+use mathlib.Core.Path.{_≡_}
+use mathlib.Core.List.{List, [], _∷_, _++_}
+use Rattle.kinds.specs.declared.Reply.{Reply}
+use Rattle.kinds.specs.Events.{refusal}
+use Rattle.machine.specs.State.{State}
+use Rattle.machine.specs.Calls.{Call}
+use Rattle.machine.specs.Step.{step}
+use Rattle.lines.specs.Forms.{Asked, calls}
+use Rattle.lines.specs.Grammar.{Says}
+use Rattle.controller.specs.Reads.{headsIn}
+use Rattle.stepper.specs.Closed.{lineOfHeads}
+use Rattle.stepper.specs.Transcript.{linesOf, replyLines}
+
+-- the line t in the state s: a line that says a call is a step; one that says none is refused with 2
+pub record Stepped (s : State) (t : List ℕ) (r : Reply) (q : State) : Type 0 where
+  pub asks : (c : Call) → Says t (calls c) → (r ≡ step s c .reply) × (q ≡ step s c .next)
+  pub refuses : ((x : Asked) → Says t x → ⊥) → (r ≡ refusal 2) × (q ≡ s)
+
+-- lines one after another
+pub data Steps : State → List (List ℕ) → List Reply → State → Type 0 where
+  none : {s : State} → Steps s [] [] s
+  next :
+      {s o q : State} {ts : List (List ℕ)} {rs : List Reply} (t : List ℕ) (r : Reply) → Stepped s t r o → Steps o ts rs q → Steps s (t ∷ ts) (r ∷ rs) q
+
+-- the text for the bytes of an input, from the state s to the state q
+pub record Prints (s : State) (bytes text : List ℕ) (q : State) : Type 0 where
+  pub replies : List Reply
+  pub steps : Steps s (linesOf bytes) replies q
+  pub writes : text ≡ replyLines replies ++ lineOfHeads (headsIn q)
