@@ -339,18 +339,18 @@ keeps =
     ∷ reads 0 1 0 0 ∷ reads 1 2 0 0 ∷ reads 2 3 0 0 ∷ reads 4 4 0 0 ∷ reads 3 1 0 0 ∷ yes (rollback 3)
     ∷ (uncommit 3 ++ (reads 0 5 0 0 ∷ reads 1 6 0 0 ∷ reads 2 7 0 0 ∷ reads 4 8 0 0 ∷ reads 3 1 0 0 ∷ heads (3 ∷ 3 ∷ 2 ∷ 2 ∷ 4 ∷ []) ∷ [])))))
 
--- and the target's values stay while a synchronise has only begun
+-- and the target's values, which are not the base's, stay while a synchronise has only begun
 stay : List Line
 stay =
     adding 1 (pair 3 7 ∷ [])
     ∷ (lined
     ++ (commit 1
     ++ (apply 1
-    ++ (yes (disconnect 1) ∷ yes (connect 1) ∷ yes (master 1) ∷ yes (master 1) ∷ reads 3 7 7 7 ∷ yes (sync 1) ∷ reads 3 7 7 7 ∷ nets (2 ∷ 1 ∷ 1 ∷ 2 ∷ 2 ∷ []) ∷ yes (sync 1) ∷ reads 3 7 7 7 ∷ []))))
+    ++ (asks (ofTable 3 3) 0 7 ∷ asks (ofTable 4 3) 0 0 ∷ yes (disconnect 1) ∷ yes (connect 1) ∷ yes (master 1) ∷ yes (master 1) ∷ reads 3 7 7 7 ∷ yes (sync 1) ∷ reads 3 7 7 7 ∷ nets (2 ∷ 1 ∷ 1 ∷ 2 ∷ 2 ∷ []) ∷ yes (sync 1) ∷ reads 3 7 7 7 ∷ []))))
 
 pub keeping : List (List Line)
 keeping = keeps ∷ stay ∷ []
 
 pub keeping-hold : agree keeping ≡ true
-unfolding agree agrees begins step outcome decide entryNumbers stateNumbers wellFormed allFrom entryOk headOk pairsOk valuesOk planOf rowsOf overlay present after afters keeping keeps stay
+unfolding agree agrees begins step outcome decide read entryNumbers stateNumbers wellFormed allFrom entryOk headOk pairsOk valuesOk planOf rowsOf overlay present after afters keeping keeps stay
 keeping-hold = refl
