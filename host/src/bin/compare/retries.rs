@@ -27,8 +27,8 @@ impl Seen {
         self.0.iter().map(|counts| counts[0]).sum()
     }
 
-    /// The next retry of a job: its rule's retries take the outcomes and cuts in turn, the other outcome and a cut first. In
-    /// every other one some calls come between.
+    /// The next retry of a job: its rule's retries take the outcomes and cuts in turn, the other outcome and a cut first, half of
+    /// them with some calls between.
     pub fn next(&self, cut: CutJob, random: &mut Random) -> Retry {
         let [retried, ..] = self.0[cut.rule as usize];
         let (other_outcome, cut_again) = (retried % 2 == 0, retried / 2 % 2 == 0);
