@@ -61,14 +61,15 @@
  *
  * Calling a job again. A job that was cut between its two stores, and is called again by the same node, leaves every byte as
  * the uncut job would have left it, and the two calls give its event once: the first gives it, the second is accepted and
- * gives none. It is so from every well-formed image, whatever the second call's outcome and cut are: what was rejected stays
- * so, and nothing is pushed twice. Other nodes may connect and disconnect between the two, and then their connections are all
- * that differs. (The theorem is retry-harmless.)
+ * gives none. It is so from every well-formed image, with outcome and cut 0 or 1 the second time: what was rejected stays so,
+ * and nothing is pushed twice. Other nodes may connect and disconnect between the two, and then their connections are all that
+ * differs. (The theorems are retry-harmless and, of every byte, retry-then and retry-at-once.)
  *
  * Not promised: anything once the node is not master any more (MAKOWIST_NOT_MASTER), or after other calls between the two; nor
  * that a job which was not cut may be called twice, and a host that keeps its images as above leaves none cut but by cut 1.
- * Where the first call went through whole, the second is the job's next step, with an event and an outcome of its own, or
- * MAKOWIST_NO_RULE where the job is finished. Who has no answer to the first call tries the second on a copy: accepted without
+ * Where the first call went through whole, the second is the job's next step, with an event and an outcome of its own or the
+ * refusals of a step, MAKOWIST_NO_RULE among them where the job is finished. Who has no answer to the first call tries the
+ * second on a copy. In an image that began with makowist_fresh (by the rules; this is no part of the theorems): accepted without
  * an event, it is the rest of a job that was cut, and asks nobody; with an event it is a step like any other, driven as above.
  *
  * To build and link, on x86-64 (elsewhere with a cross compiler, x86_64-linux-gnu-gcc):

@@ -84,7 +84,7 @@ demand-1-c l k x m p = demand-1 l k (unpacked x) m (in-c l k x m p)
 pub demand-2-c : (l : List ℕ) (k : Call) (x : ℕ) (m : List ℕ) → north.Claims l k x m → Bytes l → formed l ≡ true → Demand2 l k (unpacked x) m
 demand-2-c l k x m p = demand-2 l k (unpacked x) m (in-c l k x m p)
 
-calling : {l : List ℕ} {cs : List Call} {xs m : List ℕ} → Serving l cs xs m → Calling l cs (map unpacked xs) m
+pub calling : {l : List ℕ} {cs : List Call} {xs m : List ℕ} → Serving l cs xs m → Calling l cs (map unpacked xs) m
 calling nothing = none
 calling (further {k = k} d e x m p) = next (calling d) e (unpacked x) m (in-c k e x m p)
 

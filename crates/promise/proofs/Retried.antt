@@ -8,11 +8,12 @@ use lib.ListN.{length, getD}
 use Rattle.kinds.specs.declared.Reply.{Reply}
 use Rattle.fields.proofs.Laws.{Bytes}
 use Rattle.machine.specs.State.{State, isNode, nodeOf}
-use Rattle.machine.specs.Stores.{connections, after}
-use Rattle.machine.specs.Calls.{Call, append, rollback, start, stop, connect, disconnect, master, sync, work, foldTo}
-use Rattle.machine.specs.Step.{step, stateFrom}
+use Rattle.machine.specs.Stores.{connections, after, afters}
+use Rattle.machine.specs.Calls.{Call, append, rollback, start, stop, connect, disconnect, master, sync, work, foldTo, valuesOk, present, planOf, decide}
+use Rattle.machine.specs.WellFormed.{allFrom, pairsOk, entryOk, headOk, wellFormed}
+use Rattle.machine.specs.Step.{outcome, step, run, stateFrom}
 use Rattle.machine.specs.Retry as states
-use Rattle.machine.specs.Retry.{elsewhere, allElsewhere}
+use Rattle.machine.specs.Retry.{elsewhere, allElsewhere, TwoStores}
 use Rattle.machine.proofs.Retried as states′
 use Rattle.image.specs.Layout.{lastAt, connectionsAt, foldedAt}
 use Rattle.image.specs.Records.{foldedOf, lastOf}
@@ -21,6 +22,7 @@ use Rattle.image.specs.Formed.{formed}
 use Rattle.image.proofs.UpTo.{and-left, and-right}
 use Rattle.image.proofs.Scanned.{formed-length, formed-state}
 use Rattle.staying.proofs.Rooms.{isPlain}
+use Rattle.link.specs.Runs.{Calling, none}
 use Rattle.link.proofs.Link.{Shows, shows-next, shows-run, stays-bytes, stays-formed}
 use Rattle.link.proofs.Unused.{Free}
 use Rattle.link.proofs.Plain.{Leaves, leaves-then, plain-leaves, allPlain, plain-run}
@@ -44,6 +46,10 @@ all-plain : (n : ℕ) (cs : List Call) → allElsewhere n cs ≡ true → allPla
 unfolding allElsewhere allPlain
 all-plain n [] e = refl
 all-plain n (c ∷ cs) e = rw (plain n c (and-left (elsewhere n c) _ e), all-plain n cs (and-right (elsewhere n c) _ e)) refl
+
+-- a slot that is free after such calls was free before them
+free-too : {l m : List ℕ} {j : ℕ} → Leaves l m → Free (foldedOf m) (lastOf m) j → Free (foldedOf l) (lastOf l) j
+free-too {l} {m} {j} h f = subst (λ (k : ℕ). Free (foldedOf l) k j) (h .last) (subst (λ (k : ℕ). Free k (lastOf m) j) (h .folded) f)
 
 module _ {l : List ℕ} {n : ℕ} {a b d : Reply} {m u : List ℕ} (t : Retry l n a b d m u) where
   -- ---- the images on the way
@@ -118,9 +124,7 @@ module _ {l : List ℕ} {n : ℕ} {a b d : Reply} {m u : List ℕ} (t : Retry l 
       (plain-leaves (t .then) _ b m (t .again) (through .1 .0) (through .1 .1) refl)
 
   free : (j : ℕ) → j < lastAt → Free (foldedOf u) (lastOf u) j → getD m j 0 ≡ getD u j 0
-  free j h f =
-      let g : Free (foldedOf l) (lastOf l) j = subst (λ (k : ℕ). Free (foldedOf l) k j) (whole-leaves .last) (subst (λ (k : ℕ). Free k (lastOf u) j) (whole-leaves .folded) f) in
-      retry-leaves .free j h g ∙ sym (whole-leaves .free j h g)
+  free j h f = let g = free-too whole-leaves f in retry-leaves .free j h g ∙ sym (whole-leaves .free j h g)
 
   is-node : isNode n ≡ true
   is-node = and-left (isNode n) _ (and-left (isNode n && _) _ (t .range))
@@ -143,9 +147,20 @@ module _ {l : List ℕ} {n : ℕ} {a b d : Reply} {m u : List ℕ} (t : Retry l 
         second = at-again .0 ∙ ap (λ (v : State). step v last-call .reply) then-shows ∙ promised .second;
       }
 
-  -- with no call between, the image is the uncut job's, byte for byte
+  -- with the calls between made after the uncut job too, no byte differs
+  pub retry-then : (rs : List Reply) (w : List ℕ) → Calling u (t .calls) rs w → m ≡ w
+  retry-then rs w c =
+      let h : Shows (view u) (t .calls) rs w = shows-run c uncut-bytes uncut-formed in
+      let k : Leaves u w = plain-run c uncut-bytes uncut-formed (all-plain n (t .calls) (t .elsewhere)) .0 in
+      image-same w m (h .bytes) end-bytes (h .formed) end-formed
+      (end-shows ∙ promised .state ∙ ap (λ (v : State). stateFrom v (t .calls)) (sym (at-uncut .1)) ∙ sym (h .state))
+      (λ j q f. let g = free-too k f in free j q g ∙ sym (k .free j q g))
+
+  -- with none between, the image is the uncut job's, byte for byte
   pub retry-at-once : t .calls ≡ [] → m ≡ u
-  unfolding stateFrom
-  retry-at-once e =
-      image-same u m uncut-bytes end-bytes uncut-formed end-formed
-      (end-shows ∙ promised .state ∙ ap (λ (cs : List Call). stateFrom (step s (work n (t .job) (t .number) (t .outcome) 0) .next) cs) e ∙ sym (at-uncut .1)) free
+  retry-at-once e = retry-then [] u (subst (λ (cs : List Call). Calling u cs [] u) (sym e) none)
+
+-- such a job is met: a change's commit begins, one node being master
+pub met : TwoStores (run (master 1 ∷ connect 1 ∷ start ∷ append (record { path = 3; value = 7 } ∷ []) ∷ []) .state) 1 1 1 0
+unfolding run step outcome decide planOf wellFormed allFrom entryOk headOk pairsOk valuesOk present after afters
+met = record { args = refl; number = refl; kept = refl; master = refl; two = refl }

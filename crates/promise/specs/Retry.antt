@@ -45,8 +45,8 @@ pub record Retry (l : List ℕ) (n : ℕ) (a b d : Reply) (m u : List ℕ) : Typ
   pub again : Claims then (work n job number outcome′ cut′) b m
   pub uncut : Claims l (work n job number outcome 0) d u
 
--- what is promised: the two images agree in every byte but other nodes' connections; the first call gave the uncut job's
--- answer and event, the second is accepted and gives none
+-- what is promised: the two images agree in every byte but other nodes' connections (and after the same calls between, in
+-- every byte: Retried.retry-then); the first call gave the uncut job's answer and event, the second is accepted and gives none
 pub record Harmless (n : ℕ) (a b d : Reply) (m u : List ℕ) : Type 0 where
   pub length : length m ≡ length u
   pub bytes : (j : ℕ) → NoOther n j → getD m j 0 ≡ getD u j 0
