@@ -15,3 +15,4 @@ pub mod Handing
 pub mod Readable
 pub mod Edges
 pub mod Paper
+pub mod Once
