@@ -70,13 +70,13 @@ link-top : (l : Log) (k : ℕ) (ks : List ℕ) → LinkedStack l (k ∷ ks) → 
 unfolding LinkedStack
 link-top l k ks s = s .0
 
-push-is : (i k : ℕ) → push i ≡ push k → i ≡ k
+pub push-is : (i k : ℕ) → push i ≡ push k → i ≡ k
 push-is i k e = cc
 
-pop-is : (i k : ℕ) → pop i ≡ pop k → i ≡ k
+pub pop-is : (i k : ℕ) → pop i ≡ pop k → i ≡ k
 pop-is i k e = cc
 
-push-pop : {A : Type 0} (i k : ℕ) → push i ≡ pop k → A
+pub push-pop : {A : Type 0} (i k : ℕ) → push i ≡ pop k → A
 push-pop i k e = let z : _≡_ {A = ℕ} 0 1 = cc in absurd (omega arith)
 
 touched : (c : Status) → isStarted c ≡ true → changeTouched c ≡ true
@@ -186,7 +186,7 @@ module _ {l : Log} {part : Part} {ops acts : List Op} {bad : List ℕ} (side : A
     unfolding stack
     push-led = ap (λ x. top (stack x)) push-next
 
-    push-link : Link l i (stack (first ops at))
+    pub push-link : Link l i (stack (first ops at))
     unfolding Linked
     push-link = subst (Linked l) push-next (first-linked l ops (suc at) rising linked) .0
 
@@ -221,7 +221,7 @@ module _ {l : Log} {part : Part} {ops acts : List Op} {bad : List ℕ} (side : A
     pop-falls : Falls (i ∷ tail (bad ++ held acts))
     pop-falls = subst Falls pop-split falls
 
-    pop-link : Link l i (tail (bad ++ held acts))
+    pub pop-link : Link l i (tail (bad ++ held acts))
     pop-link = link-top l i (tail (bad ++ held acts)) (subst (LinkedStack l) pop-split links)
 
     pub pop-stack : stack (first ops (suc at)) ≡ tail (bad ++ held acts)

@@ -13,3 +13,7 @@ pub mod Ordinals
 pub mod Marked
 pub mod Audited
 pub mod Guaranteed
+pub mod Staged
+pub mod Places
+pub mod Reasons
+pub mod Named

@@ -1,6 +1,6 @@
 -- What a store of one entry leaves: the values of the changes, and the links between them. Laws of statuses. Assumes
 -- nothing.
-use Prim.Native.Nat.{ℕ, _≤_}
+use Prim.Native.Nat.{ℕ, zero, suc, _≤_}
 use native.Mathlib.Omega.{arith}
 use mathlib.Core.List.{List, [], _∷_}
 use mathlib.Core.Bool.{Bool, true, false}
@@ -12,7 +12,7 @@ use Rattle.kinds.specs.declared.Status.{Status}
 use Rattle.kinds.specs.declared.Status.the-variants.{None, Pending, InProgress, Complete, Aborted, Canceled, Failed}
 use Rattle.kinds.specs.Statuses.{isComplete}
 use Rattle.machine.specs.State.{Log, entryOf, putEntry}
-use Rattle.machine.proofs.Entries.{put-all}
+use Rattle.machine.proofs.Entries.{put-all, entry-zero}
 use Rattle.history.specs.Ops.{Op, push, pop, none, top, tail, stack, newest, Rising, Falls, stack-low, stack-falls, clash}
 use Rattle.history.specs.Invariant.{val, Link, Linked, isGoing, complete, Paired}
 
@@ -96,6 +96,19 @@ by-eq {R} k n f g = go (eqb k n) refl
     go : (b : Bool) → eqb k n ≡ b → R
     go true e = f (eqb-true k n e)
     go false e = g (eqb-false k n e)
+
+pub by-bool : {R : Type 0} (b : Bool) → (b ≡ true → R) → (b ≡ false → R) → R
+by-bool true f g = f refl
+by-bool false f g = g refl
+
+-- an entry that says something has a number
+pub some-change : (l : Log) (k : ℕ) → (entryOf l k .change .commit ≡ None → ⊥) → 1 ≤ k
+some-change l zero e = absurd (e (ap (λ t. t .change .commit) (entry-zero l)))
+some-change l (suc k) e = omega arith
+
+pub some-rollback : (l : Log) (k : ℕ) → (entryOf l k .rollback .commit ≡ None → ⊥) → 1 ≤ k
+some-rollback l zero e = absurd (e (ap (λ t. t .rollback .commit) (entry-zero l)))
+some-rollback l (suc k) e = omega arith
 
 -- ---- a side by its commit status
 pub paired : (a b x : Status) (o : ℕ) → a ≡ b → Paired a x o → Paired b x o

@@ -9,3 +9,5 @@ pub mod Given
 pub mod Marks
 pub mod Audit
 pub mod Guarantees
+pub mod Stages
+pub mod Explained

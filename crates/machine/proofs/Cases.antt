@@ -39,7 +39,7 @@ pub or-cases : {R : Type 0} (a b : Bool) → (a || b) ≡ true → (a ≡ true �
 or-cases true b e f g = f e
 or-cases false b e f g = g e
 
-complete-is : (c : Status) → isComplete c ≡ true → c ≡ Complete
+pub complete-is : (c : Status) → isComplete c ≡ true → c ≡ Complete
 complete-is None e = cc
 complete-is Pending e = cc
 complete-is InProgress e = cc

@@ -11,3 +11,4 @@ pub mod FoldWitnesses
 pub mod Traps
 pub mod Reconnected
 pub mod Retried
+pub mod Waits

@@ -15,3 +15,5 @@ pub mod Built
 pub mod Sessions
 pub mod Witnesses
 pub mod FoldSessions
+pub mod Why
+pub mod WhySessions

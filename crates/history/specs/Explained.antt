@@ -1,0 +1,28 @@
+-- Order 4, stated: a reason that is given is true and the first of those that the job uses, and what it names is so. Proved
+-- in Reasons and Named; that one is given exactly where the job answers 11 is `why-answers` (crate machine, Waits). Assumes
+-- nothing.
+use Prim.Native.Nat.{ℕ, suc, _≤_, _<_}
+use mathlib.Core.Bool.{true, false}
+use mathlib.Core.Path.{_≡_}
+use Rattle.kinds.specs.declared.Status.the-variants.{Pending}
+use Rattle.machine.specs.State.{State, entryOf, last}
+use Rattle.machine.specs.Why.{holds, tried, commitGoes}
+use Rattle.history.specs.Ops.{mem}
+
+-- the reason r, given for job j and number i
+pub record Given (s : State) (j i r : ℕ) : Type 0 where
+  pub used : mem r (tried j) ≡ true
+  pub fits : holds s j i r ≡ true
+  pub before : (q : ℕ) → mem q (tried j) ≡ true → q < r → holds s j i q ≡ false
+
+-- a commit in flight: the next change, the target on it; a change or a rollback in progress; the revision's rollback, the
+-- target on what it returns to
+pub data Flies (s : State) (k : ℕ) : Type 0 where
+  flying : k ≡ suc (s .change .0) → k ≤ last (s .log) → s .committed .head .target .0 ≡ k → Flies s k
+  going : commitGoes (entryOf (s .log) k) ≡ true → Flies s k
+  returning : k ≡ s .committed .head .revision .0 → entryOf (s .log) k .rollback .commit ≡ Pending → s .committed .head .target .0 ≡ entryOf (s .log) k .index .0 → Flies s k
+
+-- and its number is kept
+pub record InFlight (s : State) (k : ℕ) : Type 0 where
+  pub kept : s .log .folded .0 < k
+  pub flies : Flies s k
