@@ -7,3 +7,4 @@ pub mod Folded
 pub mod Freshened
 pub mod Walked
 pub mod Shows
+pub mod Explained

@@ -4,4 +4,5 @@ pub mod Bytes
 pub mod Fresh
 pub mod Live
 pub mod Reads
+pub mod Reasons
 pub mod Promises

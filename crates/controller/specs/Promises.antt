@@ -1,5 +1,5 @@
 -- No second outcome keeps what a public function of this crate promises: `Claims`, `Freshens` (in Fresh), `Lists` (in Live),
--- and here what the reads promise. Assumes nothing.
+-- and here what the reads promise, and `why`. Assumes nothing.
 use Prim.Native.Nat.{ℕ}
 use mathlib.Core.Path.{_≡_}
 use mathlib.Core.List.{List}
@@ -10,10 +10,12 @@ use Rattle.machine.specs.Reads.{Query}
 use Rattle.controller.specs.declared.walking.Listed.{Listed}
 use Rattle.controller.specs.declared.reads.Read.{Read}
 use Rattle.controller.specs.declared.reads.Heads.{Heads}
+use Rattle.controller.specs.declared.reasons.Why.{Why}
 use Rattle.controller.specs.Claims.{Claims}
 use Rattle.controller.specs.Fresh.{Freshens}
 use Rattle.controller.specs.Live.{Lists}
 use Rattle.controller.specs.Reads.{readOf, headsOf}
+use Rattle.controller.specs.Reasons.{whyOf}
 
 -- ---- what changes lent bytes
 pub claims-only : (l : List ℕ) (c : Call) (r q : Reply) (m n : List ℕ) → Claims l c r m → Claims l c q n → (r ≡ q) × (m ≡ n)
@@ -37,3 +39,10 @@ ShowsHeads l r = r ≡ headsOf l
 
 pub shows-heads-only : (l : List ℕ) (r q : Heads) → ShowsHeads l r → ShowsHeads l q → r ≡ q
 shows-heads-only l r q = one
+
+-- ---- why a job does not move
+abbrev pub Explains : List ℕ → (node job number : ℕ) → Why → Type 0
+Explains l n j i r = r ≡ whyOf l n j i
+
+pub explains-only : (l : List ℕ) (n j i : ℕ) (r q : Why) → Explains l n j i r → Explains l n j i q → r ≡ q
+explains-only l n j i r q = one

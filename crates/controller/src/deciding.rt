@@ -110,7 +110,7 @@ fn settled_for(s: &[u8], apply: Status) -> bool
 }
 
 // Whether the line is open for a node.
-fn line(s: &[u8], node: u8) -> bool
+pub fn line(s: &[u8], node: u8) -> bool
     requires { ⌜ (formed (now s) ≡ true) × ((1 ≤ node) × (node ≤ 8)) ⌝ }
     ensures { λ r. ⌜ r ≡ lineOpenFor (view (now (s .entry)) .net) node ⌝ }
 {
@@ -121,7 +121,8 @@ fn line(s: &[u8], node: u8) -> bool
     line_open(node, x, m, t, g)
 }
 
-fn job1(s: &[u8], number: u16, accepted: bool) -> Plan
+// What job 1 plans for an entry.
+pub fn job1(s: &[u8], number: u16, accepted: bool) -> Plan
     requires { ⌜ Entry (now s) number ⌝ }
     ensures { λ r. ⌜ r ≡ job1 (view (now (s .entry))) number accepted ⌝ }
 {
@@ -146,7 +147,8 @@ fn job2(s: &[u8], node: u8, number: u16, accepted: bool) -> Plan
     apply_change(t, h, quiet, Number::of(number), open, accepted)
 }
 
-fn job3(s: &[u8], number: u16) -> Plan
+// What job 3 plans for an entry.
+pub fn job3(s: &[u8], number: u16) -> Plan
     requires { ⌜ Entry (now s) number ⌝ }
     ensures { λ r. ⌜ r ≡ job3 (view (now (s .entry))) number ⌝ }
 {

@@ -6,6 +6,7 @@ ghost use Rattle.machine.specs.Calls.{rollback, start, stop, connect, disconnec
 ghost use Rattle.image.specs.Formed.{formed};
 ghost use Rattle.controller.specs.Claims.{Claims, Does};
 ghost use Rattle.controller.specs.Bytes.{appendOf};
+ghost use Rattle.controller.specs.Promises.{Explains};
 use image::well_formed;
 use kinds::Reply;
 
@@ -17,6 +18,7 @@ mod folding; // folding.rt: the front of the log folded away
 mod clearing; // clearing.rt: a fresh image
 mod walking; // walking.rt: the live list
 mod reads; // reads.rt: one number of the state at a time
+mod reasons; // reasons.rt: why a job answers 11
 
 pub use clearing::fresh;
 pub use image::IMAGE_LENGTH;
@@ -27,6 +29,7 @@ pub use reads::connection;
 pub use reads::record;
 pub use reads::transaction;
 pub use reads::value;
+pub use reasons::Why;
 pub use walking::Listed;
 pub use walking::live;
 
@@ -128,4 +131,18 @@ pub fn fold(s: &mut [u8], number: u16) -> Reply
         return folding::fold(s, number);
     }
     Reply::of(1)
+}
+
+// Why a node's job does not move a number: one reason where it would answer 11. Nothing is changed.
+pub fn why(s: &[u8], node: u16, job: u16, number: u16) -> Why
+    ensures { λ r. ⌜ Explains (now (s .entry)) node job number r ⌝ }
+{
+    if well_formed(s) {
+        return reasons::asked(s, node, job, number);
+    }
+    Why {
+        answer: 1,
+        reason: 0,
+        named: 0,
+    }
 }
