@@ -119,6 +119,7 @@ enum {
     MAKOWIST_LINE_NOT_OPEN = 12,    /* the rule needs an open line */
     MAKOWIST_PUSH_REJECTED = 13,    /* the target rejects a rollback push */
     MAKOWIST_NO_ROOM = 14,          /* the live list is longer than the room lent */
+    MAKOWIST_NOT_WAITING = 15,      /* why, of a job that would not be refused with MAKOWIST_NO_RULE */
     MAKOWIST_NOT_FINISHED = 17,     /* something is left to do of what is to be folded, or is under way */
     MAKOWIST_FOLDED = 18            /* the number is folded */
 };
@@ -147,6 +148,18 @@ enum {
 };
 enum { MAKOWIST_OUTCOME_ACCEPTED = 0, MAKOWIST_OUTCOME_REJECTED = 1 };
 
+/* Why a job does not move a number: what makowist_why answers. In brackets what goes with it. */
+enum {
+    MAKOWIST_REASON_FINISHED = 1,          /* the job has nothing left to do */
+    MAKOWIST_REASON_NO_ROLLBACK_ASKED = 2,
+    MAKOWIST_REASON_EARLIER_CHANGE = 3,    /* an earlier change is not through its commit (its number) */
+    MAKOWIST_REASON_COMMIT_IN_FLIGHT = 4,  /* another commit is under way (its number) */
+    MAKOWIST_REASON_CHANGE_ON_TOP = 5,     /* a later live change lies on top (its number) */
+    MAKOWIST_REASON_NOT_COMMITTED = 6,     /* the commit that is to be applied is not Complete */
+    MAKOWIST_REASON_EARLIER_ORDINAL = 7,   /* an earlier ordinal is not settled (that ordinal) */
+    MAKOWIST_REASON_NONE_FITS = 8          /* in no image that began with makowist_fresh */
+};
+
 /* ---- Names, for printing; "?" for a number that is none. */
 
 static inline const char *makowist_answer_name(uint64_t answer) {
@@ -154,13 +167,20 @@ static inline const char *makowist_answer_name(uint64_t answer) {
         "accepted",          "not well-formed", "out of range",     "not a change",       "log full",
         "no such number",    "no rollback",     "already so",       "target stopped",     "counter at limit",
         "not master",        "no rule",         "line not open",    "push rejected",      "no room",
-        "?",                 "?",               "not finished",     "folded"};
+        "not waiting",       "?",               "not finished",     "folded"};
     return answer < sizeof names / sizeof *names ? names[answer] : "?";
 }
 
 static inline const char *makowist_status_name(uint64_t status) {
     static const char *const names[] = {"None", "Pending", "InProgress", "Complete", "Aborted", "Canceled", "Failed"};
     return status < sizeof names / sizeof *names ? names[status] : "?";
+}
+
+static inline const char *makowist_reason_name(uint64_t reason) {
+    static const char *const names[] = {
+        "?",             "finished",      "no rollback asked", "earlier change", "commit in flight",
+        "change on top", "not committed", "earlier ordinal",   "none fits"};
+    return reason < sizeof names / sizeof *names ? names[reason] : "?";
 }
 
 /* ---- The reply of a call: answer + 2^8 phase + 2^16 stage + 2^24 status + 2^32 number.
@@ -176,6 +196,10 @@ static inline uint16_t makowist_reply_number(uint64_t reply) { return (uint16_t)
 
 /* The reply of a read: answer + 2^32 value; the value is 0 where the read is refused. */
 static inline uint32_t makowist_reply_value(uint64_t reply) { return (uint32_t)(reply >> 32); }
+
+/* The reply of makowist_why: answer + 2^8 reason + 2^32 named; both are 0 where it is refused. */
+static inline unsigned makowist_reply_reason(uint64_t reply) { return (unsigned)(reply >> 8 & 0xff); }
+static inline uint32_t makowist_reply_named(uint64_t reply) { return (uint32_t)(reply >> 32); }
 
 /* ---- Calls that change an image. All but makowist_fresh refuse MAKOWIST_NOT_WELL_FORMED first. */
 
@@ -301,6 +325,12 @@ uint64_t makowist_record(const uint8_t *image, size_t length, uint64_t field);
 /* A field of a node's connection. Refuses MAKOWIST_OUT_OF_RANGE. */
 enum { MAKOWIST_CONNECTION_ID = 1, MAKOWIST_CONNECTION_CONNECTED = 2 };
 uint64_t makowist_connection(const uint8_t *image, size_t length, uint64_t node, uint64_t field);
+
+/* Why a node's job does not move a transaction: where makowist_work answers MAKOWIST_NO_RULE, whatever the outcome and the cut,
+ * the first reason that fits, and the number or the ordinal that it names (0 where it names none). docs/DESK.md says what to do
+ * about each. Refuses MAKOWIST_OUT_OF_RANGE, MAKOWIST_NO_SUCH_NUMBER, MAKOWIST_FOLDED, MAKOWIST_NOT_MASTER, as makowist_work, then
+ * MAKOWIST_NOT_WAITING. */
+uint64_t makowist_why(const uint8_t *image, size_t length, uint64_t node, uint64_t job, uint64_t number);
 
 #ifdef __cplusplus
 }

@@ -1,3 +1,4 @@
 -- The laws of the exports: why its contracts and theorems hold. Assumes nothing.
 pub mod Packed
 pub mod Wider
+pub mod WiderWhy

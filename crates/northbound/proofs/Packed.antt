@@ -13,12 +13,14 @@ use Rattle.image.specs.Formed.{formed}
 use Rattle.image.proofs.Sized.{status-code, code-low}
 use Rattle.controller.specs.declared.reads.Read.{Read}
 use Rattle.controller.specs.declared.walking.Listed.{Listed}
+use Rattle.controller.specs.declared.reasons.Why.{Why}
 use Rattle.controller.specs.Claims as controller
 use Rattle.controller.specs.Fresh as fresh
 use Rattle.controller.specs.Live as live
 use Rattle.controller.specs.Reads.{readOf}
-use Rattle.northbound.specs.Packing.{packed, packedRead, packedListed, low, high, unpacked, unpackedRead, unpackedListed, Packs, PacksRead, PacksListed}
-use Rattle.northbound.specs.Exports.{Claims, Freshens, Lists, Shows, answerOf, Tells}
+use Rattle.controller.specs.Reasons.{whyOf}
+use Rattle.northbound.specs.Packing.{packed, packedRead, packedListed, packedWhy, low, high, unpacked, unpackedRead, unpackedListed, unpackedWhy, Packs, PacksRead, PacksListed, PacksWhy}
+use Rattle.northbound.specs.Exports.{Claims, Freshens, Lists, Shows, Explains, answerOf, Tells}
 
 -- ---- nothing is lost
 -- the four bytes and the number of a sum of five
@@ -77,6 +79,16 @@ pub unpacks-listed : (r : Listed) → r .answer < 256 → unpackedListed (packed
 unfolding packedListed
 unpacks-listed r h = ap₂ (λ (x y : ℕ). record { answer = x; length = y }) (two-low (r .answer) (r .length) h) (two-high (r .answer) (r .length) h)
 
+-- a reason between the two
+pub unpacks-why : (r : Why) → r .answer < 256 → r .reason < 256 → unpackedWhy (packedWhy r) ≡ r
+unfolding packedWhy
+unpacks-why r h k =
+    simp (
+      let e : low (r .answer + 256 * r .reason + 4294967296 * r .named) ≡ r .answer = omega arith in e,
+      let e : low ((r .answer + 256 * r .reason + 4294967296 * r .named) / 256) ≡ r .reason = omega arith in e,
+      let e : high (r .answer + 256 * r .reason + 4294967296 * r .named) ≡ r .named = omega arith in e,
+    )
+
 -- ---- what the code adds up
 pub adds-up : (r : Reply) (s n p : ℕ) → r .answer < 256 → r .event .phase < 256 → r .event .stage < 256 → s ≡ codeOf (r .event .status) → n ≡ r .event .number .0
     → p ≡ r .answer + 256 * r .event .phase + 65536 * r .event .stage + 16777216 * s + 4294967296 * n → Packs r p
@@ -92,6 +104,10 @@ pub adds-up-listed : (r : Listed) → r .answer < 256 → PacksListed r (r .answ
 unfolding packedListed
 adds-up-listed r h = (refl, unpacks-listed r h)
 
+pub adds-up-why : (r : Why) → r .answer < 256 → r .reason < 256 → PacksWhy r (r .answer + 256 * r .reason + 4294967296 * r .named)
+unfolding packedWhy
+adds-up-why r h k = (refl, unpacks-why r h k)
+
 -- ---- the controller's contract, packed
 pub claims : (l : List ℕ) (c : Call) (r : Reply) (m : List ℕ) (p : ℕ) → controller.Claims l c r m → Packs r p → Claims l c p m
 claims l c r m p k e = ((e .0 ∙ ap packed (k .0), e .1 ∙ k .0), k .1)
@@ -104,6 +120,9 @@ lists l m r m′ p k e = ((e .0 ∙ ap packedListed (k .0), e .1 ∙ k .0), k .1
 
 pub shows : (l : List ℕ) (q : Query) (r : Read) (p : ℕ) → r ≡ readOf l q → PacksRead r p → Shows l q p
 shows l q r p k e = (e .0 ∙ ap packedRead k, e .1 ∙ k)
+
+pub explains : (l : List ℕ) (n j i : ℕ) (r : Why) (p : ℕ) → r ≡ whyOf l n j i → PacksWhy r p → Explains l n j i p
+explains l n j i r p k e = (e .0 ∙ ap packedWhy k, e .1 ∙ k)
 
 pub tells : (l : List ℕ) (b c : Bool) → b ≡ formed l → b ≡ c → Tells l (answerOf c)
 tells l b c e t = ap answerOf (sym t ∙ e)

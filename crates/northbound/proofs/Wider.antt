@@ -71,7 +71,7 @@ pub job-far : (n j i o c n′ j′ o′ c′ : ℕ) → small n j i o c ≡ fals
 job-far n j i o c n′ j′ o′ c′ h en ej eo ec = rw (h, en, ej, eo, ec)
 
 -- what holds of a number that is narrowed and of one that is not, holds of every one
-either : {A : Type 0} (f : ℕ → A) (far x : ℕ) → (65535 < x → f far ≡ f x) → f (narrowed far x) ≡ f x
+pub either : {A : Type 0} (f : ℕ → A) (far x : ℕ) → (65535 < x → f far ≡ f x) → f (narrowed far x) ≡ f x
 either f far x h = go (leb x 65535) refl
   where
     go : (b : Bool) → leb x 65535 ≡ b → f (cond b x far) ≡ f x
@@ -79,11 +79,11 @@ either f far x h = go (leb x 65535) refl
     go false e = h (leb-false x 65535 e)
 
 -- a test that holds of nothing past a bound
-and-none : (q : Bool) → (q && false) ≡ false
+pub and-none : (q : Bool) → (q && false) ≡ false
 and-none true = refl
 and-none false = refl
 
-past : (a b x : ℕ) → b < x → (leb a x && leb x b) ≡ false
+pub past : (a b x : ℕ) → b < x → (leb a x && leb x b) ≡ false
 past a b x h = ap (λ q. leb a x && q) (lt-leb x b h) ∙ and-none (leb a x)
 
 -- ---- refused alike
@@ -109,7 +109,7 @@ module _ (l : List ℕ) where
       leb-true (last (view l .log)) 65535 (and-right (leb (length (view l .log .entries)) 128) (leb (last (view l .log)) 65535)
       (and-left (logOk (view l .log)) (headsOk (view l) (last (view l .log)) && (allEntries entryOk (view l .log) && sizesOk (view l))) w))
 
-  past-last : (i : ℕ) → 65535 < i → formed l ≡ true → inLog (view l) i ≡ false
+  pub past-last : (i : ℕ) → 65535 < i → formed l ≡ true → inLog (view l) i ≡ false
   past-last i h e = past 1 (last (view l .log)) i (omega (arith, last-low e))
 
   -- ---- the calls

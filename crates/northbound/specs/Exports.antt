@@ -15,7 +15,8 @@ use Rattle.controller.specs.Claims.{outcomeOf}
 use Rattle.controller.specs.Fresh.{answerIf, imageIf}
 use Rattle.controller.specs.Live.{listingOf}
 use Rattle.controller.specs.Reads.{readOf}
-use Rattle.northbound.specs.Packing.{Packs, PacksRead, PacksListed}
+use Rattle.controller.specs.Reasons.{whyOf}
+use Rattle.northbound.specs.Packing.{Packs, PacksRead, PacksListed, PacksWhy}
 
 abbrev pub Claims : List ℕ → Call → ℕ → List ℕ → Type 0
 Claims l c p m = Packs (outcomeOf l c .reply) p × (m ≡ written l (outcomeOf l c .stores))
@@ -28,6 +29,9 @@ Lists l m p m′ = PacksListed (listingOf l m .listed) p × (m′ ≡ listingOf 
 
 abbrev pub Shows : List ℕ → Query → ℕ → Type 0
 Shows l q p = PacksRead (readOf l q) p
+
+abbrev pub Explains : List ℕ → (node job number : ℕ) → ℕ → Type 0
+Explains l n j i p = PacksWhy (whyOf l n j i) p
 
 -- 0 where it is well-formed, else the refusal
 abbrev pub answerOf : Bool → ℕ

@@ -1,5 +1,5 @@
--- What an answer is as one number: the answer in the lowest byte, and above it the event, or from bit 32 on the number read.
--- Assumes nothing.
+-- What an answer is as one number: the answer in the lowest byte, and above it the event; or from bit 32 on the number read; or
+-- a reason, in the second byte, and from bit 32 on what it names. Assumes nothing.
 use Prim.Native.Nat.{ℕ, _+_, _*_, _/_, _%_}
 use mathlib.Core.Path.{_≡_}
 use Rattle.kinds.specs.declared.Reply.{Reply}
@@ -7,6 +7,7 @@ use Rattle.kinds.specs.Numbers.{num}
 use Rattle.kinds.specs.Statuses.{codeOf, statusOf}
 use Rattle.controller.specs.declared.reads.Read.{Read}
 use Rattle.controller.specs.declared.walking.Listed.{Listed}
+use Rattle.controller.specs.declared.reasons.Why.{Why}
 
 -- answer, phase, stage and status, a byte each, then the number
 unfoldable pub packed : Reply → ℕ
@@ -18,6 +19,9 @@ packedRead r = r .answer + 4294967296 * r .value
 
 unfoldable pub packedListed : Listed → ℕ
 packedListed r = r .answer + 4294967296 * r .length
+
+unfoldable pub packedWhy : Why → ℕ
+packedWhy r = r .answer + 256 * r .reason + 4294967296 * r .named
 
 -- ---- and back
 abbrev pub low : ℕ → ℕ
@@ -36,6 +40,9 @@ unpackedRead p = record { answer = low p; value = high p }
 abbrev pub unpackedListed : ℕ → Listed
 unpackedListed p = record { answer = low p; length = high p }
 
+abbrev pub unpackedWhy : ℕ → Why
+unpackedWhy p = record { answer = low p; reason = low (p / 256); named = high p }
+
 -- ---- a number that is an answer packed, and reads back as that answer: nothing is lost
 abbrev pub Packs : Reply → ℕ → Type 0
 Packs r p = (p ≡ packed r) × (unpacked p ≡ r)
@@ -45,3 +52,6 @@ PacksRead r p = (p ≡ packedRead r) × (unpackedRead p ≡ r)
 
 abbrev pub PacksListed : Listed → ℕ → Type 0
 PacksListed r p = (p ≡ packedListed r) × (unpackedListed p ≡ r)
+
+abbrev pub PacksWhy : Why → ℕ → Type 0
+PacksWhy r p = (p ≡ packedWhy r) × (unpackedWhy p ≡ r)

@@ -5,7 +5,7 @@ use mathlib.Core.List.{List}
 use Rattle.kinds.specs.Outcome.{one}
 use Rattle.machine.specs.Calls.{Call}
 use Rattle.machine.specs.Reads.{Query}
-use Rattle.northbound.specs.Exports.{Claims, Freshens, Lists, Shows, Tells}
+use Rattle.northbound.specs.Exports.{Claims, Freshens, Lists, Shows, Explains, Tells}
 
 pub claims-only : (l : List ℕ) (c : Call) (p q : ℕ) (m n : List ℕ) → Claims l c p m → Claims l c q n → (p ≡ q) × (m ≡ n)
 claims-only l c p q m n a b = (one (a .0 .0) (b .0 .0), one (a .1) (b .1))
@@ -18,6 +18,9 @@ lists-only l room p q m n a b = (one (a .0 .0) (b .0 .0), one (a .1) (b .1))
 
 pub shows-only : (l : List ℕ) (what : Query) (p q : ℕ) → Shows l what p → Shows l what q → p ≡ q
 shows-only l what p q a b = one (a .0) (b .0)
+
+pub explains-only : (l : List ℕ) (n j i p q : ℕ) → Explains l n j i p → Explains l n j i q → p ≡ q
+explains-only l n j i p q a b = one (a .0) (b .0)
 
 pub tells-only : (l : List ℕ) (p q : ℕ) → Tells l p → Tells l q → p ≡ q
 tells-only l p q = one

@@ -6,11 +6,12 @@ ghost use Rattle.machine.specs.Calls.{rollback, start, stop, connect, disconnec
 ghost use Rattle.machine.specs.Reads.{ofTable, ofEntry, ofState, ofNode};
 ghost use Rattle.image.specs.Formed.{formed};
 ghost use Rattle.controller.specs.Bytes.{appendOf};
-ghost use Rattle.northbound.specs.Packing.{Packs, PacksRead, PacksListed};
+ghost use Rattle.northbound.specs.Packing.{Packs, PacksRead, PacksListed, PacksWhy};
 ghost use Rattle.northbound.specs.Wide.{narrowed, handed};
-ghost use Rattle.northbound.specs.Exports.{Claims, Freshens, Lists, Shows, Tells};
+ghost use Rattle.northbound.specs.Exports.{Claims, Freshens, Lists, Shows, Explains, Tells};
 use controller::Listed;
 use controller::Read;
+use controller::Why;
 use image::well_formed;
 use kinds::Reply;
 
@@ -41,6 +42,12 @@ fn pack_listed(r: Listed) -> u64
     ensures { λ p. ⌜ PacksListed r p ⌝ }
 {
     (r.answer as u64) + 4294967296 * (r.length as u64)
+}
+
+fn pack_why(r: Why) -> u64
+    ensures { λ p. ⌜ PacksWhy r p ⌝ }
+{
+    (r.answer as u64) + 256 * (r.reason as u64) + 4294967296 * (r.named as u64)
 }
 
 // ---- a number of C's, of 64 bits: one that is no 16-bit number is refused, or handed on as another that is refused as it is
@@ -269,4 +276,15 @@ pub extern "C" fn makowist_connection(image: &[u8], node: u64, field: u64) -> u6
     }
     let n = narrow(node, OUTSIDE);
     pack_read(controller::connection(image, n, field as u16))
+}
+
+// Why a node's job does not move a number: a reason, 1 to 8, and what it names; 15 where the job would not answer 11.
+#[no_mangle]
+pub extern "C" fn makowist_why(image: &[u8], node: u64, job: u64, number: u64) -> u64
+    ensures { λ r. ⌜ Explains (now (image .entry)) node job number r ⌝ }
+{
+    let n = narrow(node, OUTSIDE);
+    let j = narrow(job, OUTSIDE);
+    let i = narrow(number, NONE);
+    pack_why(controller::why(image, n, j, i))
 }
