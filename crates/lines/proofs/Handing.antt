@@ -113,6 +113,7 @@ each =
     & (λ n. record { calls = refl; bytes = refl; small = tt })
     & (λ n j i o c. record { calls = refl; bytes = refl; small = tt })
     & (λ n. record { calls = refl; bytes = refl; small = tt })
+    & (λ n j i. record { calls = refl; bytes = refl; small = tt })
     & tt
 
 row-small : {d : List ℕ} {ps : List Pair} → Row d ps → Small ps

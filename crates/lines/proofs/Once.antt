@@ -8,10 +8,10 @@ use Rattle.machine.specs.Calls as machine
 use Rattle.machine.specs.Calls.{Pair}
 use Rattle.lines.specs.Text.{text}
 use Rattle.lines.specs.Decimal.{isDigit}
-use Rattle.lines.specs.Forms.{Asked, calls}
+use Rattle.lines.specs.Forms.{Asked, calls, why}
 use Rattle.lines.specs.Grammar.{allDigits, tenfold, Number, pair, Row, one, more, Says}
 use Rattle.lines.specs.declared.reading.Call.{Call}
-use Rattle.lines.specs.declared.reading.Call.the-variants.{Append, Rollback, Start, Stop, Connect, Disconnect, Master, Sync, Work, Fold, Unreadable}
+use Rattle.lines.specs.declared.reading.Call.the-variants.{Append, Rollback, Start, Stop, Connect, Disconnect, Master, Sync, Work, Fold, Why, Unreadable}
 use Rattle.lines.specs.Handed.{callFor, pairsIn}
 use Rattle.lines.proofs.Readable.{hands-once}
 use Rattle.lines.proofs.Paper as paper
@@ -95,6 +95,7 @@ appends (Master n) = false
 appends (Sync n) = false
 appends (Work n j i o c) = false
 appends (Fold n) = false
+appends (Why n j i) = false
 appends Unreadable = false
 
 abbrev key : List ℕ
@@ -105,7 +106,7 @@ data Held (l : List ℕ) (ps : List Pair) : Type 0 where
   empty : l ≡ key → ps ≡ [] → Held l ps
   row : (r : List ℕ) → l ≡ key ++ r → Row r ps → Held l ps
 
-held : {l : List ℕ} {c : machine.Call} → Line l c → appends (callFor (calls c)) ≡ true → Held l (pairsIn (calls c))
+held : {l : List ℕ} {x : Asked} → Line l x → appends (callFor x) ≡ true → Held l (pairsIn x)
 held paper.line-no-pairs e = empty refl refl
 held (paper.line-append {l = l} r) e = row l refl r
 held (paper.line-rollback x) e = absurd (true≢false (sym e))
@@ -117,6 +118,7 @@ held (paper.line-master x) e = absurd (true≢false (sym e))
 held (paper.line-sync x) e = absurd (true≢false (sym e))
 held (paper.line-work x y z u w) e = absurd (true≢false (sym e))
 held (paper.line-fold x) e = absurd (true≢false (sym e))
+held (paper.line-why x y z) e = absurd (true≢false (sym e))
 
 held-once : {l : List ℕ} {ps qs : List Pair} → Held l ps → Held l qs → ps ≡ qs
 held-once (empty e f) (empty g h) = f ∙ sym h
@@ -135,6 +137,7 @@ no-pairs (calls (machine.master n)) e = refl
 no-pairs (calls (machine.sync n)) e = refl
 no-pairs (calls (machine.work n j i o c)) e = refl
 no-pairs (calls (machine.foldTo n)) e = refl
+no-pairs (why n j i) e = refl
 
 pairs-once : {l : List ℕ} {x y : Asked} → Says l x → Says l y → pairsIn x ≡ pairsIn y
 pairs-once {l} {x} {y} s t = go (appends (callFor x)) refl
@@ -163,6 +166,7 @@ askedOf (Master n) ps = calls (machine.master n)
 askedOf (Sync n) ps = calls (machine.sync n)
 askedOf (Work n j i o c) ps = calls (machine.work n j i o c)
 askedOf (Fold n) ps = calls (machine.foldTo n)
+askedOf (Why n j i) ps = why n j i
 askedOf Unreadable ps = calls machine.stop
 
 asked-back : (x : Asked) → askedOf (callFor x) (pairsIn x) ≡ x
@@ -176,6 +180,7 @@ asked-back (calls (machine.master n)) = refl
 asked-back (calls (machine.sync n)) = refl
 asked-back (calls (machine.work n j i o c)) = refl
 asked-back (calls (machine.foldTo n)) = refl
+asked-back (why n j i) = refl
 
 pub says-once : {l : List ℕ} {x y : Asked} → Says l x → Says l y → x ≡ y
 says-once {x = x} {y = y} s t = sym (asked-back x) ∙ ap₂ askedOf (hands-once s t) (pairs-once s t) ∙ asked-back y

@@ -1,4 +1,4 @@
--- The paper's nine lines and the fold's, each written out, are what the table says, and nothing else is. Assumes nothing.
+-- The paper's nine lines, the fold's and why's, each written out, are what the table says, and nothing else is. Assumes nothing.
 use Prim.Native.Nat.{ℕ}
 use mathlib.Core.Path.{_≡_, refl, ap, sym, subst, _∙_}
 use mathlib.Core.List.{List, [], _∷_, _++_, append-assoc, append-nil}
@@ -6,25 +6,28 @@ use mathlib.Core.Bool.{Bool, true, _&&_}
 use Rattle.machine.specs.Calls as machine
 use Rattle.machine.specs.Calls.{Pair}
 use Rattle.lines.specs.Text.{text}
-use Rattle.lines.specs.Forms.{Asked, calls, Token, letter, number, pairs, Asks, Form, forms}
+use Rattle.lines.specs.Forms.{Asked, calls, why, Token, letter, number, pairs, Asks, Form, forms}
 use Rattle.lines.specs.Grammar.{flat, isWord, Number, Row, Fits, fits-end, fits-letter, fits-number, fits-none, fits-pairs, Among, here, there, Says}
 use Rattle.lines.proofs.Classes.{and-left, and-right}
 use Rattle.lines.proofs.Each.{_&_, Each, each-among}
 
-pub data Line : List ℕ → machine.Call → Type 0 where
-  line-no-pairs : Line (text "call=append pairs=") (machine.append [])
-  line-append : {l : List ℕ} {ps : List Pair} → Row l ps → Line (text "call=append pairs=" ++ l) (machine.append ps)
-  line-rollback : {d : List ℕ} {n : ℕ} → Number d n → Line (text "call=rollback number=" ++ d) (machine.rollback n)
-  line-start : Line (text "call=start") machine.start
-  line-stop : Line (text "call=stop") machine.stop
-  line-connect : {d : List ℕ} {n : ℕ} → Number d n → Line (text "call=connect node=" ++ d) (machine.connect n)
-  line-disconnect : {d : List ℕ} {n : ℕ} → Number d n → Line (text "call=disconnect node=" ++ d) (machine.disconnect n)
-  line-master : {d : List ℕ} {n : ℕ} → Number d n → Line (text "call=master node=" ++ d) (machine.master n)
-  line-sync : {d : List ℕ} {n : ℕ} → Number d n → Line (text "call=sync node=" ++ d) (machine.sync n)
+pub data Line : List ℕ → Asked → Type 0 where
+  line-no-pairs : Line (text "call=append pairs=") (calls (machine.append []))
+  line-append : {l : List ℕ} {ps : List Pair} → Row l ps → Line (text "call=append pairs=" ++ l) (calls (machine.append ps))
+  line-rollback : {d : List ℕ} {n : ℕ} → Number d n → Line (text "call=rollback number=" ++ d) (calls (machine.rollback n))
+  line-start : Line (text "call=start") (calls machine.start)
+  line-stop : Line (text "call=stop") (calls machine.stop)
+  line-connect : {d : List ℕ} {n : ℕ} → Number d n → Line (text "call=connect node=" ++ d) (calls (machine.connect n))
+  line-disconnect : {d : List ℕ} {n : ℕ} → Number d n → Line (text "call=disconnect node=" ++ d) (calls (machine.disconnect n))
+  line-master : {d : List ℕ} {n : ℕ} → Number d n → Line (text "call=master node=" ++ d) (calls (machine.master n))
+  line-sync : {d : List ℕ} {n : ℕ} → Number d n → Line (text "call=sync node=" ++ d) (calls (machine.sync n))
   line-work :
       {a b d e f : List ℕ} {n j i o c : ℕ} → Number a n → Number b j → Number d i → Number e o → Number f c →
-      Line (text "call=work node=" ++ a ++ text " job=" ++ b ++ text " number=" ++ d ++ text " outcome=" ++ e ++ text " cut=" ++ f) (machine.work n j i o c)
-  line-fold : {d : List ℕ} {n : ℕ} → Number d n → Line (text "call=fold number=" ++ d) (machine.foldTo n)
+      Line (text "call=work node=" ++ a ++ text " job=" ++ b ++ text " number=" ++ d ++ text " outcome=" ++ e ++ text " cut=" ++ f) (calls (machine.work n j i o c))
+  line-fold : {d : List ℕ} {n : ℕ} → Number d n → Line (text "call=fold number=" ++ d) (calls (machine.foldTo n))
+  line-why :
+      {a b d : List ℕ} {n j i : ℕ} → Number a n → Number b j → Number d i →
+      Line (text "call=why node=" ++ a ++ text " job=" ++ b ++ text " number=" ++ d) (why n j i)
 
 -- ---- a text of letters at the front of a form
 abbrev letters : List ℕ → List Token → List Token
@@ -85,8 +88,16 @@ work-fits x y z u w =
     (fits-number z (fits-text (text " outcome=") refl
     (fits-number u (fits-text (text " cut=") refl (at-end w)))))))))
 
+why-fits :
+    {a b d : List ℕ} {n j i : ℕ} → Number a n → Number b j → Number d i →
+    Fits (letters (text "call=why node=") (number ∷ letters (text " job=") (number ∷ letters (text " number=") (number ∷ [])))) (λ n j i. why n j i)
+    (text "call=why node=" ++ (a ++ (text " job=" ++ (b ++ (text " number=" ++ d))))) (n ∷ j ∷ i ∷ []) (why n j i)
+why-fits x y z =
+    fits-text (text "call=why node=") refl
+    (fits-number x (fits-text (text " job=") refl (fits-number y (fits-text (text " number=") refl (at-end z)))))
+
 -- ---- each line of the paper is said
-pub line-says : {l : List ℕ} {c : machine.Call} → Line l c → Says l (calls c)
+pub line-says : {l : List ℕ} {x : Asked} → Line l x → Says l x
 unfolding flat
 line-says line-no-pairs = says-by (there (there (there here))) (fits-text (text "call=append pairs=") refl (fits-none fits-end))
 line-says (line-append {l} {ps} r) =
@@ -111,34 +122,43 @@ line-says (line-work {a} {b} {d} {e} {f} {n} {j} {i} {o} {c} x y z u w) =
         text "call=work node=" ++ (a ++ (text " job=" ++ (b ++ (text " number=" ++ (d ++ (text " outcome=" ++ (e ++ (text " cut=" ++ f))))))))
         ≡ text "call=work node=" ++ a ++ text " job=" ++ b ++ text " number=" ++ d ++ text " outcome=" ++ e ++ text " cut=" ++ f
     regroup a b d e f = simp append-assoc
+line-says (line-why {a} {b} {d} {n} {j} {i} x y z) =
+    subst (λ (k : List ℕ). Says k (why n j i)) (regroup a b d)
+    (says-by (there (there (there (there (there (there (there (there (there (there here)))))))))) (why-fits x y z))
+  where
+    regroup :
+        (a b d : List ℕ) →
+        text "call=why node=" ++ (a ++ (text " job=" ++ (b ++ (text " number=" ++ d))))
+        ≡ text "call=why node=" ++ a ++ text " job=" ++ b ++ text " number=" ++ d
+    regroup a b d = simp append-assoc
 
 -- ---- and what a row says is one of those lines
 pub record Lined (l : List ℕ) (x : Asked) : Type 0 where
-  pub call : machine.Call
-  pub is : x ≡ calls call
-  pub line : Line l call
+  pub asked : Asked
+  pub is : x ≡ asked
+  pub line : Line l asked
 
 moved : {l l′ : List ℕ} {x : Asked} → l ≡ l′ → Lined l′ x → Lined l x
 moved {x = x} e y = subst (λ (k : List ℕ). Lined k x) (sym e) y
 
 single :
-    (t : List ℕ) (a : ℕ → machine.Call) {l ns : List ℕ} {x : Asked} → ((d : List ℕ) (n : ℕ) → Number d n → Line (t ++ d) (a n)) →
-    Fits (letters t (number ∷ [])) (within t (number ∷ []) (λ n. calls (a n))) l ns x → Lined l x
+    (t : List ℕ) (a : ℕ → Asked) {l ns : List ℕ} {x : Asked} → ((d : List ℕ) (n : ℕ) → Number d n → Line (t ++ d) (a n)) →
+    Fits (letters t (number ∷ [])) (within t (number ∷ []) a) l ns x → Lined l x
 single t a f y =
-    let z = text-rest t (number ∷ []) (λ n. calls (a n)) y in
-    let w = last (λ n. calls (a n)) (z .fits) in
-    moved (z .is) (record { call = a (w .n); is = w .is; line = f (z .rest) (w .n) (w .number) })
+    let z = text-rest t (number ∷ []) a y in
+    let w = last a (z .fits) in
+    moved (z .is) (record { asked = a (w .n); is = w .is; line = f (z .rest) (w .n) (w .number) })
 
-ended : (t : List ℕ) (c : machine.Call) {l ns : List ℕ} {x : Asked} → Line t c → Fits [] (calls c) l ns x → Lined (t ++ l) x
-ended t c k fits-end = record { call = c; is = refl; line = subst (λ (l : List ℕ). Line l c) (sym (append-nil t)) k }
+ended : (t : List ℕ) (c : Asked) {l ns : List ℕ} {x : Asked} → Line t c → Fits [] c l ns x → Lined (t ++ l) x
+ended t c k fits-end = record { asked = c; is = refl; line = subst (λ (l : List ℕ). Line l c) (sym (append-nil t)) k }
 
-bare : (t : List ℕ) (c : machine.Call) {l ns : List ℕ} {x : Asked} → Line t c → Fits (letters t []) (within t [] (calls c)) l ns x → Lined l x
-bare t c k y = let z = text-rest t [] (calls c) y in moved (z .is) (ended t c k (z .fits))
+bare : (t : List ℕ) (c : Asked) {l ns : List ℕ} {x : Asked} → Line t c → Fits (letters t []) (within t [] c) l ns x → Lined l x
+bare t c k y = let z = text-rest t [] c y in moved (z .is) (ended t c k (z .fits))
 
 with-pairs : {l ns : List ℕ} {x : Asked} → Fits (pairs ∷ []) (λ ps. calls (machine.append ps)) l ns x → Lined (text "call=append pairs=" ++ l) x
-with-pairs (fits-none fits-end) = record { call = machine.append []; is = refl; line = line-no-pairs }
+with-pairs (fits-none fits-end) = record { asked = calls (machine.append []); is = refl; line = line-no-pairs }
 with-pairs (fits-pairs {d} {ps} r fits-end) =
-    record { call = machine.append ps; is = refl; line = line-append (subst (λ (z : List ℕ). Row z ps) (sym (append-nil d)) r) }
+    record { asked = calls (machine.append ps); is = refl; line = line-append (subst (λ (z : List ℕ). Row z ps) (sym (append-nil d)) r) }
 
 appended : {l ns : List ℕ} {x : Asked} → Fits (letters (text "call=append pairs=") (pairs ∷ [])) (λ ps. calls (machine.append ps)) l ns x → Lined l x
 appended y = let z = text-rest (text "call=append pairs=") (pairs ∷ []) (λ ps. calls (machine.append ps)) y in moved (z .is) (with-pairs (z .fits))
@@ -195,7 +215,7 @@ last-key a b d e n j i o u v w s y =
     let z = text-rest (text " cut=") W5 (asks-work n j i o) y in
     let k = last (asks-work n j i o) (z .fits) in
     moved (ap (λ (r : List ℕ). Behind a b d e r) (z .is) ∙ regroup (z .rest))
-    (record { call = machine.work n j i o (k .n); is = k .is; line = line-work u v w s (k .number) })
+    (record { asked = asks-work n j i o (k .n); is = k .is; line = line-work u v w s (k .number) })
   where
     regroup :
         (f : List ℕ) → Behind a b d e (text " cut=" ++ f) ≡
@@ -213,6 +233,33 @@ worked {x = x} y =
     (λ r. Lined (text "call=work node=" ++ (a ++ (text " job=" ++ (b ++ (text " number=" ++ (d ++ r)))))) x) y3
     (λ e o r4 ns4 s y4. last-key a b d e n j i o u v w s y4))))
 
+-- ---- why: three
+abbrev Y3 : List Token
+Y3 = letters (text " number=") (number ∷ [])
+
+abbrev Y2 : List Token
+Y2 = letters (text " job=") (number ∷ Y3)
+
+third-key :
+    (a b : List ℕ) (n j : ℕ) {l ns : List ℕ} {x : Asked} → Number a n → Number b j → Fits Y3 (why n j) l ns x →
+    Lined (text "call=why node=" ++ (a ++ (text " job=" ++ (b ++ l)))) x
+third-key a b n j u v y =
+    let z = text-rest (text " number=") (number ∷ []) (why n j) y in
+    let k = last (why n j) (z .fits) in
+    moved (ap (λ (r : List ℕ). text "call=why node=" ++ (a ++ (text " job=" ++ (b ++ r)))) (z .is) ∙ regroup (z .rest))
+    (record { asked = why n j (k .n); is = k .is; line = line-why u v (k .number) })
+  where
+    regroup :
+        (d : List ℕ) → text "call=why node=" ++ (a ++ (text " job=" ++ (b ++ (text " number=" ++ d)))) ≡
+        text "call=why node=" ++ a ++ text " job=" ++ b ++ text " number=" ++ d
+    regroup d = simp append-assoc
+
+asked-why : {l ns : List ℕ} {x : Asked} → Fits (letters (text "call=why node=") (number ∷ Y2)) why l ns x → Lined l x
+asked-why {x = x} y =
+    behind-key (text "call=why node=") Y2 why (λ r. Lined r x) y
+    (λ a n r1 ns1 u y1. behind-key (text " job=") Y3 (why n) (λ r. Lined (text "call=why node=" ++ (a ++ r)) x) y1
+    (λ b j r2 ns2 v y2. third-key a b n j u v y2))
+
 -- ---- each row
 LinesOf : Form → Type 0
 LinesOf f = (l ns : List ℕ) (x : Asked) → Fits (f .form) (f .asks) l ns x → Lined l x
@@ -220,16 +267,17 @@ LinesOf f = (l ns : List ℕ) (x : Asked) → Fits (f .form) (f .asks) l ns x �
 each : Each LinesOf forms
 unfolding LinesOf
 each =
-    (λ l ns x y. bare (text "call=stop") machine.stop line-stop y)
-    & (λ l ns x y. bare (text "call=start") machine.start line-start y)
-    & (λ l ns x y. single (text "call=sync node=") machine.sync (λ d n k. line-sync k) y)
+    (λ l ns x y. bare (text "call=stop") (calls machine.stop) line-stop y)
+    & (λ l ns x y. bare (text "call=start") (calls machine.start) line-start y)
+    & (λ l ns x y. single (text "call=sync node=") (λ n. calls (machine.sync n)) (λ d n k. line-sync k) y)
     & (λ l ns x y. appended y)
-    & (λ l ns x y. single (text "call=connect node=") machine.connect (λ d n k. line-connect k) y)
-    & (λ l ns x y. single (text "call=disconnect node=") machine.disconnect (λ d n k. line-disconnect k) y)
-    & (λ l ns x y. single (text "call=master node=") machine.master (λ d n k. line-master k) y)
-    & (λ l ns x y. single (text "call=rollback number=") machine.rollback (λ d n k. line-rollback k) y)
+    & (λ l ns x y. single (text "call=connect node=") (λ n. calls (machine.connect n)) (λ d n k. line-connect k) y)
+    & (λ l ns x y. single (text "call=disconnect node=") (λ n. calls (machine.disconnect n)) (λ d n k. line-disconnect k) y)
+    & (λ l ns x y. single (text "call=master node=") (λ n. calls (machine.master n)) (λ d n k. line-master k) y)
+    & (λ l ns x y. single (text "call=rollback number=") (λ n. calls (machine.rollback n)) (λ d n k. line-rollback k) y)
     & (λ l ns x y. worked y)
-    & (λ l ns x y. single (text "call=fold number=") machine.foldTo (λ d n k. line-fold k) y)
+    & (λ l ns x y. single (text "call=fold number=") (λ n. calls (machine.foldTo n)) (λ d n k. line-fold k) y)
+    & (λ l ns x y. asked-why y)
     & tt
 
 pub says-line : {l : List ℕ} {x : Asked} → Says l x → Lined l x

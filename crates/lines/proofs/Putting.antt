@@ -14,7 +14,7 @@ use Rattle.kinds.specs.declared.Reply.{Reply}
 use Rattle.kinds.specs.Statuses.{codeOf}
 use Rattle.lines.specs.Text.{text}
 use Rattle.lines.specs.Decimal.{spelled, decimal}
-use Rattle.lines.specs.Replies.{filledFrom, replyLine, closingLine, Put, Written}
+use Rattle.lines.specs.Replies.{filledFrom, replyLine, whyLine, closingLine, Put, Written}
 
 -- ---- a text put after a text is both put at once
 sets-append : (s t l : List ℕ) (i : ℕ) → sets (sets l i s) (i + length s) t ≡ sets l i (s ++ t)
@@ -114,6 +114,9 @@ five a b c d e f g h i j t = simp append-assoc
 four : (a b c d e f g h t : List ℕ) → ((((a ++ b) ++ (c ++ d)) ++ (e ++ f)) ++ (g ++ h)) ++ t ≡ a ++ (b ++ (c ++ (d ++ (e ++ (f ++ (g ++ (h ++ t)))))))
 four a b c d e f g h t = simp append-assoc
 
+three : (a b c d e f t : List ℕ) → (((a ++ b) ++ (c ++ d)) ++ (e ++ f)) ++ t ≡ a ++ (b ++ (c ++ (d ++ (e ++ (f ++ t)))))
+three a b c d e f t = simp append-assoc
+
 pub reply-filled : (r : Reply) (n s : ℕ) → n ≡ r .event .number .0 → s ≡ codeOf (r .event .status) →
     (((((text "answer=" ++ decimal (r .answer)) ++ (text " phase=" ++ decimal (r .event .phase))) ++ (text " stage=" ++ decimal (r .event .stage)))
     ++ (text " number=" ++ decimal n)) ++ (text " status=" ++ decimal s)) ++ text "\n" ≡ replyLine r
@@ -130,6 +133,11 @@ unfolding closingLine filledFrom
 closing-filled c o a u =
     four (text "committed=") (decimal c) (text " committed_ordinal=") (decimal o) (text " applied=") (decimal a) (text " applied_ordinal=") (decimal u)
     (text "\n")
+
+pub why-filled : (a r k : ℕ) →
+    (((text "answer=" ++ decimal a) ++ (text " reason=" ++ decimal r)) ++ (text " named=" ++ decimal k)) ++ text "\n" ≡ whyLine a r k
+unfolding whyLine filledFrom
+why-filled a r k = three (text "answer=") (decimal a) (text " reason=") (decimal r) (text " named=") (decimal k) (text "\n")
 
 -- ---- a whole line
 written : {l m t : List ℕ} {e : ℕ} → Put l 0 t e m → 96 ≤ length l → e ≤ length l → Written l t e m

@@ -16,7 +16,7 @@ use Rattle.machine.specs.Step.{outcome, step}
 use Rattle.lines.specs.declared.reading.Call.{Call}
 use Rattle.lines.specs.declared.reading.Call.the-variants.{Unreadable}
 use Rattle.lines.specs.declared.reading.Reader.{Reader}
-use Rattle.lines.specs.Forms.{Asked, calls}
+use Rattle.lines.specs.Forms.{Asked, calls, why}
 use Rattle.lines.specs.Grammar.{Says}
 use Rattle.lines.specs.Reading.{twoBytes, pushed, fresh, kept, keptIn, tagOf, callOf, lineOf, finished, ran, said, saidIn}
 use Rattle.lines.specs.Handed.{Hands, callFor}
@@ -75,6 +75,7 @@ told-apart (calls (machine.master n)) e = let z : _≡_ {A = ℕ} 0 1 = cc in om
 told-apart (calls (machine.sync n)) e = let z : _≡_ {A = ℕ} 0 1 = cc in omega arith
 told-apart (calls (machine.work n j i o c)) e = let z : _≡_ {A = ℕ} 0 1 = cc in omega arith
 told-apart (calls (machine.foldTo n)) e = let z : _≡_ {A = ℕ} 0 1 = cc in omega arith
+told-apart (why n j i) e = let z : _≡_ {A = ℕ} 0 1 = cc in omega arith
 
 module _ (m l : List ℕ) where
   -- a readable line: the grammar has it as asking for something, and that is handed on

@@ -14,6 +14,7 @@ use Rattle.lines.specs.Text.{text}
 -- what a line asks for
 pub data Asked : Type 0 where
   calls : machine.Call → Asked
+  why : (node job number : ℕ) → Asked
 
 -- what stands at a place of a form
 pub data Token : Type 0 where
@@ -64,6 +65,7 @@ forms =
     ∷ row "call=rollback number=#" "R" (λ n. calls (machine.rollback n))
     ∷ row "call=work node=# job=# number=# outcome=# cut=#" "W" (λ n j i o c. calls (machine.work n j i o c))
     ∷ row "call=fold number=#" "F" (λ n. calls (machine.foldTo n))
+    ∷ row "call=why node=# job=# number=#" "Q" (λ n j i. why n j i)
     ∷ []
 
 -- ---- the table as the code has it: for each row 64 letters, a newline, its text, its tag and dots

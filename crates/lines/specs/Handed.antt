@@ -9,8 +9,8 @@ use Rattle.machine.specs.Calls as machine
 use Rattle.machine.specs.Calls.{Pair}
 use Rattle.lines.specs.declared.reading.Line.{Line}
 use Rattle.lines.specs.declared.reading.Call.{Call}
-use Rattle.lines.specs.declared.reading.Call.the-variants.{Append, Rollback, Start, Stop, Connect, Disconnect, Master, Sync, Work, Fold}
-use Rattle.lines.specs.Forms.{Asked, calls}
+use Rattle.lines.specs.declared.reading.Call.the-variants.{Append, Rollback, Start, Stop, Connect, Disconnect, Master, Sync, Work, Fold, Why}
+use Rattle.lines.specs.Forms.{Asked, calls, why}
 use Rattle.lines.specs.Grammar.{flat}
 use Rattle.lines.specs.Reading.{twoBytes}
 
@@ -25,6 +25,7 @@ callFor (calls (machine.master n)) = Master n
 callFor (calls (machine.sync n)) = Sync n
 callFor (calls (machine.work n j i o c)) = Work n j i o c
 callFor (calls (machine.foldTo n)) = Fold n
+callFor (why n j i) = Why n j i
 
 -- the pairs that stand beside the call
 abbrev pub pairsIn : Asked → List Pair
@@ -38,6 +39,7 @@ pairsIn (calls (machine.master n)) = []
 pairsIn (calls (machine.sync n)) = []
 pairsIn (calls (machine.work n j i o c)) = []
 pairsIn (calls (machine.foldTo n)) = []
+pairsIn (why n j i) = []
 
 -- the first five of them at most: path and value in two bytes each, the low one first
 abbrev pub pairsFor : Asked → List ℕ

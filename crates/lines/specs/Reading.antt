@@ -168,7 +168,8 @@ callOf t a b c d e =
     (cond (eqb t 89) (call.Sync a)
     (cond (eqb t 87) (call.Work a b c d e)
     (cond (eqb t 70) (call.Fold a)
-    call.Unreadable)))))))))
+    (cond (eqb t 81) (call.Why a b c)
+    call.Unreadable))))))))))
 
 -- the bytes of the room that are lent on: all there are, at most
 abbrev pub bytesOf : ℕ → ℕ

@@ -33,6 +33,10 @@ replyLine r =
     filled (text "answer=# phase=# stage=# number=# status=#\n")
     (r .answer ∷ r .event .phase ∷ r .event .stage ∷ r .event .number .0 ∷ codeOf (r .event .status) ∷ [])
 
+-- the answer, the reason and what it names (order 4)
+unfoldable pub whyLine : (answer reason named : ℕ) → List ℕ
+whyLine a r k = filled (text "answer=# reason=# named=#\n") (a ∷ r ∷ k ∷ [])
+
 -- at the end the committed and applied revision and ordinal
 unfoldable pub closingLine : (committed committedOrdinal applied appliedOrdinal : ℕ) → List ℕ
 closingLine c o a u = filled (text "committed=# committed_ordinal=# applied=# applied_ordinal=#\n") (c ∷ o ∷ a ∷ u ∷ [])

@@ -11,3 +11,4 @@ pub use reading::push;
 pub use reading::read;
 pub use writing::write_closing;
 pub use writing::write_reply;
+pub use writing::write_why;

@@ -32,6 +32,8 @@ const WORK: [u8; 64] = *b"\ncall=work node=# job=# number=# outcome=# cut=#W....
 
 const FOLD: [u8; 64] = *b"\ncall=fold number=#F............................................";
 
+const WHY: [u8; 64] = *b"\ncall=why node=# job=# number=#Q................................";
+
 // Where the line so far leads: a place of the table; how much has come of what a mark there takes; the number that is being
 // read; how many bytes of the room the numbers take that ended.
 pub struct Reader {
@@ -60,6 +62,11 @@ pub enum Call {
         cut: u16,
     },
     Fold(u16),
+    Why {
+        node: u16,
+        job: u16,
+        number: u16,
+    },
 }
 
 // A line that was read. The pairs of an append, the first five of them at most, are the first `length` bytes of the room, four
@@ -93,6 +100,7 @@ fn letter(at: usize) -> u8
         7 => cell(ROLLBACK, column),
         8 => cell(WORK, column),
         9 => cell(FOLD, column),
+        10 => cell(WHY, column),
         _ => 0,
     }
 }
@@ -404,6 +412,11 @@ fn call_of(tag: u8, a: u16, b: u16, c: u16, d: u16, e: u16) -> Call
             cut: e,
         },
         b'F' => Call::Fold(a),
+        b'Q' => Call::Why {
+            node: a,
+            job: b,
+            number: c,
+        },
         _ => Call::Unreadable,
     }
 }

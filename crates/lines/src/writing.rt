@@ -4,7 +4,7 @@ ghost use Prim.Native.Nat.{_+_, _≤_, _<_};
 ghost use lib.ListN.{length};
 ghost use mathlib.Core.List.{_++_};
 ghost use Rattle.lines.specs.Decimal.{decimal};
-ghost use Rattle.lines.specs.Replies.{replyLine, closingLine, Put, Written};
+ghost use Rattle.lines.specs.Replies.{replyLine, whyLine, closingLine, Put, Written};
 use kinds::Reply;
 
 // The decimal digits of `n` from `at` on; answers where they end.
@@ -61,6 +61,19 @@ pub fn write_reply(out: &mut [u8], reply: Reply) -> usize
     let d = put_keyed(out, c, b" number=", n as u32);
     let e = put_keyed(out, d, b" status=", s as u32);
     put_text(out, e, b"\n")
+}
+
+// The same for the answer of `why`.
+pub fn write_why(out: &mut [u8], answer: u8, reason: u8, named: u32) -> usize
+    ensures { λ r. ⌜ Written (now (out .entry)) (whyLine answer reason named) r (now (out .exit)) ⌝ }
+{
+    if out.len() < 96 {
+        return 0;
+    }
+    let a = put_keyed(out, 0, b"answer=", answer as u32);
+    let b = put_keyed(out, a, b" reason=", reason as u32);
+    let c = put_keyed(out, b, b" named=", named);
+    put_text(out, c, b"\n")
 }
 
 // The same for the closing line.

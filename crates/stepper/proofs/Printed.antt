@@ -1,58 +1,73 @@
--- THE PROGRAM: from the image that `fresh` makes, what is handed on to be written is what the machine's steps reply to the lines
--- of the input, however the reads cut it, and then the heads of the state that is reached. Assumes nothing.
+-- THE PROGRAM: from the image that `fresh` makes, what is handed on to be written is what the machine answers to the lines of
+-- the input, however the reads cut it, and then the heads of the state that is reached. Assumes nothing.
 use Prim.Native.Nat.{ℕ}
 use mathlib.Core.Path.{_≡_, refl, ap, sym, subst, _∙_}
 use mathlib.Core.Logic.{_⊎_, inl, inr}
 use mathlib.Core.Bool.{Bool, true}
-use mathlib.Core.List.{List, [], _∷_, _++_}
+use mathlib.Core.List.{List, _++_}
 use borrow.Author.Tests.{eq-eqb}
 use lib.ListN.{length, take, replicate}
 use Rattle.kinds.specs.declared.Reply.{Reply}
 use Rattle.machine.specs.State.{State, fresh}
+use Rattle.machine.specs.Why as machine
 use Rattle.fields.proofs.Laws.{Bytes}
 use Rattle.image.specs.Layout.{imageLength}
 use Rattle.image.specs.View.{view}
 use Rattle.image.specs.Formed.{formed}
 use Rattle.image.specs.Fresh.{freshImage}
 use Rattle.image.proofs.Freshened.{shows-fresh, formed-fresh}
-use Rattle.lines.specs.Forms.{Asked, calls}
+use Rattle.lines.specs.Forms.{Asked, calls, why}
 use Rattle.lines.specs.Grammar.{Says}
 use Rattle.lines.proofs.Readable.{Readable, Unread, read-right}
 use Rattle.controller.specs.Fresh.{imageIf, Freshens}
 use Rattle.controller.specs.Reads.{headsOf, headsIn}
+use Rattle.controller.specs.Reasons.{whyOf, given}
 use Rattle.link.proofs.Link.{shows-next, stays-bytes, stays-formed}
 use Rattle.link.proofs.Fresh.{fresh-bytes}
 use Rattle.stepper.specs.declared.Session.{Session}
+use Rattle.stepper.specs.declared.Answer.{Answer}
+use Rattle.stepper.specs.declared.Answer.the-variants.{Replied, Explained}
 use Rattle.stepper.specs.Fed.{emptied}
 use Rattle.stepper.specs.Closed.{lineOfHeads, closing, EndsInput}
 use Rattle.stepper.specs.Runs.{begins, Runs}
 use Rattle.stepper.specs.Transcript as transcript
-use Rattle.stepper.specs.Transcript.{linesOf, Answered, Told, replyLines, Transcript}
+use Rattle.stepper.specs.Transcript.{Answered, Told, replyLines, Transcript}
 use Rattle.stepper.specs.Steps as steps
 use Rattle.stepper.specs.Steps.{Stepped, Steps, Prints}
 use Rattle.stepper.proofs.Transcribed.{transcribed}
 
 -- ---- one line
-module _ (l t : List ℕ) (r : Reply) (m : List ℕ) (x : Answered l t r m) (y : Bytes l) (w : formed l ≡ true) where
+why-shown : (l : List ℕ) (n j i : ℕ) → formed l ≡ true → whyOf l n j i ≡ given (machine.why (view l) n j i)
+unfolding whyOf
+why-shown l n j i w = rw w
+
+module _ (l t : List ℕ) (r : Answer) (m : List ℕ) (x : Answered l t r m) (y : Bytes l) (w : formed l ≡ true) where
   stepped : Stepped (view l) t r (view m)
-  stepped = record { asks = λ c s. shows-next l c r m (x .asks c s) y w; refuses = λ n. (x .refuses n .0, ap view (x .refuses n .1)) }
+  stepped =
+      record {
+        asks = λ c s. let z = shows-next l c _ m (refl, x .asks c s .1) y w in (x .asks c s .0 ∙ ap Replied (z .0), z .1);
+        explains = λ n j i s. (x .explains n j i s .0 ∙ ap Explained (why-shown l n j i w), ap view (x .explains n j i s .1));
+        refuses = λ n. (x .refuses n .0, ap view (x .refuses n .1));
+      }
 
   -- the image stays one
   stays : Bytes m × (formed m ≡ true)
   stays = by (read-right (replicate 20 0) t refl)
     where
+      same : m ≡ l → Bytes m × (formed m ≡ true)
+      same e = (subst (λ (i : List ℕ). Bytes i) (sym e) y, subst (λ (i : List ℕ). formed i ≡ true) (sym e) w)
+
       asked : (a : Asked) → Says t a → Bytes m × (formed m ≡ true)
-      asked (calls c) s = (stays-bytes l c r m (x .asks c s) y, stays-formed l c r m (x .asks c s) y w)
+      asked (calls c) s = (stays-bytes l c _ m (refl, x .asks c s .1) y, stays-formed l c _ m (refl, x .asks c s .1) y w)
+      asked (why n j i) s = same (x .explains n j i s .1)
 
       by : Readable (replicate 20 0) t ⊎ Unread (replicate 20 0) t → Bytes m × (formed m ≡ true)
       by (inl a) = asked (a .asked) (a .says)
-      by (inr u) =
-          let e : l ≡ m = sym (x .refuses (u .says) .1) in
-          (subst (λ (i : List ℕ). Bytes i) e y, subst (λ (i : List ℕ). formed i ≡ true) e w)
+      by (inr u) = same (x .refuses (u .says) .1)
 
 -- ---- the lines
 told-steps :
-    {l m : List ℕ} {ts : List (List ℕ)} {rs : List Reply} → Told l ts rs m → Bytes l → formed l ≡ true →
+    {l m : List ℕ} {ts : List (List ℕ)} {rs : List Answer} → Told l ts rs m → Bytes l → formed l ≡ true →
     Steps (view l) ts rs (view m) × (formed m ≡ true)
 told-steps transcript.none y w = (steps.none, w)
 told-steps {l = l} (transcript.next {k = k} t r x f) y w =

@@ -7,25 +7,23 @@ use mathlib.Core.Bool.{Bool, true, false, cond}
 use mathlib.Core.List.{List, [], _∷_, _++_, foldl, append-nil, append-assoc}
 use lib.Dec.{eqb, ltb}
 use lib.ListN.{length, take, set, replicate, length-set}
-use Rattle.kinds.specs.declared.Reply.{Reply}
 use Rattle.kinds.specs.Outcome.{both}
 use Rattle.lines.specs.declared.reading.Reader.{Reader}
 use Rattle.lines.specs.Decimal.{isDigit}
-use Rattle.lines.specs.Forms.{Asked, calls}
+use Rattle.lines.specs.Forms.{Asked, calls, why}
 use Rattle.lines.specs.Grammar.{Says}
 use Rattle.lines.specs.Reading.{fresh, pushed, pushedIn, stepped, inside, low, high, keptIn, finished, ran, said, saidIn}
-use Rattle.lines.specs.Replies.{replyLine}
 use Rattle.lines.proofs.Readable.{Readable, Unread, read-right}
-use Rattle.controller.specs.Promises.{claims-only}
 use Rattle.stepper.specs.declared.Session.{Session}
-use Rattle.stepper.specs.Answers.{Answers}
+use Rattle.stepper.specs.declared.Answer.{Answer}
+use Rattle.stepper.specs.Answers.{lineFor, Answers}
 use Rattle.stepper.specs.Ended.{Ends}
 use Rattle.stepper.specs.Fed.{emptied, TakesIf, Feeds, none, next, EndsLastIf}
 use Rattle.stepper.specs.Closed.{closing, EndsInput}
 use Rattle.stepper.specs.Runs.{begins, Runs, start, block}
 use Rattle.stepper.specs.Transcript as transcript
 use Rattle.stepper.specs.Transcript.{linesFrom, restFrom, lastLine, Answered, Told, replyLines, Transcript}
-use Rattle.stepper.proofs.Joint.{answers-said, refuses-unsaid}
+use Rattle.stepper.proofs.Joint.{answers-said, explains-said, refuses-unsaid}
 
 -- ---- the room keeps its length
 kept-length : (r : Reader) (m : List ℕ) → length (keptIn r m) ≡ length m
@@ -87,20 +85,21 @@ answered :
     (l : List ℕ) (line : Reader) (begun : Bool) (room t out : List ℕ) (used end : ℕ) (m after : List ℕ) → Stands line begun room t →
     (x : Ends l (finished line room) (keptIn line room) out used end m after) → Answered l t (x .reply) m
 answered l line begun room t out used end m after s x =
-    let r : Reply = x .reply in
+    let r : Answer = x .reply in
     let p : Answers l (finished (ran (s .from) t .0) room) (keptIn (ran (s .from) t .0) room) r m =
     subst (λ (y : Reader). Answers l (finished y room) (keptIn y room) r m) (s .reads) (x .answers) in
     let q : Answers l (said (s .from) t) (saidIn (s .from) t) r m =
     subst (λ (y : List ℕ). Answers l (finished (ran (s .from) t .0) y) (keptIn (ran (s .from) t .0) y) r m) (s .holds) p in
     record {
       asks = λ c y. answers-said t (s .from) l r m q (s .before) c y;
+      explains = λ n j i y. explains-said t (s .from) l r m q (s .before) n j i y;
       refuses = λ y. refuses-unsaid t (s .from) l r m q y;
     }
 
 -- ---- the bytes of a block
 -- the lines ts were answered behind the text before, and the bytes t of a line have been read since
 record Goes (l : List ℕ) (ts : List (List ℕ)) (t before : List ℕ) (q : Session) (m after kept : List ℕ) : Type 0 where
-  replies : List Reply
+  replies : List Answer
   told : Told l ts replies m
   text : take (q .used) after ≡ before ++ replyLines replies
   stands : Stands (q .line) (q .begun) kept t
@@ -114,12 +113,12 @@ goes-on :
 unfolding replyLines
 goes-on true l out room s b r k a n t bs q m after kept x y f =
     let z = f [] (stands-fresh (r .line) (r .begun) n (x .1) (x .2) (ap length (x .3) ∙ kept-length (s .line) room ∙ y .twenty)) in
-    let w : Reply = x .0 .reply in
+    let w : Answer = x .0 .reply in
     record {
       replies = w ∷ z .replies;
       told = transcript.next t w (answered l (s .line) (s .begun) room t out (s .used) (r .used) k a y (x .0)) (z .told);
       text =
-          z .text ∙ ap (λ (i : List ℕ). i ++ replyLines (z .replies)) (x .0 .puts .holds) ∙ append-assoc (take (s .used) out) (replyLine w)
+          z .text ∙ ap (λ (i : List ℕ). i ++ replyLines (z .replies)) (x .0 .puts .holds) ∙ append-assoc (take (s .used) out) (lineFor w)
           (replyLines (z .replies));
       stands = z .stands;
     }
@@ -164,18 +163,18 @@ rest-more t [] bs = refl
 rest-more t (a ∷ xs) bs = rest-more (cond (eqb a 10) [] (t ++ (a ∷ []))) xs bs
 
 told-more :
-    {l k m : List ℕ} {ts us : List (List ℕ)} {rs qs : List Reply} → Told l ts rs k → Told k us qs m → Told l (ts ++ us) (rs ++ qs) m
+    {l k m : List ℕ} {ts us : List (List ℕ)} {rs qs : List Answer} → Told l ts rs k → Told k us qs m → Told l (ts ++ us) (rs ++ qs) m
 told-more transcript.none y = y
 told-more (transcript.next t r a x) y = transcript.next t r a (told-more x y)
 
-replies-more : (rs qs : List Reply) → replyLines (rs ++ qs) ≡ replyLines rs ++ replyLines qs
+replies-more : (rs qs : List Answer) → replyLines (rs ++ qs) ≡ replyLines rs ++ replyLines qs
 unfolding replyLines
 replies-more [] qs = refl
-replies-more (r ∷ rs) qs = ap (λ (x : List ℕ). replyLine r ++ x) (replies-more rs qs) ∙ sym (append-assoc (replyLine r) (replyLines rs) (replyLines qs))
+replies-more (r ∷ rs) qs = ap (λ (x : List ℕ). lineFor r ++ x) (replies-more rs qs) ∙ sym (append-assoc (lineFor r) (replyLines rs) (replyLines qs))
 
 -- all lines that ended are answered in the text, and the bytes behind the last newline have been read
 record Went (l bytes text : List ℕ) (q : Session) (m kept : List ℕ) : Type 0 where
-  replies : List Reply
+  replies : List Answer
   told : Told l (linesFrom [] bytes) replies m
   writes : text ≡ replyLines replies
   stands : Stands (q .line) (q .begun) kept (restFrom [] bytes)
@@ -197,7 +196,7 @@ went {l = l} n (block {bytes = bytes} {text = text} {k = k} x b out after m kept
 
 -- ---- the input's end
 record Last (l t before : List ℕ) (used : ℕ) (m after : List ℕ) : Type 0 where
-  replies : List Reply
+  replies : List Answer
   told : Told l (lastLine t) replies m
   text : take used after ≡ before ++ replyLines replies
 
@@ -212,11 +211,11 @@ last-if [] l out room s used m after kept y x =
       text = ap₂ (λ (i : ℕ) (o : List ℕ). take i o) (x .0) (x .2) ∙ sym (append-nil (take (s .used) out));
     }
 last-if (b ∷ t) l out room s used m after kept y x =
-    let w : Reply = x .0 .reply in
+    let w : Answer = x .0 .reply in
     record {
       replies = w ∷ [];
       told = transcript.next (b ∷ t) w (answered l (s .line) (s .begun) room (b ∷ t) out (s .used) used m after y (x .0)) transcript.none;
-      text = x .0 .puts .holds ∙ ap (λ (i : List ℕ). take (s .used) out ++ i) (sym (append-nil (replyLine w)));
+      text = x .0 .puts .holds ∙ ap (λ (i : List ℕ). take (s .used) out ++ i) (sym (append-nil (lineFor w)));
     }
 
 -- ---- the whole
@@ -239,25 +238,26 @@ transcribed {l = l} {bytes = bytes} {text = text} {k = k} {n = n} {out = out} {m
     }
 
 -- ---- no second transcript
-answered-only : (l t : List ℕ) (r q : Reply) (m n : List ℕ) → Answered l t r m → Answered l t q n → (r ≡ q) × (m ≡ n)
+answered-only : (l t : List ℕ) (r q : Answer) (m n : List ℕ) → Answered l t r m → Answered l t q n → (r ≡ q) × (m ≡ n)
 answered-only l t r q m n x y = by (read-right (replicate 20 0) t refl)
   where
     asked : (a : Asked) → Says t a → (r ≡ q) × (m ≡ n)
-    asked (calls c) s = claims-only l c r q m n (x .asks c s) (y .asks c s)
+    asked (calls c) s = both (x .asks c s) (y .asks c s)
+    asked (why k j i) s = both (x .explains k j i s) (y .explains k j i s)
 
     by : Readable (replicate 20 0) t ⊎ Unread (replicate 20 0) t → (r ≡ q) × (m ≡ n)
     by (inl a) = asked (a .asked) (a .says)
     by (inr u) = both (x .refuses (u .says)) (y .refuses (u .says))
 
 told-only :
-    {l m n : List ℕ} {ts : List (List ℕ)} {rs qs : List Reply} → Told l ts rs m → Told l ts qs n → (rs ≡ qs) × (m ≡ n)
+    {l m n : List ℕ} {ts : List (List ℕ)} {rs qs : List Answer} → Told l ts rs m → Told l ts qs n → (rs ≡ qs) × (m ≡ n)
 told-only transcript.none transcript.none = (refl, refl)
 told-only {l = l} {n = n} (transcript.next {k = k} {ts = ts} {rs = rs} t r x f) (transcript.next {k = j} {rs = qs} u q y g) =
     let z = answered-only l t r q k j x y in
     let w = told-only f (subst (λ (i : List ℕ). Told i ts qs n) (sym (z .1)) g) in
-    (ap₂ (λ (i : Reply) (is : List Reply). i ∷ is) (z .0) (w .0), w .1)
+    (ap₂ (λ (i : Answer) (is : List Answer). i ∷ is) (z .0) (w .0), w .1)
 
 pub transcript-only : (l bytes s t m n : List ℕ) → Transcript l bytes s m → Transcript l bytes t n → (s ≡ t) × (m ≡ n)
 transcript-only l bytes s t m n x y =
     let z = told-only (x .told) (y .told) in
-    (x .writes ∙ ap₂ (λ (rs : List Reply) (i : List ℕ). replyLines rs ++ closing i) (z .0) (z .1) ∙ sym (y .writes), z .1)
+    (x .writes ∙ ap₂ (λ (rs : List Answer) (i : List ℕ). replyLines rs ++ closing i) (z .0) (z .1) ∙ sym (y .writes), z .1)

@@ -8,12 +8,12 @@ use borrow.Author.Tests.{le-leb}
 use lib.Dec.{leb}
 use lib.ListN.{length, take, drop, length-drop, take-append-drop}
 use lib.Seq.{length-take-le, take-append-add, take-append-seam, drop-append-add, drop-append-seam, drop-append-le, drop-drop}
-use Rattle.kinds.specs.declared.Reply.{Reply}
 use Rattle.lines.specs.declared.reading.Line.{Line}
-use Rattle.lines.specs.Replies.{replyLine, closingLine, Written}
+use Rattle.lines.specs.Replies.{closingLine, Written}
 use Rattle.controller.specs.declared.reads.Heads.{Heads}
 use Rattle.controller.specs.Reads.{headsOf}
-use Rattle.stepper.specs.Answers.{Answers}
+use Rattle.stepper.specs.declared.Answer.{Answer}
+use Rattle.stepper.specs.Answers.{lineFor, Answers}
 use Rattle.stepper.specs.Ended.{Puts, Ends}
 use Rattle.stepper.specs.Closed.{lineOfHeads, closing, Closes}
 
@@ -61,16 +61,20 @@ module _ (out : List ℕ) (used : ℕ) (t : List ℕ) where
       Puts out used t (used + size) (take used out ++ (rest ++ drop (used + 96 - used) (drop used out)))
   puts-written size rest h x = let e : used + 96 - used ≡ 96 = omega arith in puts-in (used + 96 - used) size rest e h x
 
+-- the line of an answer that is known
+pub written-for : (a b : Answer) (l : List ℕ) (n : ℕ) (m : List ℕ) → a ≡ b → Written l (lineFor b) n m → Written l (lineFor a) n m
+written-for a b l n m e x = subst (λ (y : Answer). Written l (lineFor y) n m) (sym e) x
+
 -- ---- a line has ended
 pub ended :
-    (l : List ℕ) (line read : Line) (room kept out : List ℕ) (used size : ℕ) (r : Reply) (m rest : List ℕ) → read ≡ line → kept ≡ room →
-    Answers l read kept r m → used + 96 ≤ length out → Written (take (used + 96 - used) (drop used out)) (replyLine r) size rest →
+    (l : List ℕ) (line read : Line) (room kept out : List ℕ) (used size : ℕ) (r : Answer) (m rest : List ℕ) → read ≡ line → kept ≡ room →
+    Answers l read kept r m → used + 96 ≤ length out → Written (take (used + 96 - used) (drop used out)) (lineFor r) size rest →
     Ends l line room out used (used + size) m (take used out ++ (rest ++ drop (used + 96 - used) (drop used out)))
 ended l line read room kept out used size r m rest e k a h x =
     record {
       reply = r;
       answers = subst (λ (y : Line). Answers l y room r m) e (subst (λ (y : List ℕ). Answers l read y r m) k a);
-      puts = puts-written out used (replyLine r) size rest h x;
+      puts = puts-written out used (lineFor r) size rest h x;
     }
 
 -- ---- the closing line

@@ -4,37 +4,58 @@ use Prim.Native.Nat.{ℕ}
 use mathlib.Core.Path.{_≡_}
 use mathlib.Core.List.{List}
 use lib.ListN.{take}
-use Rattle.kinds.specs.declared.Reply.{Reply}
 use Rattle.kinds.specs.Events.{refusal}
 use Rattle.kinds.specs.Outcome.{both}
 use Rattle.machine.specs.Calls as machine
+use Rattle.image.specs.View.{written}
 use Rattle.lines.specs.declared.reading.Line.{Line}
 use Rattle.lines.specs.declared.reading.Call.{Call}
-use Rattle.lines.specs.declared.reading.Call.the-variants.{Unreadable, Append, Rollback, Start, Stop, Connect, Disconnect, Master, Sync, Work, Fold}
+use Rattle.lines.specs.declared.reading.Call.the-variants.{Unreadable, Append, Rollback, Start, Stop, Connect, Disconnect, Master, Sync, Work, Fold, Why}
+use Rattle.lines.specs.Replies.{replyLine, whyLine}
 use Rattle.controller.specs.Bytes.{appendOf}
-use Rattle.controller.specs.Claims.{Claims}
+use Rattle.controller.specs.Claims.{outcomeOf}
+use Rattle.controller.specs.Reasons.{whyOf}
+use Rattle.stepper.specs.declared.Answer.{Answer}
+use Rattle.stepper.specs.declared.Answer.the-variants.{Replied, Explained}
 
--- the call c, an append with the pairs b, on the image l: unreadable is refused with 2 and leaves every byte; of any other
--- the controller's contract
-abbrev pub AnswersCall : Call → List ℕ → List ℕ → Reply → List ℕ → Type 0
-AnswersCall Unreadable b l r m = (r ≡ refusal 2) × (m ≡ l)
-AnswersCall Append b l r m = Claims l (appendOf b) r m
-AnswersCall (Rollback n) b l r m = Claims l (machine.rollback n) r m
-AnswersCall Start b l r m = Claims l machine.start r m
-AnswersCall Stop b l r m = Claims l machine.stop r m
-AnswersCall (Connect n) b l r m = Claims l (machine.connect n) r m
-AnswersCall (Disconnect n) b l r m = Claims l (machine.disconnect n) r m
-AnswersCall (Master n) b l r m = Claims l (machine.master n) r m
-AnswersCall (Sync n) b l r m = Claims l (machine.sync n) r m
-AnswersCall (Work n j i o c) b l r m = Claims l (machine.work n j i o c) r m
-AnswersCall (Fold n) b l r m = Claims l (machine.foldTo n) r m
+-- the line that is written for an answer
+abbrev pub lineFor : Answer → List ℕ
+lineFor (Replied r) = replyLine r
+lineFor (Explained w) = whyLine (w .answer) (w .reason) (w .named)
+
+-- a call made on the image l: the controller's contract (controller Claims), its reply the answer
+abbrev pub Replies : List ℕ → machine.Call → Answer → List ℕ → Type 0
+Replies l c a m = (a ≡ Replied (outcomeOf l c .reply)) × (m ≡ written l (outcomeOf l c .stores))
+
+-- why asked of it: no byte changes
+abbrev pub Explains : List ℕ → (node job number : ℕ) → Answer → List ℕ → Type 0
+Explains l n j i a m = (a ≡ Explained (whyOf l n j i)) × (m ≡ l)
+
+-- nothing that can be read: 2, and no byte changes
+abbrev pub Refuses : List ℕ → Answer → List ℕ → Type 0
+Refuses l a m = (a ≡ Replied (refusal 2)) × (m ≡ l)
+
+-- what a line asks for, an append with the pairs b, on the image l
+abbrev pub AnswersCall : Call → List ℕ → List ℕ → Answer → List ℕ → Type 0
+AnswersCall Unreadable b l a m = Refuses l a m
+AnswersCall Append b l a m = Replies l (appendOf b) a m
+AnswersCall (Rollback n) b l a m = Replies l (machine.rollback n) a m
+AnswersCall Start b l a m = Replies l machine.start a m
+AnswersCall Stop b l a m = Replies l machine.stop a m
+AnswersCall (Connect n) b l a m = Replies l (machine.connect n) a m
+AnswersCall (Disconnect n) b l a m = Replies l (machine.disconnect n) a m
+AnswersCall (Master n) b l a m = Replies l (machine.master n) a m
+AnswersCall (Sync n) b l a m = Replies l (machine.sync n) a m
+AnswersCall (Work n j i o c) b l a m = Replies l (machine.work n j i o c) a m
+AnswersCall (Fold n) b l a m = Replies l (machine.foldTo n) a m
+AnswersCall (Why n j i) b l a m = Explains l n j i a m
 
 -- the pairs are the first `length` bytes of the room
-abbrev pub Answers : List ℕ → Line → List ℕ → Reply → List ℕ → Type 0
-Answers l line room r m = AnswersCall (line .call) (take (line .length) room) l r m
+abbrev pub Answers : List ℕ → Line → List ℕ → Answer → List ℕ → Type 0
+Answers l line room a m = AnswersCall (line .call) (take (line .length) room) l a m
 
 -- ---- no second outcome
-answers-call-only : (c : Call) (b l : List ℕ) (r q : Reply) (m n : List ℕ) → AnswersCall c b l r m → AnswersCall c b l q n → (r ≡ q) × (m ≡ n)
+answers-call-only : (c : Call) (b l : List ℕ) (r q : Answer) (m n : List ℕ) → AnswersCall c b l r m → AnswersCall c b l q n → (r ≡ q) × (m ≡ n)
 answers-call-only Unreadable b l r q m n = both
 answers-call-only Append b l r q m n = both
 answers-call-only (Rollback i) b l r q m n = both
@@ -46,7 +67,8 @@ answers-call-only (Master i) b l r q m n = both
 answers-call-only (Sync i) b l r q m n = both
 answers-call-only (Work i j k o c) b l r q m n = both
 answers-call-only (Fold i) b l r q m n = both
+answers-call-only (Why i j k) b l r q m n = both
 
 pub answers-only :
-    (l : List ℕ) (line : Line) (room : List ℕ) (r q : Reply) (m n : List ℕ) → Answers l line room r m → Answers l line room q n → (r ≡ q) × (m ≡ n)
+    (l : List ℕ) (line : Line) (room : List ℕ) (r q : Answer) (m n : List ℕ) → Answers l line room r m → Answers l line room q n → (r ≡ q) × (m ≡ n)
 answers-only l line room r q m n = answers-call-only (line .call) (take (line .length) room) l r q m n

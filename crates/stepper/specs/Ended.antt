@@ -1,14 +1,13 @@
--- A line that has ended: its reply's line is put behind the answers that wait; and that no second outcome is this.
+-- A line that has ended: its answer's line is put behind the answers that wait; and that no second outcome is this.
 -- Assumes nothing.
 use Prim.Native.Nat.{ℕ, _+_, _≤_}
 use mathlib.Core.Path.{_≡_, ap, ap₂, sym, subst, _∙_}
 use mathlib.Core.List.{List, _++_}
 use lib.ListN.{length, take, drop, take-append-drop}
-use Rattle.kinds.specs.declared.Reply.{Reply}
 use Rattle.kinds.specs.Outcome.{one}
 use Rattle.lines.specs.declared.reading.Line.{Line}
-use Rattle.lines.specs.Replies.{replyLine}
-use Rattle.stepper.specs.Answers.{Answers, answers-only}
+use Rattle.stepper.specs.declared.Answer.{Answer}
+use Rattle.stepper.specs.Answers.{lineFor, Answers, answers-only}
 
 -- the bytes that are lent for the line of an answer; the buffer of answers has them for each byte of a block
 abbrev pub answerRoom : ℕ
@@ -22,12 +21,11 @@ pub record Puts (out : List ℕ) (used : ℕ) (t : List ℕ) (end : ℕ) (after 
   pub holds : take end after ≡ take used out ++ t
   pub behind : drop end after ≡ drop end out
 
--- the line, with its room, on the image l is answered with a reply and leaves m; behind those that wait stands the line of
--- that reply
+-- the line, with its room, on the image l is answered, and m is left; behind those that wait stands the line of the answer
 pub record Ends (l : List ℕ) (line : Line) (room out : List ℕ) (used end : ℕ) (m after : List ℕ) : Type 0 where
-  pub reply : Reply
+  pub reply : Answer
   pub answers : Answers l line room reply m
-  pub puts : Puts out used (replyLine reply) end after
+  pub puts : Puts out used (lineFor reply) end after
 
 -- ---- no second outcome
 parted : (out : List ℕ) (used : ℕ) (t : List ℕ) (e : ℕ) (a : List ℕ) → Puts out used t e a → a ≡ take used out ++ t ++ drop e out
@@ -43,6 +41,6 @@ pub ends-only :
     (e ≡ f) × (m ≡ n) × (a ≡ b)
 ends-only l line room out used e f m n a b x y =
     let s = answers-only l line room (x .reply) (y .reply) m n (x .answers) (y .answers) in
-    let p = subst (λ (r : Reply). Puts out used (replyLine r) e a) (s .0) (x .puts) in
-    let t = puts-only out used (replyLine (y .reply)) e f a b p (y .puts) in
+    let p = subst (λ (r : Answer). Puts out used (lineFor r) e a) (s .0) (x .puts) in
+    let t = puts-only out used (lineFor (y .reply)) e f a b p (y .puts) in
     (t .0, s .1, t .1)

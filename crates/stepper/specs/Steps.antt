@@ -3,30 +3,35 @@
 use Prim.Native.Nat.{ℕ}
 use mathlib.Core.Path.{_≡_}
 use mathlib.Core.List.{List, [], _∷_, _++_}
-use Rattle.kinds.specs.declared.Reply.{Reply}
 use Rattle.kinds.specs.Events.{refusal}
 use Rattle.machine.specs.State.{State}
 use Rattle.machine.specs.Calls.{Call}
 use Rattle.machine.specs.Step.{step}
-use Rattle.lines.specs.Forms.{Asked, calls}
+use Rattle.machine.specs.Why as machine
+use Rattle.lines.specs.Forms.{Asked, calls, why}
 use Rattle.lines.specs.Grammar.{Says}
 use Rattle.controller.specs.Reads.{headsIn}
+use Rattle.controller.specs.Reasons.{given}
+use Rattle.stepper.specs.declared.Answer.{Answer}
+use Rattle.stepper.specs.declared.Answer.the-variants.{Replied, Explained}
 use Rattle.stepper.specs.Closed.{lineOfHeads}
 use Rattle.stepper.specs.Transcript.{linesOf, replyLines}
 
--- the line t in the state s: a line that says a call is a step; one that says none is refused with 2
-pub record Stepped (s : State) (t : List ℕ) (r : Reply) (q : State) : Type 0 where
-  pub asks : (c : Call) → Says t (calls c) → (r ≡ step s c .reply) × (q ≡ step s c .next)
-  pub refuses : ((x : Asked) → Says t x → ⊥) → (r ≡ refusal 2) × (q ≡ s)
+-- the line t in the state s: a line that says a call is a step; one that asks why is told it; one that says nothing is refused
+-- with 2
+pub record Stepped (s : State) (t : List ℕ) (r : Answer) (q : State) : Type 0 where
+  pub asks : (c : Call) → Says t (calls c) → (r ≡ Replied (step s c .reply)) × (q ≡ step s c .next)
+  pub explains : (n j i : ℕ) → Says t (why n j i) → (r ≡ Explained (given (machine.why s n j i))) × (q ≡ s)
+  pub refuses : ((x : Asked) → Says t x → ⊥) → (r ≡ Replied (refusal 2)) × (q ≡ s)
 
 -- lines one after another
-pub data Steps : State → List (List ℕ) → List Reply → State → Type 0 where
+pub data Steps : State → List (List ℕ) → List Answer → State → Type 0 where
   none : {s : State} → Steps s [] [] s
   next :
-      {s o q : State} {ts : List (List ℕ)} {rs : List Reply} (t : List ℕ) (r : Reply) → Stepped s t r o → Steps o ts rs q → Steps s (t ∷ ts) (r ∷ rs) q
+      {s o q : State} {ts : List (List ℕ)} {rs : List Answer} (t : List ℕ) (r : Answer) → Stepped s t r o → Steps o ts rs q → Steps s (t ∷ ts) (r ∷ rs) q
 
 -- the text for the bytes of an input, from the state s to the state q
 pub record Prints (s : State) (bytes text : List ℕ) (q : State) : Type 0 where
-  pub replies : List Reply
+  pub replies : List Answer
   pub steps : Steps s (linesOf bytes) replies q
   pub writes : text ≡ replyLines replies ++ lineOfHeads (headsIn q)

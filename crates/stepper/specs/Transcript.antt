@@ -5,13 +5,11 @@ use mathlib.Core.Path.{_≡_}
 use mathlib.Core.Bool.{cond}
 use mathlib.Core.List.{List, [], _∷_, _++_}
 use lib.Dec.{eqb}
-use Rattle.kinds.specs.declared.Reply.{Reply}
-use Rattle.kinds.specs.Events.{refusal}
 use Rattle.machine.specs.Calls.{Call}
-use Rattle.lines.specs.Forms.{Asked, calls}
+use Rattle.lines.specs.Forms.{Asked, calls, why}
 use Rattle.lines.specs.Grammar.{Says}
-use Rattle.lines.specs.Replies.{replyLine}
-use Rattle.controller.specs.Claims.{Claims}
+use Rattle.stepper.specs.declared.Answer.{Answer}
+use Rattle.stepper.specs.Answers.{lineFor, Replies, Explains, Refuses}
 use Rattle.stepper.specs.Closed.{closing}
 
 -- ---- the lines of some bytes
@@ -34,24 +32,25 @@ abbrev pub linesOf : List ℕ → List (List ℕ)
 linesOf bs = linesFrom [] bs ++ lastLine (restFrom [] bs)
 
 -- ---- their answers
--- the line t on the image l: a line that says a call is replied what is decided for it; one that says none, 2, and every byte
--- is what it had been
-pub record Answered (l t : List ℕ) (r : Reply) (m : List ℕ) : Type 0 where
-  pub asks : (c : Call) → Says t (calls c) → Claims l c r m
-  pub refuses : ((x : Asked) → Says t x → ⊥) → (r ≡ refusal 2) × (m ≡ l)
+-- the line t on the image l: a line that says a call is replied what is decided for it; one that asks why, the reason; one that
+-- says nothing, 2; and but for the call every byte is what it had been
+pub record Answered (l t : List ℕ) (r : Answer) (m : List ℕ) : Type 0 where
+  pub asks : (c : Call) → Says t (calls c) → Replies l c r m
+  pub explains : (n j i : ℕ) → Says t (why n j i) → Explains l n j i r m
+  pub refuses : ((x : Asked) → Says t x → ⊥) → Refuses l r m
 
 -- the lines on the image l were replied one after another, and m is left
-pub data Told : List ℕ → List (List ℕ) → List Reply → List ℕ → Type 0 where
+pub data Told : List ℕ → List (List ℕ) → List Answer → List ℕ → Type 0 where
   none : {l : List ℕ} → Told l [] [] l
   next :
-      {l k m : List ℕ} {ts : List (List ℕ)} {rs : List Reply} (t : List ℕ) (r : Reply) → Answered l t r k → Told k ts rs m → Told l (t ∷ ts) (r ∷ rs) m
+      {l k m : List ℕ} {ts : List (List ℕ)} {rs : List Answer} (t : List ℕ) (r : Answer) → Answered l t r k → Told k ts rs m → Told l (t ∷ ts) (r ∷ rs) m
 
-unfoldable pub replyLines : List Reply → List ℕ
+unfoldable pub replyLines : List Answer → List ℕ
 replyLines [] = []
-replyLines (r ∷ rs) = replyLine r ++ replyLines rs
+replyLines (r ∷ rs) = lineFor r ++ replyLines rs
 
 -- ---- all that is written for the bytes of an input
 pub record Transcript (l bytes text m : List ℕ) : Type 0 where
-  pub replies : List Reply
+  pub replies : List Answer
   pub told : Told l (linesOf bytes) replies m
   pub writes : text ≡ replyLines replies ++ closing m

@@ -7,13 +7,15 @@ ghost use Prim.Native.Nat.{_+_, _*_, _≤_};
 ghost use mathlib.Core.Path.{_≡_};
 ghost use lib.ListN.{length, take};
 ghost use Rattle.lines.specs.Reading.{keptIn};
+ghost use Rattle.lines.specs.Replies.{Written};
 ghost use Rattle.controller.specs.Bytes.{appendOf};
 ghost use Rattle.controller.specs.Claims.{Claims};
-ghost use Rattle.stepper.specs.Answers.{Answers};
+ghost use Rattle.stepper.specs.Answers.{Answers, lineFor};
 ghost use Rattle.stepper.specs.Ended.{answerRoom};
 ghost use Rattle.stepper.specs.Fed.{emptied, EndsLine, Takes, Feeds, EndsLast};
 ghost use Rattle.stepper.specs.Closed.{Closes, EndsInput};
 ghost use Rattle.stepper.specs.Runs.{Reads, ReadsAll};
+use controller::Why;
 use kinds::Reply;
 use libc::STDERR_FILENO;
 use libc::STDIN_FILENO;
@@ -45,6 +47,12 @@ struct Turn {
     whole: bool,
 }
 
+// What a line is answered: a call's reply, or why a job does not move.
+enum Answer {
+    Replied(Reply),
+    Explained(Why),
+}
+
 fn append(image: &mut [u8], room: &[u8], n: usize) -> Reply
     requires { ⌜ n ≤ length (now room) ⌝ }
     ensures { λ r. ⌜ Claims (now (image .entry)) (appendOf (take n (now (room .entry)))) r (now (image .exit)) ⌝ }
@@ -52,43 +60,59 @@ fn append(image: &mut [u8], room: &[u8], n: usize) -> Reply
     controller::append(image, &room[..n])
 }
 
-// The call that a line says, made on the image; an append's pairs stand in the room; an unreadable line is refused with 2.
-fn answer(image: &mut [u8], line: Line, room: &[u8]) -> Reply
+// What a line asks for, asked of the image; an append's pairs stand in the room; an unreadable line is refused with 2.
+fn ask(image: &mut [u8], line: Line, room: &[u8]) -> Answer
     requires { ⌜ line .length ≤ length (now room) ⌝ }
     ensures { λ r. ⌜ Answers (now (image .entry)) line (now (room .entry)) r (now (image .exit)) ⌝ }
 {
     let call = line.call;
     match call {
-        Call::Unreadable => Reply::of(2),
-        Call::Append => append(image, room, line.length),
-        Call::Rollback(number) => controller::rollback(image, number),
-        Call::Start => controller::start(image),
-        Call::Stop => controller::stop(image),
-        Call::Connect(node) => controller::connect(image, node),
-        Call::Disconnect(node) => controller::disconnect(image, node),
-        Call::Master(node) => controller::master(image, node),
-        Call::Sync(node) => controller::sync(image, node),
+        Call::Unreadable => Answer::Replied(Reply::of(2)),
+        Call::Append => Answer::Replied(append(image, room, line.length)),
+        Call::Rollback(number) => Answer::Replied(controller::rollback(image, number)),
+        Call::Start => Answer::Replied(controller::start(image)),
+        Call::Stop => Answer::Replied(controller::stop(image)),
+        Call::Connect(node) => Answer::Replied(controller::connect(image, node)),
+        Call::Disconnect(node) => Answer::Replied(controller::disconnect(image, node)),
+        Call::Master(node) => Answer::Replied(controller::master(image, node)),
+        Call::Sync(node) => Answer::Replied(controller::sync(image, node)),
         Call::Work {
             node,
             job,
             number,
             outcome,
             cut,
-        } => controller::work(image, node, job, number, outcome, cut),
-        Call::Fold(number) => controller::fold(image, number),
+        } => Answer::Replied(controller::work(image, node, job, number, outcome, cut)),
+        Call::Fold(number) => Answer::Replied(controller::fold(image, number)),
+        Call::Why { node, job, number } => Answer::Explained(controller::why(
+            image,
+            node,
+            job,
+            number,
+        )),
     }
 }
 
-// A line has ended: its call is made, and its answer put behind those that wait; answers how many bytes wait.
+// The line of an answer at the start of `out`, and its length.
+fn write(out: &mut [u8], a: Answer) -> usize
+    ensures { λ r. ⌜ Written (now (out .entry)) (lineFor a) r (now (out .exit)) ⌝ }
+{
+    match a {
+        Answer::Replied(reply) => lines::write_reply(out, reply),
+        Answer::Explained(w) => lines::write_why(out, w.answer, w.reason, w.named),
+    }
+}
+
+// A line has ended: what it asks is asked, and its answer put behind those that wait; answers how many bytes wait.
 fn end_line(image: &mut [u8], out: &mut [u8], room: &mut [u8; 20], s: Session) -> usize
     requires { ⌜ s .used + answerRoom ≤ length (now out) ⌝ }
     ensures { λ r. ⌜ EndsLine (now (image .entry)) (now (out .entry)) (now (room .entry)) s r (now (image .exit)) (now (out .exit)) × (now (room .exit) ≡ keptIn (s .line) (now (room .entry))) ⌝ }
 {
     let line = lines::finish(s.line, room);
-    let reply = answer(image, line, &room[..]);
+    let a = ask(image, line, &room[..]);
     let at = s.used;
     let end = at + ANSWER;
-    let n = lines::write_reply(&mut out[at..end], reply);
+    let n = write(&mut out[at..end], a);
     at + n
 }
 

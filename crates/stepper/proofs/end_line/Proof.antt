@@ -1,4 +1,4 @@
--- `end_line`: the reply's line is put behind the answers that wait. Assumes nothing.
+-- `end_line`: the answer's line is put behind the answers that wait. Assumes nothing.
 use Prim.Native.Nat.{_≤_}
 use native.Mathlib.Omega.{arith}
 use denote.Ref.{now}
@@ -11,25 +11,25 @@ use Rattle.stepper.proofs.end_line.Tie as tie
 finish-requires : tie.Need-finish-requires
 finish-requires c κs = search needs
 
-answer-requires : tie.Need-answer-requires
-answer-requires c κs = let h : c .before .before .before .finish .result .length ≤ 20 = rw (c .before .before .before .finish .ensures .0)
+ask-requires : tie.Need-ask-requires
+ask-requires c κs = let h : c .before .before .before .finish .result .length ≤ 20 = rw (c .before .before .before .finish .ensures .0)
     (within (c .before .before .before .before .before .before .before .args .s .line) (now
-    (c .before .before .before .before .before .before .before .args .room))) in omega (arith, c .answer-arg3 .given .0)
+    (c .before .before .before .before .before .before .before .args .room))) in omega (arith, c .ask-arg3 .given .0)
 
 add-end : tie.Need-add-end
 add-end c = search needs
 
-sub-write-reply : tie.Need-sub-write-reply
-sub-write-reply c = search needs
+sub-write : tie.Need-sub-write
+sub-write c = search needs
 
-part-write-reply-start : tie.Need-part-write-reply-start
-part-write-reply-start c = search needs
+part-write-start : tie.Need-part-write-start
+part-write-start c = search needs
 
-part-write-reply-end : tie.Need-part-write-reply-end
-part-write-reply-end c = search needs
+part-write-end : tie.Need-part-write-end
+part-write-end c = search needs
 
-write-reply-requires : tie.Need-write-reply-requires
-write-reply-requires c κs = search needs
+write-requires : tie.Need-write-requires
+write-requires c κs = search needs
 
 add-result : tie.Need-add-result
 add-result c = search needs
@@ -45,8 +45,8 @@ returns c = (
   ended _ _ (c .before .before .before .before .before .before .before .before .before .before .finish .result) _ _ _ _ _ _ _ _
       (c .before .before .before .before .before .before .before .before .before .before .finish .ensures .0)
       (c .before .before .before .before .before .before .before .before .before .before .finish .ensures .1)
-      (c .before .before .before .before .before .before .answer .ensures) (search needs)
-      (c .before .before .write-reply .ensures),
+      (c .before .before .before .before .before .before .ask .ensures) (search needs)
+      (c .before .before .write .ensures),
   c .before .before .before .before .before .before .before .before .before .before .finish .ensures .1,
 )
 
@@ -55,12 +55,12 @@ end-line-spec =
     tie.close
     (tie.spec
     finish-requires
-    answer-requires
+    ask-requires
     add-end
-    sub-write-reply
-    part-write-reply-start
-    part-write-reply-end
-    write-reply-requires
+    sub-write
+    part-write-start
+    part-write-end
+    write-requires
     add-result
     same-length
     same-length-2

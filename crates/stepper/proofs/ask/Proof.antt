@@ -1,9 +1,10 @@
--- `answer` makes the call that the line asks for. Assumes nothing.
-use Rattle.stepper.proofs.Answered.{asked}
-use mathlib.Core.Path.{refl}
+-- `ask` makes the call that the line asks for, or asks why. Assumes nothing.
+use mathlib.Core.Path.{refl, ap}
+use Rattle.stepper.specs.declared.Answer.the-variants.{Replied, Explained}
+use Rattle.stepper.proofs.Answered.{asked, replied}
 use borrow.Author.Needs.{needs}
-use Rattle.stepper.proofs.answer.Statement.{statement}
-use Rattle.stepper.proofs.answer.Tie as tie
+use Rattle.stepper.proofs.ask.Statement.{statement}
+use Rattle.stepper.proofs.ask.Tie as tie
 
 enum-told : tie.Need-enum-told
 enum-told c = search needs
@@ -71,81 +72,94 @@ enum-known-call-7 c = search needs
 fold-requires : tie.Need-fold-requires
 fold-requires c κs = search needs
 
+enum-known-call-8 : tie.Need-enum-known-call-8
+enum-known-call-8 c = search needs
+
+why-requires : tie.Need-why-requires
+why-requires c κs = search needs
+
 returns : tie.Need-returns
-returns c = asked (c .before .before .before .before .before .args .line) _ _ _ _ _ (c .before .enum-told .given .1) (c .of .ensures, refl)
+returns c = asked (c .before .before .before .before .before .args .line) _ _ _ _ _ (c .before .enum-told .given .1) (ap Replied (c .of .ensures), refl)
 
 same-length : tie.Need-same-length
 same-length c = search needs
 
 returns-2 : tie.Need-returns-2
 returns-2 c = asked (c .before .before .before .before .before .before .before .before .args .line) _ _ _ _ _
-    (c .before .before .before .before .enum-told2 .given .1) (c .before .before .append .ensures)
+    (c .before .before .before .before .enum-told2 .given .1) (replied _ _ _ _ (c .before .before .append .ensures))
 
 same-length-2 : tie.Need-same-length-2
 same-length-2 c = search needs
 
 returns-3 : tie.Need-returns-3
 returns-3 c = asked (c .before .before .before .before .before .before .before .before .before .args .line) _ _ _ _ _
-    (c .before .before .before .before .before .call .given .1) (c .before .before .rollback .ensures)
+    (c .before .before .before .before .before .call .given .1) (replied _ _ _ _ (c .before .before .rollback .ensures))
 
 same-length-3 : tie.Need-same-length-3
 same-length-3 c = search needs
 
 returns-4 : tie.Need-returns-4
 returns-4 c = asked (c .before .before .before .before .before .before .before .before .args .line) _ _ _ _ _
-    (c .before .before .before .before .enum-told3 .given .1) (c .before .before .start .ensures)
+    (c .before .before .before .before .enum-told3 .given .1) (replied _ _ _ _ (c .before .before .start .ensures))
 
 same-length-4 : tie.Need-same-length-4
 same-length-4 c = search needs
 
 returns-5 : tie.Need-returns-5
 returns-5 c = asked (c .before .before .before .before .before .before .before .before .args .line) _ _ _ _ _
-    (c .before .before .before .before .enum-told4 .given .1) (c .before .before .stop .ensures)
+    (c .before .before .before .before .enum-told4 .given .1) (replied _ _ _ _ (c .before .before .stop .ensures))
 
 same-length-5 : tie.Need-same-length-5
 same-length-5 c = search needs
 
 returns-6 : tie.Need-returns-6
 returns-6 c = asked (c .before .before .before .before .before .before .before .before .before .args .line) _ _ _ _ _
-    (c .before .before .before .before .before .call2 .given .1) (c .before .before .connect .ensures)
+    (c .before .before .before .before .before .call2 .given .1) (replied _ _ _ _ (c .before .before .connect .ensures))
 
 same-length-6 : tie.Need-same-length-6
 same-length-6 c = search needs
 
 returns-7 : tie.Need-returns-7
 returns-7 c = asked (c .before .before .before .before .before .before .before .before .before .args .line) _ _ _ _ _
-    (c .before .before .before .before .before .call3 .given .1) (c .before .before .disconnect .ensures)
+    (c .before .before .before .before .before .call3 .given .1) (replied _ _ _ _ (c .before .before .disconnect .ensures))
 
 same-length-7 : tie.Need-same-length-7
 same-length-7 c = search needs
 
 returns-8 : tie.Need-returns-8
 returns-8 c = asked (c .before .before .before .before .before .before .before .before .before .args .line) _ _ _ _ _
-    (c .before .before .before .before .before .call4 .given .1) (c .before .before .master .ensures)
+    (c .before .before .before .before .before .call4 .given .1) (replied _ _ _ _ (c .before .before .master .ensures))
 
 same-length-8 : tie.Need-same-length-8
 same-length-8 c = search needs
 
 returns-9 : tie.Need-returns-9
 returns-9 c = asked (c .before .before .before .before .before .before .before .before .before .args .line) _ _ _ _ _
-    (c .before .before .before .before .before .call5 .given .1) (c .before .before .sync .ensures)
+    (c .before .before .before .before .before .call5 .given .1) (replied _ _ _ _ (c .before .before .sync .ensures))
 
 same-length-9 : tie.Need-same-length-9
 same-length-9 c = search needs
 
 returns-10 : tie.Need-returns-10
 returns-10 c = asked (c .before .before .before .before .before .before .before .before .before .args .line) _ _ _ _ _
-    (c .before .before .before .before .before .call6 .given .1) (c .before .before .work .ensures)
+    (c .before .before .before .before .before .call6 .given .1) (replied _ _ _ _ (c .before .before .work .ensures))
 
 same-length-10 : tie.Need-same-length-10
 same-length-10 c = search needs
 
 returns-11 : tie.Need-returns-11
 returns-11 c = asked (c .before .before .before .before .before .before .before .before .before .args .line) _ _ _ _ _
-    (c .before .before .before .before .before .call7 .given .1) (c .before .before .fold .ensures)
+    (c .before .before .before .before .before .call7 .given .1) (replied _ _ _ _ (c .before .before .fold .ensures))
 
-pub answer-spec : {M : Type 1} → statement M
-answer-spec =
+same-length-11 : tie.Need-same-length-11
+same-length-11 c = search needs
+
+returns-12 : tie.Need-returns-12
+returns-12 c = asked (c .before .before .before .before .before .before .before .args .line) _ _ _ _ _
+    (c .before .before .before .call8 .given .1) (ap Explained (c .why .ensures), refl)
+
+pub ask-spec : {M : Type 1} → statement M
+ask-spec =
     tie.close
     (tie.spec
     enum-told
@@ -170,6 +184,8 @@ answer-spec =
     work-requires
     enum-known-call-7
     fold-requires
+    enum-known-call-8
+    why-requires
     returns
     same-length
     returns-2
@@ -190,4 +206,6 @@ answer-spec =
     same-length-9
     returns-10
     same-length-10
-    returns-11)
+    returns-11
+    same-length-11
+    returns-12)

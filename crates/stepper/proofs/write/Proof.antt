@@ -1,0 +1,42 @@
+-- `write` writes the line of an answer. Assumes nothing.
+use Rattle.stepper.proofs.Waiting.{written-for}
+use borrow.Author.Needs.{needs}
+use Rattle.stepper.proofs.write.Statement.{statement}
+use Rattle.stepper.proofs.write.Tie as tie
+
+enum-known-a : tie.Need-enum-known-a
+enum-known-a c = search needs
+
+write-reply-requires : tie.Need-write-reply-requires
+write-reply-requires c κs = search needs
+
+enum-known-a-2 : tie.Need-enum-known-a-2
+enum-known-a-2 c = search needs
+
+write-why-requires : tie.Need-write-why-requires
+write-why-requires c κs = search needs
+
+same-length : tie.Need-same-length
+same-length c = search needs
+
+returns : tie.Need-returns
+returns c = written-for _ _ _ _ _ (c .before .before .before .before .before .a .given .1) (c .before .before .write-reply .ensures)
+
+same-length-2 : tie.Need-same-length-2
+same-length-2 c = search needs
+
+returns-2 : tie.Need-returns-2
+returns-2 c = written-for _ _ _ _ _ (c .before .before .before .before .before .a2 .given .1) (c .before .before .write-why .ensures)
+
+pub write-spec : {M : Type 1} → statement M
+write-spec =
+    tie.close
+    (tie.spec
+    enum-known-a
+    write-reply-requires
+    enum-known-a-2
+    write-why-requires
+    same-length
+    returns
+    same-length-2
+    returns-2)
