@@ -1,5 +1,5 @@
 -- Order 4, what the reasons name: the number in flight is of a commit that is in flight, and another than the one asked
--- for; the number on top is of a live change; the ordinal was given to a commit. Assumes nothing.
+-- for; the number on top is of a live change; the ordinal was given out. Assumes nothing.
 use Prim.Native.Nat.{ℕ, zero, suc, _+_, _-_, _≤_, _<_}
 use native.Mathlib.Omega.{arith}
 use mathlib.Core.List.{List, [], _∷_}
@@ -7,21 +7,21 @@ use mathlib.Core.Bool.{Bool, true, false, not, _||_, cond}
 use mathlib.Core.Path.{_≡_, refl, sym, ap, _∙_, subst}
 use lib.Dec.{eqb, leb}
 use lib.ListN.{length, getD}
-use borrow.Author.Tests.{lt-ltb, lt-leb, ltb-true, leb-true, leb-false}
+use borrow.Author.Tests.{eqb-false, lt-ltb, lt-leb, ltb-true, leb-true, leb-false}
 use Rattle.kinds.specs.declared.Transaction.{Transaction}
 use Rattle.kinds.specs.declared.Status.{Status}
 use Rattle.kinds.specs.declared.Status.the-variants.{None, Pending, InProgress, Complete, Aborted, Canceled, Failed}
 use Rattle.kinds.specs.Statuses.{done, codeOf}
 use Rattle.machine.specs.State.{State, blank, placeOf, entryOf, last}
-use Rattle.machine.specs.WellFormed.{wellFormed}
+use Rattle.machine.specs.WellFormed.{allEntries, wellFormed}
 use Rattle.machine.specs.Rest.{restOf}
 use Rattle.machine.specs.Calls.{Call, planOf, present}
-use Rattle.machine.specs.Settled.{settled}
+use Rattle.machine.specs.Settled.{entrySettled, settled}
 use Rattle.machine.specs.Step.{run}
 use Rattle.machine.proofs.Kept.{formed, reached-well-formed}
 use Rattle.machine.specs.Calls as calls
 use Rattle.machine.proofs.Cases.{or-cases}
-use Rattle.machine.specs.Why.{is, holds, commitGoes, lowest, lowestIn, inFlight, named, why}
+use Rattle.machine.specs.Why.{is, ordinal, unsettled, holds, commitGoes, lowest, lowestIn, inFlight, named, why}
 use Rattle.machine.proofs.Waits.{Waits1, Waits3, waits1, waits3}
 use Rattle.history.specs.Ops.{Op, stack, mem, mem-first, on-top, clash, crash}
 use Rattle.history.specs.Invariant.{Invariant, Committed}
@@ -31,10 +31,11 @@ use Rattle.history.specs.Stages.{Mode, rests, flies, closes, returns, cl
 use Rattle.history.proofs.Staged.{differ, staged}
 use Rattle.history.specs.Demand3.{live}
 use Rattle.history.specs.Whole.{whole, shown, Front, Passed}
-use Rattle.history.specs.Explained.{Given, Flies, flying, going, returning, InFlight}
+use Rattle.history.specs.Explained.{Given, Flies, flying, going, returning, InFlight, Names}
 use Rattle.history.proofs.Follow.{entry-seen, last-seen}
 use Rattle.history.proofs.Fronts.{ways, rest-seen}
 use Rattle.history.proofs.Reached.{Folded, folded, live-committed}
+use Rattle.history.proofs.Ordinals.{AtMostTwice, ordinals-at-most-twice}
 use Rattle.history.proofs.Reasons.{Asked, committed-low, closing-is, returned-is, holds-seen, idle-seen, phase-seen, reason-given}
 use Rattle.history.proofs.Reasons as reasons
 
@@ -278,6 +279,50 @@ on-top-live cs i b =
     let v : run cs .state .committed .head .revision .0 ≡ whole cs .committed .head .revision .0 = ap (λ s. s .committed .head .revision .0) (x .shows) in
     subst (λ k. live (run cs .events) 1 k ≡ true) (sym v)
     (sym (live-committed (whole cs) (run cs .events) (x .reached) _) ∙ live-on-top (x .reached .inv) (staged cs) i (subst (λ k. i < k) v b))
+
+-- reason 7: an ordinal that was given out
+own-low : (s : State) (j i : ℕ) → AtMostTwice s → ordinal s j i ≤ s .committed .head .ordinal .0
+own-low s j i h = by (eqb j 1) (eqb j 2) (eqb j 3)
+  where
+    by : (a b c : Bool) → (let t = entryOf (s .log) i in
+        cond a (t .change .ordinal .0) (cond b (t .change .ordinal .0) (cond c (t .rollback .ordinal .0) (t .rollback .ordinal .0))) ≤ s .committed .head .ordinal .0)
+    by true b c = h .changes i
+    by false true c = h .changes i
+    by false false true = h .rollbacks i
+    by false false false = h .rollbacks i
+
+unsettled-some : (s : State) (j i : ℕ) → 1 ≤ unsettled s j i
+unsettled-some s j i =
+    let a = s .applied .head .ordinal .0 in by a (eqb a 0) refl (allEntries (entrySettled a) (s .log))
+  where
+    by : (a : ℕ) (z : Bool) → eqb a 0 ≡ z → (b : Bool) → 1 ≤ cond (z || b) (a + 1) a
+    by a true e b = omega arith
+    by a false e true = omega arith
+    by a false e false = let h = eqb-false a 0 e in by-zero a h
+      where
+        by-zero : (a : ℕ) → (a ≡ 0 → ⊥) → 1 ≤ a
+        by-zero zero h = absurd (h refl)
+        by-zero (suc a) h = omega arith
+
+-- ---- all of them
+pub names : (cs : List Call) (n j i : ℕ) → (let s = run cs .state in why s n j i .answer ≡ 0 → Names s (run cs .events) i (why s n j i .reason) (why s n j i .named))
+names cs n j i e =
+    let s = run cs .state in
+    let k = reasons.asked s n j i e in
+    let r = why s n j i .reason in
+    let g : Given s j i r = reason-given cs n j i e in
+    let name : (q : ℕ) → r ≡ q → why s n j i .named ≡ named s j i q = λ q x. k .names ∙ ap (named s j i) (sym (k .gives) ∙ x) in
+    let fits : (q : ℕ) → r ≡ q → holds s j i q ≡ true = λ q x. subst (λ y. holds s j i y ≡ true) x (g .fits) in
+    record {
+      earlier = λ x. (omega (arith, name 3 x), omega (arith, name 3 x, ltb-true (s .change .0 + 1) i (fits 3 x)));
+      flight = λ x. another cs n i j e x;
+      top = λ x.
+          let b = ltb-true i (s .committed .head .revision .0) (fits 5 x) in (omega (arith, name 5 x, b), subst (λ y. live (run cs .events) 1 y ≡ true) (sym (name 5 x)) (on-top-live cs i b));
+      ordinal = λ x. (
+        omega (arith, name 7 x, unsettled-some s j i),
+        omega (arith, name 7 x, ltb-true (unsettled s j i) (ordinal s j i) (fits 7 x), own-low s j i (ordinals-at-most-twice cs)),
+      );
+    }
 
 -- ---- two readings that come to the same in a reached state
 -- no rollback asked: r.commit None, or phase Change

@@ -2,11 +2,14 @@
 -- in Reasons and Named; that one is given exactly where the job answers 11 is `why-answers` (crate machine, Waits). Assumes
 -- nothing.
 use Prim.Native.Nat.{ℕ, suc, _≤_, _<_}
+use mathlib.Core.List.{List}
 use mathlib.Core.Bool.{true, false}
 use mathlib.Core.Path.{_≡_}
+use Rattle.kinds.specs.declared.Event.{Event}
 use Rattle.kinds.specs.declared.Status.the-variants.{Pending}
 use Rattle.machine.specs.State.{State, entryOf, last}
 use Rattle.machine.specs.Why.{holds, tried, commitGoes}
+use Rattle.history.specs.Demand3.{live}
 use Rattle.history.specs.Ops.{mem}
 
 -- the reason r, given for job j and number i
@@ -26,3 +29,14 @@ pub data Flies (s : State) (k : ℕ) : Type 0 where
 pub record InFlight (s : State) (k : ℕ) : Type 0 where
   pub kept : s .log .folded .0 < k
   pub flies : Flies s k
+
+-- what the reason r names, k, for the number i, the events being es
+pub record Names (s : State) (es : List Event) (i r k : ℕ) : Type 0 where
+  -- an earlier change that is not through its commit
+  pub earlier : r ≡ 3 → (s .change .0 < k) × (k < i)
+  -- a commit in flight, and another
+  pub flight : r ≡ 4 → InFlight s k × (k ≡ i → ⊥)
+  -- a later change, and live
+  pub top : r ≡ 5 → (i < k) × (live es 1 k ≡ true)
+  -- an ordinal that was given out
+  pub ordinal : r ≡ 7 → (1 ≤ k) × (k ≤ s .committed .head .ordinal .0)

@@ -293,7 +293,7 @@ module _ (s : State) (n i : ℕ) where
           apply-rollback (entryOf (s .log) i) (s .applied .head) i Asks (settled s) (lineOpenFor (s .net) n) y
           (record { wait = refl; noLine = refl; rejected = refl; begin = λ a b c d. refl; aim = λ a b c d. refl; cancel = λ a b c d. refl; close = λ a b. refl; finish = λ a b c. refl; push = λ a b c. refl })
 
-  -- a reason is given exactly when the job answers 11, with any outcome and cut; 1, 2, 5 and 10 are as the job's; else 15
+  -- a reason is given exactly when the job answers 11, with any outcome and cut; 1, 2, 5, 18 and 10 are as the job's; else 15
   pub why-answers : (j r c : ℕ) → leb r 1 ≡ true → leb c 1 ≡ true → why s n j i .answer ≡ asks (step s (work n j i r c) .reply .answer)
   unfolding why step outcome decide
   why-answers j r c er ec =

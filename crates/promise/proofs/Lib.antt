@@ -1,3 +1,4 @@
 -- Why the promise holds. Assumes nothing.
 pub mod Promise
 pub mod Retried
+pub mod Explained

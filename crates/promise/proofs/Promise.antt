@@ -88,7 +88,7 @@ pub calling : {l : List ℕ} {cs : List Call} {xs m : List ℕ} → Serving l cs
 calling nothing = none
 calling (further {k = k} d e x m p) = next (calling d) e (unpacked x) m (in-c k e x m p)
 
-events : (xs : List ℕ) → map eventOf (map unpacked xs) ≡ map eventIn xs
+pub events : (xs : List ℕ) → map eventOf (map unpacked xs) ≡ map eventIn xs
 events [] = refl
 events (x ∷ xs) = ap (λ es. unpacked x .event ∷ es) (events xs)
 

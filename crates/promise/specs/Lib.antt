@@ -1,3 +1,4 @@
 -- The promise in definitions: all that one has to believe of this crate. Assumes nothing.
 pub mod Demands
 pub mod Retry
+pub mod Reasons
