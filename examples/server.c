@@ -211,8 +211,25 @@ static uint64_t reply_to(struct archive *archive, const char *line, const char *
 static void answer(uint64_t reply) {
     printf("answer=%u phase=%u stage=%u number=%u status=%u\n", makowist_reply_answer(reply), makowist_reply_phase(reply),
            makowist_reply_stage(reply), (unsigned)makowist_reply_number(reply), makowist_reply_status(reply));
-    if (fflush(stdout) != 0)
-        fail("standard output", strerror(errno));
+}
+
+/* Answers a line that asks why a job does not move; nothing changes, so nothing is kept. */
+static int explained(const char *line, const char *end) {
+    unsigned n[3];
+    if (!is(line, end, "call=why node=# job=# number=#", n))
+        return 0;
+    uint64_t reply = makowist_why(image, sizeof image, n[0], n[1], n[2]);
+    printf("answer=%u reason=%u named=%u\n", makowist_reply_answer(reply), makowist_reply_reason(reply),
+           (unsigned)makowist_reply_named(reply));
+    return 1;
+}
+
+/* Makes the call that a line asks for and answers it. A refused call has changed nothing. */
+static void call(const struct place *place, struct archive *archive, const char *line, const char *end) {
+    uint64_t reply = reply_to(archive, line, end);
+    if (makowist_reply_answer(reply) == MAKOWIST_ACCEPTED)
+        keep(place);
+    answer(reply);
 }
 
 static unsigned shown(unsigned field) { return makowist_reply_value(makowist_record(image, sizeof image, field)); }
@@ -230,11 +247,10 @@ int main(int count, char **words) {
     ssize_t length;
     while ((length = getline(&line, &room, stdin)) > 0) {
         const char *end = line + length - (line[length - 1] == '\n');
-        uint64_t reply = reply_to(&archive, line, end);
-        /* a refused call has changed nothing */
-        if (makowist_reply_answer(reply) == MAKOWIST_ACCEPTED)
-            keep(&place);
-        answer(reply);
+        if (!explained(line, end))
+            call(&place, &archive, line, end);
+        if (fflush(stdout) != 0)
+            fail("standard output", strerror(errno));
     }
     if (!feof(stdin))
         fail("standard input", strerror(errno));
