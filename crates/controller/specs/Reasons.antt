@@ -45,7 +45,8 @@ explained s p j i = given (whyNot 15 (eqb (p .answer) 11) (record { answer = 0; 
 abbrev pub commitFinished : Status → (change number : ℕ) → Bool
 commitFinished x k i = done x && not (is x Failed && follows k i)
 
--- a side's apply is Done, and its ordinal is not the next after a with the end yet to be closed
+-- a side's apply is Done with no closing store left; `ends`: its status is one that is closed, which is left to do where its
+-- commit is Complete and its ordinal is the next after a
 abbrev pub applyFinished : Side → (ends : Bool) → ℕ → Bool
 applyFinished x e a = done (x .apply) && not (e && (isComplete (x .commit) && follows a (x .ordinal .0)))
 

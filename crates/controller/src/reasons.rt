@@ -169,7 +169,7 @@ fn on_top(v: u16, number: u16) -> Why
 
 // ---- the commit in flight
 
-// The lowest of b + 1 to n whose commit is in progress, or another number.
+// The lowest of b + 1 to n whose commit is in progress; `other` where there is none.
 fn lowest_going(s: &[u8], b: u16, n: u16, other: u16) -> u16
     requires { ⌜ (b ≤ n) × (imageLength ≤ length (now s)) ⌝ }
     ensures { λ r. ⌜ r ≡ lowest commitGoes (b + 1) (upFrom (entryAt (now (s .entry))) b n) other ⌝ }
