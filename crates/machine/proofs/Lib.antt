@@ -8,6 +8,7 @@ pub mod Kept
 pub mod LiveEnds
 pub mod Unreached
 pub mod FoldWitnesses
+pub mod WhyWitnesses
 pub mod Traps
 pub mod Reconnected
 pub mod Retried
