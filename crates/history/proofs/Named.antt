@@ -291,8 +291,8 @@ own-low s j i h = by (eqb j 1) (eqb j 2) (eqb j 3)
     by false false true = h .rollbacks i
     by false false false = h .rollbacks i
 
-unsettled-some : (s : State) (j i : ℕ) → 1 ≤ unsettled s j i
-unsettled-some s j i =
+unsettled-some : (s : State) → 1 ≤ unsettled s
+unsettled-some s =
     let a = s .applied .head .ordinal .0 in by a (eqb a 0) refl (allEntries (entrySettled a) (s .log))
   where
     by : (a : ℕ) (z : Bool) → eqb a 0 ≡ z → (b : Bool) → 1 ≤ cond (z || b) (a + 1) a
@@ -319,8 +319,8 @@ names cs n j i e =
       top = λ x.
           let b = ltb-true i (s .committed .head .revision .0) (fits 5 x) in (omega (arith, name 5 x, b), subst (λ y. live (run cs .events) 1 y ≡ true) (sym (name 5 x)) (on-top-live cs i b));
       ordinal = λ x. (
-        omega (arith, name 7 x, unsettled-some s j i),
-        omega (arith, name 7 x, ltb-true (unsettled s j i) (ordinal s j i) (fits 7 x), own-low s j i (ordinals-at-most-twice cs)),
+        omega (arith, name 7 x, unsettled-some s),
+        omega (arith, name 7 x, ltb-true (unsettled s) (ordinal s j i) (fits 7 x), own-low s j i (ordinals-at-most-twice cs)),
       );
     }
 

@@ -163,7 +163,7 @@ module _ {s : State} {ops acts : List Op} {bad : List ℕ} (inv : Invariant s op
       go Failed p = clash (rw p at h1)
 
   -- what is unsettled is not below o: settled, and o at most the next
-  next-only : (o : ℕ) → ltb (unsettled s 2 i) o ≡ false → a < o → (settled s ≡ true) × (o ≡ suc a)
+  next-only : (o : ℕ) → ltb (unsettled s) o ≡ false → a < o → (settled s ≡ true) × (o ≡ suc a)
   next-only o h p = go (settled s) refl h
     where
       go : (b : Bool) → settled s ≡ b → ltb (cond b (a + 1) a) o ≡ false → (settled s ≡ true) × (o ≡ suc a)

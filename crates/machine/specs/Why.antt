@@ -21,6 +21,10 @@ byJob j a b c d = cond (eqb j 1) a (cond (eqb j 2) b (cond (eqb j 3) c d))
 abbrev pub is : Status → Status → Bool
 is x y = eqb (codeOf x) (codeOf y)
 
+-- the applied ordinal if not settled, else the one after
+abbrev pub unsettled : State → ℕ
+unsettled s = cond (settled s) (s .applied .head .ordinal .0 + 1) (s .applied .head .ordinal .0)
+
 module _ (s : State) (j i : ℕ) where
   abbrev pub entryAt : Transaction
   entryAt = entryOf (s .log) i
@@ -35,17 +39,13 @@ module _ (s : State) (j i : ℕ) where
   abbrev pub ordinal : ℕ
   ordinal = byJob j (entryAt .change .ordinal .0) (entryAt .change .ordinal .0) (entryAt .rollback .ordinal .0) (entryAt .rollback .ordinal .0)
 
-  -- the job's ordinal is the next, its commit Complete
-  abbrev pub next : Bool
-  next = isComplete commit && follows (s .applied .head .ordinal .0) ordinal
+  -- its commit Complete and its ordinal next: what jobs 2 and 4 ask before they close
+  abbrev pub ready : Bool
+  ready = isComplete commit && follows (s .applied .head .ordinal .0) ordinal
 
   -- a Done status whose closing store is left: a rejected change not passed, an apply ended and not closed
   abbrev pub closes : Bool
-  closes = byJob j (is stage Failed && follows (s .change .0) i) ((is stage Aborted || is stage Failed) && next) false (is stage Canceled && next)
-
-  -- the applied ordinal if not settled, else the one after
-  abbrev pub unsettled : ℕ
-  unsettled = cond (settled s) (s .applied .head .ordinal .0 + 1) (s .applied .head .ordinal .0)
+  closes = byJob j (is stage Failed && follows (s .change .0) i) ((is stage Aborted || is stage Failed) && ready) false (is stage Canceled && ready)
 
   -- ---- the seven reasons: 1 finished, 2 no rollback asked, 3 an earlier change, 4 in flight, 5 on top, 6 not committed,
   -- 7 an earlier ordinal
@@ -56,7 +56,7 @@ module _ (s : State) (j i : ℕ) where
       (cond (eqb r 3) (ltb (s .change .0 + 1) i)
       (cond (eqb r 4) (not (restOf s))
       (cond (eqb r 5) (ltb i (s .committed .head .revision .0))
-      (cond (eqb r 6) (not (isComplete commit)) (ltb unsettled ordinal))))))
+      (cond (eqb r 6) (not (isComplete commit)) (ltb (unsettled s) ordinal))))))
 
 -- those that a job uses, in the order in which they are tried
 abbrev pub tried : ℕ → List ℕ
@@ -93,7 +93,7 @@ inFlight s =
 abbrev pub named : State → ℕ → ℕ → ℕ → ℕ
 named s j i r =
     cond (eqb r 3) (s .change .0 + 1)
-    (cond (eqb r 4) (inFlight s) (cond (eqb r 5) (s .committed .head .revision .0) (cond (eqb r 7) (unsettled s j i) 0)))
+    (cond (eqb r 4) (inFlight s) (cond (eqb r 5) (s .committed .head .revision .0) (cond (eqb r 7) (unsettled s) 0)))
 
 -- ---- the call: a refusal, or 0 with a reason and what it names
 pub record Why : Type 0 where
