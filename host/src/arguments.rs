@@ -2,6 +2,7 @@
 
 use crate::northbound::Request;
 use crate::reads::Query;
+use crate::why::Question;
 
 /// What a number that is handed to a function means.
 #[derive(Clone, Copy, PartialEq, Eq, Hash, Debug)]
@@ -58,6 +59,9 @@ impl Query {
             Query::Transaction { number, field } => vec![(Argument::Number, number), (Argument::Field, field)],
             Query::Record { field } => vec![(Argument::Field, field)],
             Query::Connection { node, field } => vec![(Argument::Node, node), (Argument::Field, field)],
+            Query::Why(Question { node, job, number }) => {
+                vec![(Argument::Node, node), (Argument::Job, job), (Argument::Number, number)]
+            }
         }
     }
 }

@@ -303,12 +303,13 @@ pub enum Refusal {
     LineNotOpen,
     PushRejected,
     NoRoom,
+    NotWaiting,
     NotFinished = 17,
     Folded,
 }
 
 impl Refusal {
-    pub const ALL: [Refusal; 16] = [
+    pub const ALL: [Refusal; 17] = [
         Refusal::NotWellFormed,
         Refusal::OutOfRange,
         Refusal::NotAChange,
@@ -323,6 +324,7 @@ impl Refusal {
         Refusal::LineNotOpen,
         Refusal::PushRejected,
         Refusal::NoRoom,
+        Refusal::NotWaiting,
         Refusal::NotFinished,
         Refusal::Folded,
     ];
@@ -656,7 +658,8 @@ impl State {
             && self.configuration.term == self.mastership.term
     }
 
-    fn at_rest(&self) -> bool {
+    /// Whether the commit side is at rest.
+    pub fn at_rest(&self) -> bool {
         self.committed.at_rest(self.transaction(self.committed.index))
     }
 }

@@ -12,6 +12,11 @@ pub enum Job {
     ApplyRollback,
 }
 
+impl Job {
+    /// In the order of their numbers, which count from 1.
+    pub const ALL: [Job; 4] = [Job::CommitChange, Job::ApplyChange, Job::CommitRollback, Job::ApplyRollback];
+}
+
 /// What the model, or the target, said of the change.
 #[derive(Clone, Copy, PartialEq, Eq, Hash, Debug)]
 pub enum Outcome {

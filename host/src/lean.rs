@@ -4,12 +4,13 @@
 //! `northbound` is the plain way to the same bytes.
 
 use crate::controller::{
-    counted, Change, Committed, Connection, ConfigurationState, Node, Number, Ordinal, Phase, Refusal, Status, Term, LOG_LIMIT,
+    counted, Change, Connection, ConfigurationState, Node, Number, Ordinal, Phase, Refusal, Status, Term, LOG_LIMIT,
 };
 use crate::image::{self, at, entry, put_u16, put_u32, u16_at, u32_at, ENTRY, LENGTH};
 use crate::jobs::{ranged, Job, Work};
 use crate::northbound::{Answer, Request, Served};
 use crate::reads::{Query, CONNECTION_FIELDS, RECORD_FIELDS, TRANSACTION_FIELDS};
+use crate::why::{Question, Reason};
 use std::ops::Range;
 
 type Image = [u8; LENGTH];
@@ -310,11 +311,14 @@ fn is_done(code: u8) -> bool {
     matches!(code, 3..=6)
 }
 
-/// Whether the commit side is at rest.
-fn at_rest(image: &Image, kept: Kept, committed: &Committed) -> bool {
-    let index = kept.number(committed.index.0.into()).ok();
-    let at_index = index.and_then(|index| image::decode_entry(image::entry_at(image, index)));
-    committed.at_rest(at_index.as_ref())
+/// Whether the commit side is at rest. A folded mark is Done.
+fn at_rest(image: &Image, kept: Kept) -> bool {
+    let [index, target, revision] = [0, 2, 4].map(|field| u16_at(image, at::COMMITTED + field));
+    if index == 0 {
+        return target == 0;
+    }
+    let done = |status: usize| index <= kept.folded || is_done(image[ENTRY * image::slot(Number(index)) + status]);
+    (target == index && done(entry::C_COMMIT)) || (target == revision && revision < index && done(entry::R_COMMIT))
 }
 
 #[inline(never)]
@@ -329,7 +333,7 @@ pub fn work(image: &mut [u8], node: u64, job: u64, number: u64, outcome: u64, cu
         let mut committed = image::decode_committed(image);
         let mut applied = image::decode_applied(image);
         let mut target_values = image::decode_values(image, at::TARGET_VALUES);
-        let at_rest = at_rest(image, kept, &committed);
+        let at_rest = at_rest(image, kept);
         let worked = Work {
             job,
             number,
@@ -360,7 +364,7 @@ pub fn fold(image: &mut [u8], number: u64) -> u64 {
             return Err(Refusal::NoSuchNumber);
         }
         let dropped = Kept { highest: number as u16, ..kept };
-        let allowed = at_rest(image, kept, &image::decode_committed(image))
+        let allowed = at_rest(image, kept)
             && settled(image, kept, Ordinal(u32_at(image, at::APPLIED + 6)))
             && next_waits(image, kept)
             && entries(image, dropped).all(is_finished);
@@ -494,6 +498,7 @@ pub fn read(image: &[u8], query: Query) -> u64 {
         Query::Transaction { number, field } => transaction(image, number, field),
         Query::Record { field } => record(image, field),
         Query::Connection { node, field } => connection(image, node, field),
+        Query::Why(Question { node, job, number }) => why(image, node, job, number),
     }
 }
 
@@ -548,5 +553,157 @@ fn shown(image: &[u8], find: impl FnOnce(Kept) -> Result<Field, Refusal>) -> u64
     match read {
         Ok(value) => u64::from(value) << 32,
         Err(refusal) => refusal.number().into(),
+    }
+}
+
+/// Why a job does not move, from the fields that its rules and reasons name; the log is gone over once more at most.
+#[inline(never)]
+pub fn why(image: &[u8], node: u64, job: u64, number: u64) -> u64 {
+    let told = <&Image>::try_from(image).map_err(|_| Refusal::NotWellFormed).and_then(|image| {
+        let kept = checked(image).ok_or(Refusal::NotWellFormed)?;
+        let (node, job, ..) = ranged(node, job, 0, 0).ok_or(Refusal::OutOfRange)?;
+        let number = kept.number(number)?;
+        if image[at::MASTERSHIP] != node.number() {
+            return Err(Refusal::NotMaster);
+        }
+        let stuck = Stuck { image, kept, number: number.0, bytes: image::entry_at(image, number) };
+        let told = match job {
+            Job::CommitChange => stuck.commit_change(),
+            Job::ApplyChange => stuck.apply_change(),
+            Job::CommitRollback => stuck.commit_rollback(),
+            Job::ApplyRollback => stuck.apply_rollback(),
+        };
+        told.ok_or(Refusal::NotWaiting)
+    });
+    match told {
+        Ok((reason, named)) => u64::from(reason.number()) << 8 | u64::from(named) << 32,
+        Err(refusal) => refusal.number().into(),
+    }
+}
+
+/// A job that is asked after: each of its four answers the reason and what that names, and nothing where a rule holds.
+struct Stuck<'a> {
+    image: &'a Image,
+    kept: Kept,
+    number: u16,
+    bytes: &'a [u8],
+}
+
+type Told = Option<(Reason, u32)>;
+
+const NONE: u8 = Status::None as u8;
+const PENDING: u8 = Status::Pending as u8;
+const IN_PROGRESS: u8 = Status::InProgress as u8;
+const COMPLETE: u8 = Status::Complete as u8;
+const ABORTED: u8 = Status::Aborted as u8;
+const CANCELED: u8 = Status::Canceled as u8;
+const FAILED: u8 = Status::Failed as u8;
+
+impl Stuck<'_> {
+    fn commit_change(&self) -> Told {
+        let change = u16_at(self.image, at::COMMITTED_CHANGE);
+        let waits = change == self.number - 1;
+        match self.bytes[entry::C_COMMIT] {
+            PENDING if waits && u16_at(self.image, at::COMMITTED + 2) == self.number => None,
+            PENDING if waits => (!at_rest(self.image, self.kept)).then(|| self.in_flight()),
+            IN_PROGRESS if waits || change == self.number => None,
+            FAILED if waits => None,
+            status if is_done(status) => Some((Reason::Finished, 0)),
+            _ if u32::from(change) + 1 < self.number.into() => Some((Reason::EarlierChange, u32::from(change) + 1)),
+            _ if !at_rest(self.image, self.kept) => Some(self.in_flight()),
+            _ => Some((Reason::NoneFits, 0)),
+        }
+    }
+
+    fn commit_rollback(&self) -> Told {
+        let revision = u16_at(self.image, at::COMMITTED + 4);
+        let r_index = u16_at(self.bytes, entry::R_INDEX);
+        let stands = revision == self.number;
+        match self.bytes[entry::R_COMMIT] {
+            PENDING if stands && u16_at(self.image, at::COMMITTED + 2) == r_index => None,
+            PENDING if stands => (!at_rest(self.image, self.kept)).then(|| self.in_flight()),
+            IN_PROGRESS if stands || revision == r_index => None,
+            NONE => Some((Reason::NoRollbackAsked, 0)),
+            status if is_done(status) => Some((Reason::Finished, 0)),
+            _ if !at_rest(self.image, self.kept) => Some(self.in_flight()),
+            _ if revision > self.number => Some((Reason::ChangeOnTop, revision.into())),
+            _ => Some((Reason::NoneFits, 0)),
+        }
+    }
+
+    fn apply_change(&self) -> Told {
+        let own = u32_at(self.bytes, entry::C_ORDINAL);
+        let applied = u32_at(self.image, at::APPLIED + 6);
+        let next = own == applied + 1;
+        let r_index = u16_at(self.bytes, entry::R_INDEX);
+        let committed = self.bytes[entry::C_COMMIT] == COMPLETE;
+        match self.bytes[entry::C_APPLY] {
+            PENDING if committed && next => {
+                let goes = u16_at(self.image, at::APPLIED + 2) == self.number;
+                let ends = self.bytes[entry::R_COMMIT] == COMPLETE || u16_at(self.image, at::APPLIED + 4) <= r_index;
+                self.opens(goes, ends)
+            }
+            IN_PROGRESS if committed && (next || (own != 0 && own == applied)) => None,
+            ABORTED | FAILED if committed && next => None,
+            status if is_done(status) => Some((Reason::Finished, 0)),
+            _ if !committed => Some((Reason::NotCommitted, 0)),
+            _ => Some(self.earlier_ordinal(own)),
+        }
+    }
+
+    fn apply_rollback(&self) -> Told {
+        let own = u32_at(self.bytes, entry::R_ORDINAL);
+        let applied = u32_at(self.image, at::APPLIED + 6);
+        let next = own == applied + 1;
+        let commit = self.bytes[entry::R_COMMIT];
+        match self.bytes[entry::R_APPLY] {
+            PENDING if commit == COMPLETE && next => {
+                let change = self.bytes[entry::C_APPLY];
+                let began = matches!(change, COMPLETE | FAILED);
+                let stands = u16_at(self.image, at::APPLIED + 2) == u16_at(self.bytes, entry::R_INDEX);
+                self.opens(began && stands, began || change == ABORTED)
+            }
+            IN_PROGRESS if commit == COMPLETE && (next || (own != 0 && own == applied)) => None,
+            CANCELED if commit == COMPLETE && next => None,
+            status if is_done(status) => Some((Reason::Finished, 0)),
+            _ if commit == NONE => Some((Reason::NoRollbackAsked, 0)),
+            _ if commit != COMPLETE => Some((Reason::NotCommitted, 0)),
+            _ => Some(self.earlier_ordinal(own)),
+        }
+    }
+
+    /// Of an apply that is Pending and next: a rule holds where one does that asks nothing of the applied side, or where one
+    /// does that asks it to be settled and it is.
+    fn opens(&self, goes: bool, where_settled: bool) -> Told {
+        let applied = u32_at(self.image, at::APPLIED + 6);
+        if goes {
+            None
+        } else if !settled(self.image, self.kept, Ordinal(applied)) {
+            Some((Reason::EarlierOrdinal, applied))
+        } else {
+            (!where_settled).then_some((Reason::NoneFits, 0))
+        }
+    }
+
+    /// The ordinal that is waited for, where it is below the job's own.
+    fn earlier_ordinal(&self, own: u32) -> (Reason, u32) {
+        let applied = u32_at(self.image, at::APPLIED + 6);
+        if own <= applied {
+            return (Reason::NoneFits, 0);
+        }
+        let waited_for = applied + u32::from(settled(self.image, self.kept, Ordinal(applied)));
+        if waited_for < own { (Reason::EarlierOrdinal, waited_for) } else { (Reason::NoneFits, 0) }
+    }
+
+    /// The commit that is under way.
+    fn in_flight(&self) -> (Reason, u32) {
+        let [target, revision] = [2, 4].map(|field| u16_at(self.image, at::COMMITTED + field));
+        if target > u16_at(self.image, at::COMMITTED_CHANGE) {
+            return (Reason::CommitInFlight, target.into());
+        }
+        let begun = |bytes: &[u8; ENTRY]| bytes[entry::C_COMMIT] == IN_PROGRESS || bytes[entry::R_COMMIT] == IN_PROGRESS;
+        let place = entries(self.image, self.kept).position(begun);
+        let named = place.map_or(revision.into(), |place| u32::from(self.kept.folded) + 1 + place as u32);
+        (Reason::CommitInFlight, named)
     }
 }

@@ -20,3 +20,4 @@ pub mod random;
 pub mod reads;
 pub mod requests;
 pub mod retry;
+pub mod why;

@@ -2,15 +2,32 @@
 
 use crate::controller::{Refusal, State};
 use crate::northbound::{act, bytes_of, pairs_of, Answer, Request, Served};
+use crate::why::{Question, Why};
 
-/// The call that a line asks for, where the line is readable.
-pub fn read(line: &[u8]) -> Option<Request> {
+/// What a line asks for.
+#[derive(Clone, PartialEq, Eq, Debug)]
+pub enum Line {
+    Call(Request),
+    Why(Question),
+}
+
+/// What a line asks for, where it is readable.
+pub fn read(line: &[u8]) -> Option<Line> {
     let line = std::str::from_utf8(line).ok()?;
     let (call, operands) = match line.split_once(' ') {
         Some((call, operands)) => (call, Some(operands)),
         None => (line, None),
     };
-    match (call.strip_prefix("call=")?, operands) {
+    let call = call.strip_prefix("call=")?;
+    if call == "why" {
+        let [node, job, number] = numbers(operands?, ["node", "job", "number"])?;
+        return Some(Line::Why(Question { node, job, number }));
+    }
+    read_call(call, operands).map(Line::Call)
+}
+
+fn read_call(call: &str, operands: Option<&str>) -> Option<Request> {
+    match (call, operands) {
         ("start", None) => Some(Request::Start),
         ("stop", None) => Some(Request::Stop),
         ("append", Some(operands)) => Some(Request::Append(bytes_of(&read_pairs(operands.strip_prefix("pairs=")?)?))),
@@ -94,6 +111,21 @@ pub fn written(served: &Served) -> String {
     format!("answer={answer} phase={phase} stage={stage} number={number} status={status}\n")
 }
 
+/// The line that a question asks. None asks one with a number past 65,535.
+pub fn questioning(Question { node, job, number }: Question) -> Option<String> {
+    let written = [node, job, number].iter().all(|number| *number <= u16::MAX.into());
+    written.then(|| format!("call=why node={node} job={job} number={number}\n"))
+}
+
+/// The line that a reason, or the refusal of one, is printed as.
+pub fn explained(why: Result<Why, Refusal>) -> String {
+    let (answer, reason, named) = match why {
+        Ok(why) => (0, why.reason.number(), why.named()),
+        Err(refusal) => (refusal.number(), 0, 0),
+    };
+    format!("answer={answer} reason={reason} named={named}\n")
+}
+
 /// The closing line: both heads' revision and ordinal.
 pub fn closing(state: &State) -> String {
     format!(
@@ -109,11 +141,11 @@ pub fn stepped(input: &[u8]) -> String {
     let whole = input.strip_suffix(b"\n").unwrap_or(input);
     let lines = (!input.is_empty()).then(|| whole.split(|byte| *byte == b'\n'));
     for line in lines.into_iter().flatten() {
-        let served = match read(line) {
-            Some(request) => act(&mut state, &request),
-            None => Served { reply: Err(Refusal::OutOfRange), rule: None },
-        };
-        output.push_str(&written(&served));
+        output.push_str(&match read(line) {
+            Some(Line::Call(request)) => written(&act(&mut state, &request)),
+            Some(Line::Why(question)) => explained(state.why(question)),
+            None => written(&Served { reply: Err(Refusal::OutOfRange), rule: None }),
+        });
     }
     output + &closing(&state)
 }

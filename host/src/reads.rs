@@ -1,9 +1,10 @@
-//! The C interface's reads over the independent controller: one number of the state at a time.
+//! The C interface's reads over the independent controller: one number of the state at a time, or why a job does not move.
 
 use crate::controller::{Connection, Node, Progress, Refusal, State, Transaction, PATHS};
 use crate::image::{configuration_code, entry, entry_at, u16_at};
 use crate::random::Random;
-use crate::requests::{any_number, numbers, widen};
+use crate::requests::{any_number, any_question, numbers, widen};
+use crate::why::{Question, Why};
 
 /// What is asked of an image, its numbers as wide as in the C interface.
 #[derive(Clone, Copy, PartialEq, Eq, Hash, Debug)]
@@ -12,6 +13,14 @@ pub enum Query {
     Transaction { number: u64, field: u64 },
     Record { field: u64 },
     Connection { node: u64, field: u64 },
+    Why(Question),
+}
+
+/// What a query shows.
+#[derive(Clone, Copy, PartialEq, Eq, Debug)]
+pub enum Shown {
+    Number(u32),
+    Why(Why),
 }
 
 /// How many tables there are, and fields of each record; each counted from 1.
@@ -40,7 +49,7 @@ impl Query {
             true => random.one_of(&[0, fields + 1, 255, 256, 257, 65535]),
             false => random.between(1, fields as usize) as u64,
         };
-        match random.below(7) {
+        match random.below(8) {
             0 | 1 => {
                 let table = field(TABLES, random);
                 Query::Value { table, path: field(PATHS as u64, random).wrapping_sub(1) }
@@ -50,6 +59,7 @@ impl Query {
                 let node = field(8, random);
                 Query::Connection { node, field: field(CONNECTION_FIELDS, random) }
             }
+            5 => Query::Why(any_question(state, random)),
             _ => {
                 let field = field(TRANSACTION_FIELDS, random);
                 Query::Transaction { number: any_number(state, random), field }
@@ -70,13 +80,14 @@ impl Query {
         for node in 0..=9 {
             all.extend((0..=CONNECTION_FIELDS + 1).map(|field| Query::Connection { node, field }));
         }
+        all.extend(questions(state).map(Query::Why));
         all
     }
 
     /// What is read from a state and the image that it was read from. The bytes answer only for the places past a
     /// transaction's pairs, which carry nothing and which no state here has.
-    pub fn read(self, state: &State, image: &[u8]) -> Result<u32, Refusal> {
-        match self {
+    pub fn read(self, state: &State, image: &[u8]) -> Result<Shown, Refusal> {
+        let number = match self {
             Query::Value { table, path } => {
                 let values = match table {
                     1 => &state.committed.values,
@@ -85,34 +96,48 @@ impl Query {
                     4 => &state.base,
                     _ => return Err(Refusal::OutOfRange),
                 };
-                (path < PATHS as u64).then(|| values[path as usize].into()).ok_or(Refusal::OutOfRange)
+                (path < PATHS as u64).then(|| values[path as usize].into()).ok_or(Refusal::OutOfRange)?
             }
             Query::Transaction { number, field } => {
                 ranged(field, TRANSACTION_FIELDS)?;
                 let number = state.given(number)?;
                 let transaction = &state.log[state.place(number)?];
-                Ok(of_transaction(transaction, entry_at(image, number), field))
+                of_transaction(transaction, entry_at(image, number), field)
             }
             Query::Record { field } => {
                 ranged(field, RECORD_FIELDS)?;
-                Ok(of_record(state, field))
+                of_record(state, field)
             }
             Query::Connection { node, field } => {
                 let node = Node::new(node).ok_or(Refusal::OutOfRange)?;
                 ranged(field, CONNECTION_FIELDS)?;
                 let Connection { id, connected } = state.connection(node);
-                Ok(if field == 1 { id } else { connected.into() })
+                if field == 1 { id } else { connected.into() }
             }
-        }
+            Query::Why(question) => return state.why(question).map(Shown::Why),
+        };
+        Ok(Shown::Number(number))
     }
 
-    /// As `read`, of an image that decodes to this, as one number: answer, then value in the upper half.
+    /// As `read`, of an image that decodes to this, as one number: the answer, a reason, and in the upper half the value or what
+    /// is named.
     pub fn packed(self, state: Option<&State>, image: &[u8]) -> u64 {
         match state.ok_or(Refusal::NotWellFormed).and_then(|state| self.read(state, image)) {
-            Ok(value) => u64::from(value) << 32,
+            Ok(Shown::Number(value)) => u64::from(value) << 32,
+            Ok(Shown::Why(why)) => why.packed(),
             Err(refusal) => refusal.number().into(),
         }
     }
+}
+
+/// Every job of the master on each number; on the highest also no job, and one of nodes that are not master.
+fn questions(state: &State) -> impl Iterator<Item = Question> {
+    let master = state.mastership.master.map_or(1, |master| master.number().into());
+    let question = |node, job, number| Question { node, job, number };
+    let of_master = numbers(state).flat_map(move |number| (1..=4).map(move |job| question(master, job, number)));
+    let refused = [(master, 0), (master, 5), (0, 1), (master % 8 + 1, 1), (9, 1)];
+    let highest = state.highest().0.into();
+    of_master.chain(refused.into_iter().map(move |(node, job)| question(node, job, highest)))
 }
 
 fn ranged(field: u64, fields: u64) -> Result<(), Refusal> {

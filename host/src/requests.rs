@@ -1,9 +1,10 @@
-//! Random calls: those that a host would make from a state, and any whatever.
+//! Random calls: those that a host would make from a state, and any whatever; and jobs to ask after.
 
 use crate::arguments::{Numbers, Wide};
 use crate::controller::{Number, Ordinal, State, Status, Term};
 use crate::northbound::{bytes_of, Request};
 use crate::random::Random;
+use crate::why::Question;
 
 /// A valid change on few paths, so that changes meet.
 pub fn change(random: &mut Random) -> Vec<u8> {
@@ -211,6 +212,18 @@ fn any(state: &State, random: &mut Random) -> Request {
             Request::Work { node: node(random), job, number: number(random), outcome, cut }
         }
     }
+}
+
+/// A job to ask after, mostly one of the master's; now and then by no node, or no job.
+pub fn any_question(state: &State, random: &mut Random) -> Question {
+    let master = state.mastership.master.map_or(1, |master| master.number().into());
+    let node = match random.below(12) {
+        0 => random.one_of(&[0, 9, 255, 256, 257, 65535]),
+        1 | 2 => random.between(1, 8) as u64,
+        _ => master,
+    };
+    let job = if random.once_in(12) { random.one_of(&[0, 5, 256, 257, 65535]) } else { random.between(1, 4) as u64 };
+    Question { node, job, number: any_number(state, random) }
 }
 
 /// Bytes for an append that are seldom a valid change.

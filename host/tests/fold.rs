@@ -6,7 +6,7 @@ use common::{commit, commit_rollback, told, transaction, with_open_line, work, A
 use makowist_host::controller::{Hindrance, Number, Ordinal, Refusal, State, Status, LOG_LIMIT};
 use makowist_host::image::LENGTH;
 use makowist_host::lines::stepped;
-use makowist_host::reads::Query;
+use makowist_host::reads::{Query, Shown};
 
 /// Appends a change, commits it, and applies it.
 fn apply(state: &mut State, pairs: &[(u16, u16)]) -> u64 {
@@ -229,7 +229,7 @@ fn a_folded_number_in_another_call() {
     assert_eq!(read(1, 1), Err(Refusal::Folded));
     assert_eq!(read(1, 22), Err(Refusal::OutOfRange));
     assert_eq!(read(0, 1), Err(Refusal::NoSuchNumber));
-    assert_eq!(read(2, 3), Ok(Status::Complete.code().into()));
+    assert_eq!(read(2, 3), Ok(Shown::Number(Status::Complete.code().into())));
 }
 
 #[test]

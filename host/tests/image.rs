@@ -6,9 +6,10 @@ use makowist_host::image::{self, at, entry, ENTRY, LENGTH};
 use makowist_host::northbound::{self, bytes_of, Request};
 use makowist_host::random::Random;
 use makowist_host::lean;
-use makowist_host::lines;
+use makowist_host::lines::{self, Line};
 use makowist_host::reads::Query;
-use makowist_host::requests::{sensible, wild};
+use makowist_host::requests::{any_question, sensible, wild};
+use makowist_host::why::Question;
 
 fn fresh() -> Vec<u8> {
     let mut bytes = vec![0xa5; LENGTH];
@@ -130,6 +131,9 @@ fn the_lean_calls_lead_to_the_same_bytes() {
             assert_eq!(lean::serve(&mut lean, &request, pairs), expected, "{request:?}");
             assert!(typed == lean, "{request:?}");
             folded = folded.max(state.folded);
+            let query = Query::Why(any_question(&state, &mut random));
+            let expected = query.packed(image::decode(&typed).as_ref(), &typed);
+            assert_eq!(lean::read(&lean, query), expected, "{query:?}");
         }
         assert!(folded > Number(128));
     }
@@ -249,6 +253,41 @@ fn any_well_formed_bytes_come_back_as_they_were() {
     assert!(seen > 100);
 }
 
+/// From images that differ from those of a session in a few bytes, so that every reason is given.
+#[test]
+fn the_lean_reasons_are_the_same() {
+    let mut random = Random::new(9);
+    let mut begin = some();
+    let append = Request::Append(bytes_of(&[(5, 6)]));
+    for request in [append.clone(), append, work(1, 2)] {
+        assert_eq!(serve(&mut begin, request) & 0xff, 0);
+    }
+    let in_entries = |fields: &[usize]| -> Vec<usize> {
+        fields.iter().flat_map(|field| [0, 1, 2].map(|slot| ENTRY * slot + field)).collect()
+    };
+    let statuses = in_entries(&[entry::C_COMMIT, entry::C_APPLY, entry::R_COMMIT, entry::R_APPLY]);
+    let mut numbers = in_entries(&[entry::R_INDEX, entry::C_ORDINAL, entry::R_ORDINAL]);
+    numbers.extend([at::COMMITTED, at::APPLIED].iter().flat_map(|head| [0, 2, 4, 6].map(|field| head + field)));
+    numbers.push(at::COMMITTED_CHANGE);
+    let mut seen = [0; 8];
+    for _ in 0..20_000 {
+        let mut bytes = begin.clone();
+        for _ in 0..random.between(1, 4) {
+            bytes[random.one_of(&statuses)] = random.below(7) as u8;
+            bytes[random.one_of(&numbers)] = random.below(4) as u8;
+        }
+        let state = image::decode(&bytes);
+        for (job, number) in (1..=4).flat_map(|job| [1, 2, 3, 4].map(|number| (job, number))) {
+            let query = Query::Why(Question { node: 1, job, number });
+            let expected = query.packed(state.as_ref(), &bytes);
+            assert_eq!(lean::read(&bytes, query), expected, "{query:?} {state:?}");
+            let reason = (expected >> 8 & 0xff) as usize;
+            seen.get_mut(reason.wrapping_sub(1)).into_iter().for_each(|count| *count += 1);
+        }
+    }
+    assert!(seen.iter().all(|count| *count > 100), "{seen:?}");
+}
+
 #[test]
 fn a_read_where_it_lies_shows_what_the_state_has() {
     let mut bytes = some();
@@ -276,7 +315,8 @@ fn a_call_written_as_a_line_is_read_as_that_call() {
     for turn in 0..3000 {
         let request = if turn % 2 == 0 { wild(&state, &mut random) } else { sensible(&state, 128, &mut random) };
         if let Some(line) = lines::asking(&request) {
-            assert_eq!(line.strip_suffix('\n').and_then(|line| lines::read(line.as_bytes())), Some(request.clone()));
+            let read = line.strip_suffix('\n').and_then(|line| lines::read(line.as_bytes()));
+            assert_eq!(read, Some(Line::Call(request.clone())));
             northbound::act(&mut state, &request);
             written += 1;
         }

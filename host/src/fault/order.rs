@@ -6,6 +6,7 @@ use crate::controller::Node;
 use crate::image::{self, at};
 use crate::northbound::{self, act, bytes_of, Request};
 use crate::reads::Query;
+use crate::why::Question;
 
 /// A function of the C interface that can refuse for more than one reason.
 #[derive(Clone, Copy, PartialEq, Eq, Debug)]
@@ -25,10 +26,11 @@ pub enum Call {
     Transaction,
     Record,
     Connection,
+    Why,
 }
 
-/// The refusals of each call in their order: the paper's, with 9 in append, 17 and 18 as order 10 puts them.
-pub const ORDERS: [(Call, &[u8]); 15] = [
+/// The refusals of each call in their order: the paper's, with 9 in append, 17 and 18 as order 10 puts them, 15 as order 4.
+pub const ORDERS: [(Call, &[u8]); 16] = [
     (Call::Append, &[1, 3, 4, 9]),
     (Call::Rollback, &[1, 5, 18, 6]),
     (Call::Start, &[1, 7, 9]),
@@ -44,6 +46,7 @@ pub const ORDERS: [(Call, &[u8]); 15] = [
     (Call::Transaction, &[1, 2, 5, 18]),
     (Call::Record, &[1, 2]),
     (Call::Connection, &[1, 2]),
+    (Call::Why, &[1, 2, 5, 18, 10, 15]),
 ];
 
 /// A neighbouring pair of a call's refusals: where both hold, the later one is answered.
@@ -104,13 +107,17 @@ impl Swapped {
         if call != call_read(query) || answer != u64::from(first) {
             return answer;
         }
-        let (repaired, mut asked) = (repaired(bytes), query);
+        let Some(mut state) = state.cloned().or_else(|| repaired(bytes)) else {
+            return answer;
+        };
+        let mut asked = query;
         match &mut asked {
             Query::Transaction { field, .. } if first == 2 => *field = 1,
             Query::Transaction { number, .. } if first == 5 && *number == 0 => *number = 1,
+            Query::Why(question) => question_without(first, &mut state, question),
             _ => {}
         }
-        let later = asked.packed(state.or(repaired.as_ref()), bytes);
+        let later = asked.packed(Some(&state), bytes);
         if later == u64::from(then) { later } else { answer }
     }
 }
@@ -137,6 +144,7 @@ fn call_read(query: Query) -> Call {
         Query::Transaction { .. } => Call::Transaction,
         Query::Record { .. } => Call::Record,
         Query::Connection { .. } => Call::Connection,
+        Query::Why(_) => Call::Why,
     }
 }
 
@@ -170,6 +178,20 @@ fn without(refusal: u8, state: &mut State, request: &mut Request) {
             Request::Work { node, .. } => open_line(state, *node as usize - 1),
             _ => {}
         },
+    }
+}
+
+/// Makes the state, or the job that is asked after, such that this refusal does not hold.
+fn question_without(refusal: u8, state: &mut State, question: &mut Question) {
+    match refusal {
+        2 => {
+            question.node = in_range(Argument::Node, question.node);
+            question.job = in_range(Argument::Job, question.job);
+        }
+        5 if question.number == 0 => question.number = 1,
+        18 => question.number = state.highest().0.into(),
+        10 => state.mastership.master = Node::new(question.node),
+        _ => {}
     }
 }
 

@@ -7,6 +7,7 @@ use makowist_host::controller::{Refusal, State};
 use makowist_host::jobs::Rule;
 use makowist_host::northbound::{Request, Served};
 use makowist_host::reads::{Query, CONNECTION_FIELDS, RECORD_FIELDS, TABLES, TRANSACTION_FIELDS};
+use makowist_host::why::Reason;
 
 #[derive(Default)]
 pub struct Counts {
@@ -28,7 +29,7 @@ pub struct Counts {
     pub folds: folds::Seen,
     /// Numbers of more than 16 bits, and rooms by the byte.
     pub wide: wide::Seen,
-    /// By what is read: how often each table or field was shown.
+    /// By what is read: how often each table, field or reason was shown.
     shown: [[u64; TRANSACTION_FIELDS as usize]; KINDS.len()],
     /// By what is read: how often each refusal was answered.
     refused: [[u64; ANSWERS]; KINDS.len()],
@@ -37,12 +38,13 @@ pub struct Counts {
 /// One more than the greatest answer; not every number below it is one.
 const ANSWERS: usize = Refusal::Folded as usize + 1;
 
-/// What is read, how many tables or fields it has, and the refusals that it can answer.
-const KINDS: [(&str, u64, &[usize]); 4] = [
+/// What is read, how many tables, fields or reasons it has, and the refusals that it can answer.
+const KINDS: [(&str, u64, &[usize]); 5] = [
     ("value", TABLES, &[1, 2]),
     ("transaction", TRANSACTION_FIELDS, &[1, 2, 5, 18]),
     ("record", RECORD_FIELDS, &[1, 2]),
     ("connection", CONNECTION_FIELDS, &[1, 2]),
+    ("reason", Reason::ALL.len() as u64, &[1, 2, 5, 18, 10, 15]),
 ];
 
 impl Counts {
@@ -65,6 +67,7 @@ impl Counts {
             Query::Transaction { field, .. } => (1, field),
             Query::Record { field } => (2, field),
             Query::Connection { field, .. } => (3, field),
+            Query::Why(_) => (4, packed >> 8 & 0xff),
         };
         self.read(packed);
         match packed & 0xff {

@@ -9,7 +9,7 @@ use makowist_host::reads::{Query, CONNECTION_FIELDS, RECORD_FIELDS, TABLES, TRAN
 use std::ops::RangeInclusive;
 
 /// The functions that take numbers, each with its arguments in their order.
-const FUNCTIONS: [(&str, &[Argument]); 11] = [
+const FUNCTIONS: [(&str, &[Argument]); 12] = [
     ("rollback", &[Argument::Number]),
     ("fold", &[Argument::Number]),
     ("connect", &[Argument::Node]),
@@ -21,6 +21,7 @@ const FUNCTIONS: [(&str, &[Argument]); 11] = [
     ("transaction", &[Argument::Number, Argument::Field]),
     ("record", &[Argument::Field]),
     ("connection", &[Argument::Node, Argument::Field]),
+    ("why", &[Argument::Node, Argument::Job, Argument::Number]),
 ];
 
 /// The most arguments that a function has.
@@ -62,6 +63,7 @@ impl Seen {
             Query::Transaction { .. } => 8,
             Query::Record { .. } => 9,
             Query::Connection { .. } => 10,
+            Query::Why(_) => 11,
         };
         self.saw(function, state, query.numbers(), answer);
     }
