@@ -2,6 +2,7 @@
 
 use crate::folds;
 use crate::retries;
+use crate::whys;
 use crate::wide;
 use makowist_host::controller::{Refusal, State};
 use makowist_host::jobs::Rule;
@@ -27,6 +28,8 @@ pub struct Counts {
     pub retries: retries::Seen,
     /// What order 10 brings.
     pub folds: folds::Seen,
+    /// Reasons that were given, and why none was (order 4).
+    pub whys: whys::Seen,
     /// Numbers of more than 16 bits, and rooms by the byte.
     pub wide: wide::Seen,
     /// By what is read: how often each table, field or reason was shown.
@@ -108,6 +111,7 @@ impl Counts {
         println!("{:>12}  logs led to the last number", self.migrations);
         let unseen_retries = self.retries.told();
         let unseen_folds = self.folds.told();
+        let unseen_whys = self.whys.told();
         let unseen_wide = self.wide.told();
         let unseen_reads = self.told_reads();
         println!("{:>12}  {:>12}  rule", "whole", "cut");
@@ -120,6 +124,6 @@ impl Counts {
         let rules = self.rules.iter().filter(|[whole, cut]| whole + cut > 0).count();
         println!("rules seen: {rules} of {}; refusals seen: {refusals} of {}", Rule::ALL.len(), Refusal::ALL.len());
         let unseen = [self.states, self.freed, self.migrations].iter().filter(|count| **count == 0).count();
-        unseen + unseen_answers + unseen_rules + unseen_reads + unseen_retries + unseen_folds + unseen_wide
+        unseen + unseen_answers + unseen_rules + unseen_reads + unseen_retries + unseen_folds + unseen_whys + unseen_wide
     }
 }

@@ -3,7 +3,8 @@
 use crate::counts::Counts;
 use crate::retries;
 use crate::watch::Watch;
-use makowist_host::controller::{State, LOG_LIMIT};
+use crate::whys;
+use makowist_host::controller::{Refusal, State, LOG_LIMIT};
 use makowist_host::fault::Fault;
 use makowist_host::guarded::{Edge, Guarded};
 use makowist_host::image;
@@ -12,9 +13,10 @@ use makowist_host::peer;
 use makowist_host::random::Random;
 use makowist_host::reads::Query;
 use makowist_host::retry::CutJob;
+use makowist_host::why::{Question, Reason};
 use std::fmt;
 
-/// A call on which the two did not agree, or a retry that is not as promised.
+/// A call on which the two did not agree, or a retry or a reason that is not as promised.
 pub struct Difference {
     text: String,
     pub is_of_retry: bool,
@@ -52,6 +54,10 @@ pub struct Desk {
     pub edge: Edge,
     fault: Option<Fault>,
     pub counts: Counts,
+    /// Whether the states that calls are made from are such as a session leads to.
+    pub reached: bool,
+    /// The last job that was answered 11 and asked after, from the image that is lent.
+    explained: Option<Question>,
     /// What comes between a cut job and its retry.
     pub random: Random,
     watch: Watch,
@@ -67,6 +73,8 @@ impl Desk {
             edge: Edge::End,
             fault,
             counts: Counts::default(),
+            reached: false,
+            explained: None,
             random: Random::new(0),
             watch,
         }
@@ -93,11 +101,12 @@ impl Desk {
 
     /// Lays these bytes down as the image that the proved controller is lent from now on.
     pub fn lend(&mut self, bytes: &[u8]) {
+        self.explained = None;
         self.lent.bytes(bytes.len(), self.edge).copy_from_slice(bytes);
     }
 
     /// Sends a call to both from the state and its image, which has been lent, and leaves both after the call. A job that was
-    /// cut is also called again, on copies.
+    /// cut is also called again, on copies; one that was answered 11 is asked after.
     pub fn call(&mut self, state: &mut State, bytes: &mut [u8], request: &Request) -> Compared<Served> {
         let may_be_cut = matches!(request, Request::Work { cut: 1, .. });
         let before = may_be_cut.then(|| (state.clone(), bytes.to_vec()));
@@ -106,6 +115,10 @@ impl Desk {
             self.store(state, request, bytes);
         }
         self.hold(bytes, request, served)?;
+        if served.reply.is_ok() {
+            self.explained = None;
+        }
+        self.explain(state, bytes, request, &served)?;
         if let Some((before, before_bytes)) = before {
             self.retry(request, &served, (&before, &before_bytes), (state, bytes))?;
         }
@@ -117,7 +130,8 @@ impl Desk {
         let mut after = state.clone();
         let served = self.act(&mut after, request);
         if served.reply.is_err() {
-            return self.hold(bytes, request, served).map(|_| None);
+            self.hold(bytes, request, served)?;
+            return self.explain(state, bytes, request, &served).map(|()| None);
         }
         let mut after_bytes = bytes.to_vec();
         self.store(&after, request, &mut after_bytes);
@@ -217,8 +231,47 @@ impl Desk {
         Ok(served)
     }
 
-    /// Compares one read from bytes that have been lent.
+    /// Asks after a job that was answered 11: there is a reason. For another outcome or cut the question is the same, and is not
+    /// asked again.
+    fn explain(&mut self, state: &State, bytes: &[u8], request: &Request, served: &Served) -> Compared<()> {
+        let question = match *request {
+            Request::Work { node, job, number, .. } if served.reply == Err(Refusal::NoRule) => Question { node, job, number },
+            _ => return Ok(()),
+        };
+        if self.explained == Some(question) {
+            return Ok(());
+        }
+        let reply = self.compared(Some(state), bytes, Query::Why(question))?;
+        if reply & 0xff != 0 {
+            return Err(Difference::of_call(format!("{request:?} answers 11, and {question:?} {reply:#x}\n{}", shown(bytes))));
+        }
+        self.counts.whys.after_11 += 1;
+        self.explained = Some(question);
+        Ok(())
+    }
+
+    /// Compares one read from bytes that have been lent. A job that is asked after is also called, on a copy.
     pub fn query(&mut self, state: Option<&State>, bytes: &[u8], query: Query) -> Compared<()> {
+        let reply = self.compared(state, bytes, query)?;
+        let Query::Why(question) = query else {
+            return Ok(());
+        };
+        let request = self.counts.whys.next_job(question);
+        let lent = self.lent_copy.bytes(bytes.len(), self.edge);
+        lent.copy_from_slice(bytes);
+        let answer = peer::serve(lent, &request, &[]) & 0xff;
+        if reply & 0xff != whys::answer_for(answer) {
+            return Err(Difference::of_call(format!(
+                "{question:?} is answered {reply:#x}, and {request:?} {answer}\n{}",
+                shown(bytes)
+            )));
+        }
+        self.counts.whys.job_answered(reply, answer);
+        Ok(())
+    }
+
+    /// Sends a read to both, and answers what both do. A reason that is given where a session leads is one of the seven.
+    fn compared(&mut self, state: Option<&State>, bytes: &[u8], query: Query) -> Compared<u64> {
         let expected = match self.fault {
             None => query.packed(state, bytes),
             Some(fault) => fault.read(state, bytes, query),
@@ -232,7 +285,15 @@ impl Desk {
                 shown(bytes)
             )));
         }
-        same_bytes(bytes, lent)
+        same_bytes(bytes, lent)?;
+        if let (Some(state), Query::Why(question), 0) = (state, query, reply & 0xff) {
+            let reason = Reason::ALL[(reply >> 8 & 0xff) as usize - 1];
+            if self.reached && reason == Reason::NoneFits {
+                return Err(Difference::of_call(format!("{question:?}: no reason fits in a reached state\n{}", shown(bytes))));
+            }
+            self.counts.whys.given(state, question, reason, self.reached);
+        }
+        Ok(reply)
     }
 
     /// Compares whether lent bytes are well-formed, and their live list in room of so many bytes.

@@ -1,5 +1,5 @@
-//! Holds the proved controller and the independent one together, call by call, reply and every byte; and each of them to what
-//! order 3 promises, at every job that is cut.
+//! Holds the proved controller and the independent one together, call by call, reply and every byte; each of them to what order 3
+//! promises, at every job that is cut; and the proved one to what order 4 does, at every job that is answered 11 or asked after.
 //!
 //! Arguments, each `name=value`, in any order:
 //!
@@ -13,7 +13,7 @@
 //! - `overrun=End`, `overrun=Begin`: write the byte outside that edge of a lent slice, which must end the program
 //!
 //! Ends with 0 where there is no difference and no count is 0: every answer, every rule, whole and cut and called again, every
-//! read, every argument too great in every way.
+//! reason of every job, every read, every argument too great in every way.
 
 mod counts;
 mod desk;
@@ -24,7 +24,9 @@ mod outside;
 mod retries;
 mod sessions;
 mod states;
+mod waiting;
 mod watch;
+mod whys;
 mod wide;
 
 use desk::{Compared, Desk};
@@ -95,10 +97,14 @@ fn compare(desk: &mut Desk, sizes: &Sizes, seed: u64, tells: bool) -> Compared<(
     };
     let mut random = Random::new(seed);
     desk.random = Random::new(seed);
+    desk.reached = false;
     if !desk.waits_for_a_retry() {
+        waiting::run(desk)?;
+        told("every reason from chosen states", desk);
         outside::run(desk)?;
         told("every call from chosen states, every order of refusals", desk);
     }
+    desk.reached = true;
     if sizes.transactions > 0 {
         let extent = if every::run(desk, sizes.transactions)? { "all" } else { "not all, for time" };
         let (states, transactions) = (desk.counts.states, sizes.transactions);
@@ -113,10 +119,12 @@ fn compare(desk: &mut Desk, sizes: &Sizes, seed: u64, tells: bool) -> Compared<(
         sessions::run(desk, sizes.sessions / 2, &mut random)?;
         told("random sessions", desk);
     }
+    desk.reached = false;
     states::unreached(desk, sizes.unreached, &mut random)?;
     told("states that no session reaches", desk);
     states::damaged(desk, sizes.damaged, &mut random)?;
     told("damaged images", desk);
+    desk.reached = true;
     for rolled_back_one_in in ROLLED_BACK_ONE_IN.into_iter().take(sizes.migrations as usize) {
         let (number, ordinal) = long::run(desk, rolled_back_one_in, &mut random)?;
         told(&format!("a log led to number {} and ordinal {}", number.0, ordinal.0), desk);

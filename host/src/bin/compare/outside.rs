@@ -11,6 +11,7 @@ use makowist_host::image::{self, at, put_u16, LENGTH};
 use makowist_host::northbound::{bytes_of, Request};
 use makowist_host::reads::Query;
 use makowist_host::requests::numbers;
+use makowist_host::why::Question;
 
 /// What lies in an image where nothing is looked at.
 const UNUSED: u8 = 0xee;
@@ -43,7 +44,13 @@ fn every_call(desk: &mut Desk, state: &State, requests: &[Request]) -> Compared<
             desk.query(Some(state), &bytes, Query::Transaction { number, field })?;
         }
     }
-    (1..=4).try_for_each(|table| desk.query(Some(state), &bytes, Query::Value { table, path: 0 }))
+    (1..=4).try_for_each(|table| desk.query(Some(state), &bytes, Query::Value { table, path: 0 }))?;
+    for (node, job) in [(0, 1), (1, 0), (1, 1), (1, 2), (1, 4), (2, 1), (1, 5)] {
+        for number in [0, 1, state.highest().0.into(), u64::from(state.highest().0) + 1] {
+            desk.query(Some(state), &bytes, Query::Why(Question { node, job, number }))?;
+        }
+    }
+    Ok(())
 }
 
 /// The same image with a master that is no node: whatever is asked of it, the answer is 1.
@@ -59,13 +66,15 @@ fn damaged(desk: &mut Desk, state: &State) -> Compared<()> {
         Query::Transaction { number: 1, field: 0 },
         Query::Record { field: 0 },
         Query::Connection { node: 0, field: 1 },
+        Query::Why(Question { node: 0, job: 1, number: 1 }),
     ] {
         desk.query(None, &bytes, query)?;
     }
     desk.read(None, &bytes, 0)
 }
 
-fn lent(desk: &mut Desk, state: &State) -> Vec<u8> {
+/// Lends the state's image, and answers its bytes.
+pub fn lent(desk: &mut Desk, state: &State) -> Vec<u8> {
     let mut bytes = vec![UNUSED; LENGTH];
     put_u16(&mut bytes, at::HIGHEST, state.highest().0);
     image::encode(state, &mut bytes);
@@ -75,7 +84,7 @@ fn lent(desk: &mut Desk, state: &State) -> Vec<u8> {
 
 /// Where the target, the connection of node 1, mastership and the configuration stand.
 #[derive(Clone, Copy)]
-struct Net {
+pub struct Net {
     running: bool,
     connected: bool,
     id: u32,
@@ -88,7 +97,7 @@ struct Net {
 }
 
 /// The line is open for node 1.
-const OPEN: Net = Net {
+pub const OPEN: Net = Net {
     running: true,
     connected: true,
     id: CONN,
@@ -119,7 +128,7 @@ fn nets() -> impl Iterator<Item = Net> {
 }
 
 /// The state with that net: nodes 2 and 8 connected, the former with an id equal to conn.
-fn with_net(state: &State, net: Net) -> State {
+pub fn with_net(state: &State, net: Net) -> State {
     let mut state = state.clone();
     let term = if net.at_limit { u32::MAX } else { 3 };
     state.target.running = net.running;
@@ -165,7 +174,7 @@ fn one(commit: Status, phase: Phase) -> State {
 }
 
 /// So many changes kept after a last fold, none of which has begun.
-fn many(folded: u16, kept: usize) -> State {
+pub fn many(folded: u16, kept: usize) -> State {
     let mut state = one(Status::Pending, Phase::Change);
     state.folded = Number(folded);
     state.log = vec![state.log[0]; kept];
