@@ -1,8 +1,9 @@
 //! Wrong copies of one rule, to show that the comparison finds them. Only the comparison asks for one.
-//! Those of the calls from outside and of the order of refusals are in the modules below.
+//! Those of the calls from outside, of the order of refusals and of reasons are in the modules below.
 
 pub mod order;
 pub mod outside;
+pub mod why;
 
 use crate::arguments::{Argument, Numbers};
 use crate::controller::{
@@ -14,6 +15,7 @@ use crate::northbound::{self, act, Answer, Request, Served};
 use crate::reads::Query;
 use order::{Call, Swapped};
 use outside::Slip;
+use why::Guess;
 
 #[derive(Clone, Copy, PartialEq, Eq, Debug)]
 pub enum Fault {
@@ -81,6 +83,8 @@ pub enum Fault {
     FreshOverOld,
     /// Of two refusals that follow on each other in a call's order, the second is asked first.
     Swapped(Call, u8, u8),
+    /// A reason is given where it is not the one (order 4).
+    Why(Guess),
     /// Nothing is wrong. None of those that must be found: it shows that one which is not found is told.
     Harmless,
 }
@@ -104,6 +108,7 @@ impl Fault {
         all.extend([Fault::OddRoomTakenAsMore, Fault::UnusedKept, Fault::FreshOverOld]);
         all.extend(Slip::ALL.iter().copied().map(Fault::Outside));
         all.extend(Swapped::all().map(|Swapped(call, first, then)| Fault::Swapped(call, first, then)));
+        all.extend(Guess::all().into_iter().map(Fault::Why));
         all
     }
 
@@ -262,6 +267,12 @@ impl Fault {
     pub fn read(self, state: Option<&State>, bytes: &[u8], query: Query) -> u64 {
         match self {
             Fault::Swapped(call, first, then) => Swapped(call, first, then).read(state, bytes, query),
+            Fault::Why(guess) => match (state, query) {
+                (Some(state), Query::Why(question)) => {
+                    guess.why(state, question).map_or_else(|refusal| refusal.number().into(), |why| why.packed())
+                }
+                _ => query.packed(state, bytes),
+            },
             _ => self.misread(state, query).packed(state, bytes),
         }
     }

@@ -85,6 +85,11 @@ impl Desk {
         matches!(self.fault, Some(Fault::Retried(_)))
     }
 
+    /// Whether there is no fault put in, or one of a reason: no other shows in a chosen state's reasons.
+    pub fn asks_for_reasons(&self) -> bool {
+        matches!(self.fault, None | Some(Fault::Why(_)))
+    }
+
     /// Whether the comparison's time is up.
     pub fn is_over(&mut self) -> bool {
         self.watch.is_over(&self.counts)

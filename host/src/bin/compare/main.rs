@@ -98,9 +98,11 @@ fn compare(desk: &mut Desk, sizes: &Sizes, seed: u64, tells: bool) -> Compared<(
     let mut random = Random::new(seed);
     desk.random = Random::new(seed);
     desk.reached = false;
-    if !desk.waits_for_a_retry() {
+    if desk.asks_for_reasons() {
         waiting::run(desk)?;
         told("every reason from chosen states", desk);
+    }
+    if !desk.waits_for_a_retry() {
         outside::run(desk)?;
         told("every call from chosen states, every order of refusals", desk);
     }
