@@ -1,11 +1,12 @@
 //! The calls that are measured, each with the image that it is made on.
 
-use makowist_host::controller::{State, LOG_LIMIT};
+use makowist_host::controller::{Refusal, State, LOG_LIMIT};
 use makowist_host::image::{self, at, ENTRY, LENGTH};
 use makowist_host::lean;
 use makowist_host::northbound::{self, act, bytes_of, Request};
 use makowist_host::peer;
 use makowist_host::reads::Query;
+use makowist_host::why::{Question, Reason};
 use std::ops::Range;
 
 /// How many entries the measured logs have.
@@ -162,8 +163,9 @@ pub fn scenes(length: usize) -> Vec<Scene> {
     let base = applied(length);
     let before_last = applied(length.saturating_sub(1));
     let mut scenes = calls(length, &base, &before_last);
-    scenes.extend(jobs(length, &base, before_last));
+    scenes.extend(jobs(length, &base, before_last.clone()));
     scenes.extend(reads(length, &base));
+    scenes.extend(whys(length, &base, &before_last));
     scenes.extend(folds(length, base));
     scenes.extend(rings(length));
     scenes
@@ -221,6 +223,47 @@ fn reads(length: usize, base: &State) -> Vec<Scene> {
         ("well-formed", Call::WellFormed),
     ]
     .map(|(name, call)| Scene::new(name, length, base, call))
+    .into()
+}
+
+/// A job of node 1 to ask after, of which this is answered.
+fn asked(name: &'static str, length: usize, state: &State, job: u64, number: usize, expected: Result<Reason, Refusal>) -> Scene {
+    let question = Question { node: 1, job, number: number as u64 };
+    assert_eq!(state.why(question).map(|why| why.reason), expected, "{name} at {length}");
+    Scene::new(name, length, state, Call::Read(Query::Why(question)))
+}
+
+/// Each reason, and each way to what it names, near the log's end; then the questions that are refused.
+fn whys(length: usize, base: &State, before_last: &State) -> Vec<Scene> {
+    if length == 0 {
+        return vec![asked("why: no such number", length, base, 1, 1, Err(Refusal::NoSuchNumber))];
+    }
+    let (last, before) = (length, length - 1);
+    let cut = |job, number: usize| Request::Work { node: 1, job, number: number as u64, outcome: 0, cut: 1 };
+    let rollback = Request::Rollback(before as u64);
+    let appended = led(before_last.clone(), &[append(last)]);
+    let two_appended = led(applied(length - 2), &[append(before), append(last)]);
+    let committed = led(appended.clone(), &[work(1, last), work(1, last)]);
+    let two_committed = led(two_appended.clone(), &[before, before, last, last].map(|number| work(1, number)));
+    let unsettled = led(two_committed.clone(), &[work(2, before), cut(2, before)]);
+    let opened = led(appended.clone(), &[rollback.clone(), work(1, last)]);
+    let begun = led(appended.clone(), &[rollback.clone(), work(3, before)]);
+    let cut_off = led(appended.clone(), &[rollback.clone(), cut(3, before)]);
+    let covered = led(base.clone(), &[rollback]);
+    [
+        ("why: finished", base, 2, last, Ok(Reason::Finished)),
+        ("why: no rollback asked", base, 3, last, Ok(Reason::NoRollbackAsked)),
+        ("why: earlier change", &two_appended, 1, last, Ok(Reason::EarlierChange)),
+        ("why: in flight, the target", &opened, 3, before, Ok(Reason::CommitInFlight)),
+        ("why: in flight, the lowest", &begun, 1, last, Ok(Reason::CommitInFlight)),
+        ("why: in flight, the revision", &cut_off, 1, last, Ok(Reason::CommitInFlight)),
+        ("why: change on top", &covered, 3, before, Ok(Reason::ChangeOnTop)),
+        ("why: not committed", &appended, 2, last, Ok(Reason::NotCommitted)),
+        ("why: earlier ordinal, settled", &two_committed, 2, last, Ok(Reason::EarlierOrdinal)),
+        ("why: earlier ordinal, not settled", &unsettled, 2, last, Ok(Reason::EarlierOrdinal)),
+        ("why: not waiting", &committed, 2, last, Err(Refusal::NotWaiting)),
+    ]
+    .map(|(name, state, job, number, expected)| asked(name, length, state, job, number, expected))
     .into()
 }
 
