@@ -1,5 +1,5 @@
 /* edge.c: what makowist.h promises at its edges, held from C: nothing lent, numbers of more than 16 bits in every argument,
- * names, pairs that have no 16 bits, and the list in bytes.
+ * names, pairs that have no 16 bits, the list in bytes, and reasons with what they name.
  *
  * What is lent is from the heap and as long as is said, so that the tools that watch memory see a byte too many. Ends with 1
  * at the first promise that does not hold. */
@@ -66,6 +66,9 @@ static uint64_t record(uint8_t *image, size_t length, const uint64_t *n) { retur
 static uint64_t connection(uint8_t *image, size_t length, const uint64_t *n) {
     return makowist_connection(image, length, n[0], n[1]);
 }
+static uint64_t why(uint8_t *image, size_t length, const uint64_t *n) {
+    return makowist_why(image, length, n[0], n[1], n[2]);
+}
 
 /* The image's log has FOLDED folded and two more, LAST the last: both bytes of its numbers are used. */
 enum { FOLDED = 256, LAST = 258 };
@@ -98,6 +101,7 @@ static const struct call calls[] = {
     {"transaction", transaction, 2, {LAST, MAKOWIST_TRANSACTION_PATH}, {NUMBER, RANGE}},
     {"record", record, 1, {MAKOWIST_LAST_FOLD}, {RANGE}},
     {"connection", connection, 2, {1, MAKOWIST_CONNECTION_ID}, {RANGE, RANGE}},
+    {"why", why, 3, {1, 2, LAST}, {RANGE, RANGE, NUMBER}},
 };
 enum { CALLS = sizeof calls / sizeof *calls };
 
@@ -208,15 +212,20 @@ static void names(void) {
     static const char *const answers[] = {
         "accepted", "not well-formed", "out of range", "not a change", "log full", "no such number", "no rollback",
         "already so", "target stopped", "counter at limit", "not master", "no rule", "line not open", "push rejected",
-        "no room", "?", "?", "not finished", "folded", "?", "?"};
+        "no room", "not waiting", "?", "not finished", "folded", "?", "?"};
     static const char *const statuses[] = {"None", "Pending", "InProgress", "Complete", "Aborted", "Canceled", "Failed"};
+    static const char *const reasons[] = {"?", "finished", "no rollback asked", "earlier change", "commit in flight",
+                                          "change on top", "not committed", "earlier ordinal", "none fits"};
     for (uint64_t k = 0; k <= 20; ++k) {
         const char *status = k <= MAKOWIST_STATUS_FAILED ? statuses[k] : "?";
+        const char *reason = k <= MAKOWIST_REASON_NONE_FITS ? reasons[k] : "?";
         hold(strcmp(makowist_answer_name(k), answers[k]) == 0, "answer's name", makowist_answer_name(k), k);
         hold(strcmp(makowist_status_name(k), status) == 0, "status's name", makowist_status_name(k), k);
+        hold(strcmp(makowist_reason_name(k), reason) == 0, "reason's name", makowist_reason_name(k), k);
     }
     hold(strcmp(makowist_answer_name(UINT64_MAX), "?") == 0, "answer's name", "2^64 - 1", UINT64_MAX);
     hold(strcmp(makowist_status_name(UINT64_MAX), "?") == 0, "status's name", "2^64 - 1", UINT64_MAX);
+    hold(strcmp(makowist_reason_name(UINT64_MAX), "?") == 0, "reason's name", "2^64 - 1", UINT64_MAX);
 }
 
 /* What an append of the pair answers: read back where it is accepted, and else every byte as it was. */
@@ -265,6 +274,55 @@ static void listed(const uint8_t *image) {
     }
 }
 
+/* ---- Reasons. */
+
+static void why_is(const uint8_t *image, uint64_t job, uint64_t number, unsigned reason, uint32_t named) {
+    uint8_t *copy = copied(image, LENGTH);
+    uint64_t reply = makowist_why(copy, LENGTH, 1, job, number);
+    hold(makowist_reply_answer(reply) == MAKOWIST_ACCEPTED, "why", makowist_reason_name(reason), reply);
+    hold(makowist_reply_reason(reply) == reason, "why, reason", makowist_reason_name(reason), reply);
+    hold(makowist_reply_named(reply) == named, "why, named", makowist_reason_name(reason), reply);
+    hold((reply & 0xffff0000) == 0, "why", "nothing between reason and what is named", reply);
+    hold(memcmp(copy, image, LENGTH) == 0, "why, every byte as it was", makowist_reason_name(reason), reply);
+    for (uint64_t k = 0; k < 4; ++k) {
+        reply = makowist_work(copy, LENGTH, 1, job, number, k & 1, k >> 1);
+        hold(reply == MAKOWIST_NO_RULE, "why", "the job answers 11", reply);
+    }
+    free(copy);
+}
+
+static void why_refused(const uint8_t *image, uint64_t node, uint64_t job, uint64_t number, unsigned refusal) {
+    uint64_t reply = makowist_why(image, LENGTH, node, job, number);
+    hold(reply == refusal, "why, refused", makowist_answer_name(refusal), reply);
+}
+
+/* Three changes behind LAST, led so that each of the seven reasons is given. */
+static void reasons(const uint8_t *before) {
+    uint8_t *image = copied(before, LENGTH), pair[MAKOWIST_PAIR_LENGTH];
+    makowist_put_pair(pair, 3, 7);
+    for (uint64_t k = 1; k <= 3; ++k)
+        accepted(makowist_append(image, LENGTH, pair, sizeof pair), "append");
+    why_is(image, 1, LAST, MAKOWIST_REASON_FINISHED, 0);
+    why_is(image, 1, LAST + 2, MAKOWIST_REASON_EARLIER_CHANGE, LAST + 1);
+    why_is(image, 2, LAST + 1, MAKOWIST_REASON_NOT_COMMITTED, 0);
+    why_is(image, 3, LAST, MAKOWIST_REASON_NO_ROLLBACK_ASKED, 0);
+    for (uint64_t k = 0; k < 4; ++k)
+        accepted(makowist_work(image, LENGTH, 1, 1, LAST + 1 + k / 2, 0, 0), "work");
+    why_is(image, 2, LAST + 2, MAKOWIST_REASON_EARLIER_ORDINAL, LAST + 1);
+    accepted(makowist_rollback(image, LENGTH, LAST + 1), "rollback");
+    why_is(image, 3, LAST + 1, MAKOWIST_REASON_CHANGE_ON_TOP, LAST + 2);
+    accepted(makowist_work(image, LENGTH, 1, 1, LAST + 3, 0, 0), "work");
+    why_is(image, 3, LAST + 1, MAKOWIST_REASON_COMMIT_IN_FLIGHT, LAST + 3);
+    why_refused(image, 0, 1, 0, MAKOWIST_OUT_OF_RANGE);
+    why_refused(image, 1, 5, 0, MAKOWIST_OUT_OF_RANGE);
+    why_refused(image, 2, 1, 0, MAKOWIST_NO_SUCH_NUMBER);
+    why_refused(image, 2, 1, LAST + 4, MAKOWIST_NO_SUCH_NUMBER);
+    why_refused(image, 2, 1, FOLDED, MAKOWIST_FOLDED);
+    why_refused(image, 2, 1, LAST + 3, MAKOWIST_NOT_MASTER);
+    why_refused(image, 1, 1, LAST + 3, MAKOWIST_NOT_WAITING);
+    free(image);
+}
+
 int main(void) {
     uint8_t *image = led();
     nothing_lent(image);
@@ -275,6 +333,7 @@ int main(void) {
     names();
     pairs(image);
     listed(image);
+    reasons(image);
     free(image);
     printf("edge: %u checks hold\n", checks);
     return 0;
