@@ -1,5 +1,5 @@
 -- Order 4, what the reasons name: the number in flight is of a commit that is in flight, and another than the one asked
--- for; the number on top is of a live change; the ordinal was given out. Assumes nothing.
+-- for; the number on top is of the newest live change; the ordinal was given out, and is below the job's own. Assumes nothing.
 use Prim.Native.Nat.{ℕ, zero, suc, _+_, _-_, _≤_, _<_}
 use native.Mathlib.Omega.{arith}
 use mathlib.Core.List.{List, [], _∷_}
@@ -23,7 +23,7 @@ use Rattle.machine.specs.Calls as calls
 use Rattle.machine.proofs.Cases.{or-cases}
 use Rattle.machine.specs.Why.{is, ordinal, unsettled, holds, commitGoes, lowest, lowestIn, inFlight, named, why}
 use Rattle.machine.proofs.Waits.{Waits1, Waits3, waits1, waits3}
-use Rattle.history.specs.Ops.{Op, stack, mem, mem-first, on-top, clash, crash}
+use Rattle.history.specs.Ops.{Op, opsOf, stack, stack-falls, mem, mem-low, mem-first, on-top, clash, crash}
 use Rattle.history.specs.Invariant.{Invariant, Committed}
 use Rattle.history.specs.Frames.{by-eq, by-bool, some-change, some-rollback, paired}
 use Rattle.history.proofs.Commits.{tip-back, asked}
@@ -31,7 +31,7 @@ use Rattle.history.specs.Stages.{Mode, rests, flies, closes, returns, cl
 use Rattle.history.proofs.Staged.{differ, staged}
 use Rattle.history.specs.Demand3.{live}
 use Rattle.history.specs.Whole.{whole, shown, Front, Passed}
-use Rattle.history.specs.Explained.{Given, Flies, flying, going, returning, InFlight, Names}
+use Rattle.history.specs.Explained.{Given, Flies, flying, going, returning, InFlight, OnTop, EarlierOrdinal, Names}
 use Rattle.history.proofs.Follow.{entry-seen, last-seen}
 use Rattle.history.proofs.Fronts.{ways, rest-seen}
 use Rattle.history.proofs.Reached.{Folded, folded, live-committed}
@@ -218,9 +218,9 @@ module _ {s : State} {ops acts : List Op} {bad : List ℕ} (inv : Invariant s op
           (λ p. by-eq i (s .committed .head .revision .0) (λ z. w .begun p .0 (sym z)) (λ z. w .begun p .1 (returned-is inv st i p z)))
       by (returning n p g) = w .pending p (sym n) .0 g
 
-  -- the number on top is of a live change
-  pub live-on-top : i < s .committed .head .revision .0 → mem (s .committed .head .revision .0) (stack ops) ≡ true
-  live-on-top b =
+  -- the revision above a number is a change that stands
+  revision-stands : i < s .committed .head .revision .0 → mem (s .committed .head .revision .0) (stack ops) ≡ true
+  revision-stands b =
       let v = s .committed .head .revision .0 in subst (λ ks. mem v ks ≡ true) (sym (on-top (stack ops) v (sym (inv .committed .tip)) (omega arith))) (mem-first v _)
 
 -- ---- the theorems
@@ -272,13 +272,20 @@ another cs n i j e g =
         moving true e = sym e
         moving false e = refl
 
--- reason 5: what is named is the newest live change
-pub on-top-live : (cs : List Call) (i : ℕ) → i < run cs .state .committed .head .revision .0 → live (run cs .events) 1 (run cs .state .committed .head .revision .0) ≡ true
-on-top-live cs i b =
+-- reason 5: the revision above a number is the newest live change
+pub newest-on-top : (cs : List Call) (i k : ℕ) → (let s = run cs .state in k ≡ s .committed .head .revision .0 → i < k → OnTop s (run cs .events) i k)
+newest-on-top cs i k e b =
     let x = folded cs in
-    let v : run cs .state .committed .head .revision .0 ≡ whole cs .committed .head .revision .0 = ap (λ s. s .committed .head .revision .0) (x .shows) in
-    subst (λ k. live (run cs .events) 1 k ≡ true) (sym v)
-    (sym (live-committed (whole cs) (run cs .events) (x .reached) _) ∙ live-on-top (x .reached .inv) (staged cs) i (subst (λ k. i < k) v b))
+    let v : k ≡ whole cs .committed .head .revision .0 = e ∙ ap (λ s. s .committed .head .revision .0) (x .shows) in
+    let co = x .reached .inv .committed in
+    let ks = stack (opsOf Complete 1 (run cs .events)) in
+    let on : (n : ℕ) → mem n ks ≡ live (run cs .events) 1 n = live-committed (whole cs) (run cs .events) (x .reached) in
+    record {
+      revision = e;
+      later = b;
+      stands = sym (on k) ∙ subst (λ n. mem n ks ≡ true) (sym v) (revision-stands (x .reached .inv) (staged cs) i (omega arith));
+      newest = λ n l. omega (arith, mem-low ks (stack-falls _ (co .rising)) n (on n ∙ l), co .tip);
+    }
 
 -- reason 7: an ordinal that was given out
 own-low : (s : State) (j i : ℕ) → AtMostTwice s → ordinal s j i ≤ s .committed .head .ordinal .0
@@ -291,8 +298,8 @@ own-low s j i h = by (eqb j 1) (eqb j 2) (eqb j 3)
     by false false true = h .rollbacks i
     by false false false = h .rollbacks i
 
-unsettled-some : (s : State) → 1 ≤ unsettled s
-unsettled-some s =
+unsettled-some : (s : State) (j i : ℕ) → 1 ≤ unsettled s
+unsettled-some s j i =
     let a = s .applied .head .ordinal .0 in by a (eqb a 0) refl (allEntries (entrySettled a) (s .log))
   where
     by : (a : ℕ) (z : Bool) → eqb a 0 ≡ z → (b : Bool) → 1 ≤ cond (z || b) (a + 1) a
@@ -304,8 +311,18 @@ unsettled-some s =
         by-zero zero h = absurd (h refl)
         by-zero (suc a) h = omega arith
 
+earlier-ordinal : (cs : List Call) (j i k : ℕ) → (let s = run cs .state in k ≡ unsettled s → k < ordinal s j i → EarlierOrdinal s j i k)
+earlier-ordinal cs j i k e p =
+    let s = run cs .state in
+    record {
+      given = (omega (arith, unsettled-some s j i), omega (arith, own-low s j i (ordinals-at-most-twice cs)));
+      below = p;
+      applied = λ u. e ∙ rw u;
+      after = λ u. e ∙ rw u (omega arith);
+    }
+
 -- ---- all of them
-pub names : (cs : List Call) (n j i : ℕ) → (let s = run cs .state in why s n j i .answer ≡ 0 → Names s (run cs .events) i (why s n j i .reason) (why s n j i .named))
+pub names : (cs : List Call) (n j i : ℕ) → (let s = run cs .state in why s n j i .answer ≡ 0 → Names s (run cs .events) j i (why s n j i .reason) (why s n j i .named))
 names cs n j i e =
     let s = run cs .state in
     let k = reasons.asked s n j i e in
@@ -316,12 +333,8 @@ names cs n j i e =
     record {
       earlier = λ x. (omega (arith, name 3 x), omega (arith, name 3 x, ltb-true (s .change .0 + 1) i (fits 3 x)));
       flight = λ x. another cs n i j e x;
-      top = λ x.
-          let b = ltb-true i (s .committed .head .revision .0) (fits 5 x) in (omega (arith, name 5 x, b), subst (λ y. live (run cs .events) 1 y ≡ true) (sym (name 5 x)) (on-top-live cs i b));
-      ordinal = λ x. (
-        omega (arith, name 7 x, unsettled-some s),
-        omega (arith, name 7 x, ltb-true (unsettled s) (ordinal s j i) (fits 7 x), own-low s j i (ordinals-at-most-twice cs)),
-      );
+      top = λ x. newest-on-top cs i _ (name 5 x) (omega (arith, name 5 x, ltb-true i (s .committed .head .revision .0) (fits 5 x)));
+      ordinal = λ x. earlier-ordinal cs j i _ (name 7 x) (omega (arith, name 7 x, ltb-true (unsettled s) (ordinal s j i) (fits 7 x)));
     }
 
 -- ---- two readings that come to the same in a reached state

@@ -8,7 +8,8 @@ use mathlib.Core.Path.{_≡_}
 use Rattle.kinds.specs.declared.Event.{Event}
 use Rattle.kinds.specs.declared.Status.the-variants.{Pending}
 use Rattle.machine.specs.State.{State, entryOf, last}
-use Rattle.machine.specs.Why.{holds, tried, commitGoes}
+use Rattle.machine.specs.Settled.{settled}
+use Rattle.machine.specs.Why.{ordinal, holds, tried, commitGoes}
 use Rattle.history.specs.Demand3.{live}
 use Rattle.history.specs.Ops.{mem}
 
@@ -30,13 +31,28 @@ pub record InFlight (s : State) (k : ℕ) : Type 0 where
   pub kept : s .log .folded .0 < k
   pub flies : Flies s k
 
--- what the reason r names, k, for the number i, the events being es
-pub record Names (s : State) (es : List Event) (i r k : ℕ) : Type 0 where
-  -- an earlier change that is not through its commit
-  pub earlier : r ≡ 3 → (s .change .0 < k) × (k < i)
+-- the change k on top of number i: the revision, a later one, live, and none that is live is newer
+pub record OnTop (s : State) (es : List Event) (i k : ℕ) : Type 0 where
+  pub revision : k ≡ s .committed .head .revision .0
+  pub later : i < k
+  pub stands : live es 1 k ≡ true
+  pub newest : (n : ℕ) → live es 1 n ≡ true → n ≤ k
+
+-- the earlier ordinal k that job j on number i waits for: it was given out, is below the job's own, and is the applied one if
+-- that is not settled, else the one after
+pub record EarlierOrdinal (s : State) (j i k : ℕ) : Type 0 where
+  pub given : (1 ≤ k) × (k ≤ s .committed .head .ordinal .0)
+  pub below : k < ordinal s j i
+  pub applied : settled s ≡ false → k ≡ s .applied .head .ordinal .0
+  pub after : settled s ≡ true → k ≡ suc (s .applied .head .ordinal .0)
+
+-- what the reason r names, k, for job j and number i, the events being es
+pub record Names (s : State) (es : List Event) (j i r k : ℕ) : Type 0 where
+  -- the change after the last that is through its commit, and an earlier one
+  pub earlier : r ≡ 3 → (k ≡ suc (s .change .0)) × (k < i)
   -- a commit in flight, and another
   pub flight : r ≡ 4 → InFlight s k × (k ≡ i → ⊥)
-  -- a later change, and live
-  pub top : r ≡ 5 → (i < k) × (live es 1 k ≡ true)
-  -- an ordinal that was given out
-  pub ordinal : r ≡ 7 → (1 ≤ k) × (k ≤ s .committed .head .ordinal .0)
+  -- a later live change, which lies on top
+  pub top : r ≡ 5 → OnTop s es i k
+  -- an earlier ordinal that is not settled
+  pub ordinal : r ≡ 7 → EarlierOrdinal s j i k

@@ -97,9 +97,9 @@ module _ (cs : List Call) (es : List Event) (m : List ℕ) (h : view m ≡ run c
         given = subst (λ (q : State). Given q j i (w .reason)) (sym h) (subst (Given s j i) r (reason-given cs n j i a));
         fits = λ b. no-eighth cs n j i a (r ∙ b);
         names =
-            subst (λ (q : State). Names q es i (w .reason) (w .named)) (sym h)
-            (subst (λ (b : ℕ). Names s es i (w .reason) b) k (subst (λ (b : ℕ). Names s es i b (why s n j i .named)) r
-            (subst (λ (b : List Event). Names s b i (why s n j i .reason) (why s n j i .named)) g (names cs n j i a))));
+            subst (λ (q : State). Names q es j i (w .reason) (w .named)) (sym h)
+            (subst (λ (b : ℕ). Names s es j i (w .reason) b) k (subst (λ (b : ℕ). Names s es j i b (why s n j i .named)) r
+            (subst (λ (b : List Event). Names s b j i (why s n j i .reason) (why s n j i .named)) g (names cs n j i a))));
       }
 
 -- any calls on bytes that `fresh` was called on, and then why

@@ -27,4 +27,4 @@ pub record Explained (es : List Event) (m : List ℕ) (j i : ℕ) (w : Why) : Ty
   -- and never the eighth
   pub fits : w .reason ≡ 8 → ⊥
   -- what it names is so
-  pub names : Names (view m) es i (w .reason) (w .named)
+  pub names : Names (view m) es j i (w .reason) (w .named)
