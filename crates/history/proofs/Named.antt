@@ -5,7 +5,7 @@ use native.Mathlib.Omega.{arith}
 use mathlib.Core.List.{List, [], _∷_}
 use mathlib.Core.Bool.{Bool, true, false, not, _||_, cond}
 use mathlib.Core.Path.{_≡_, refl, sym, ap, _∙_, subst}
-use lib.Dec.{eqb, leb}
+use lib.Dec.{eqb, ltb, leb}
 use lib.ListN.{length, getD}
 use borrow.Author.Tests.{eqb-false, lt-ltb, lt-leb, ltb-true, leb-true, leb-false}
 use Rattle.kinds.specs.declared.Transaction.{Transaction}
@@ -21,7 +21,7 @@ use Rattle.machine.specs.Step.{run}
 use Rattle.machine.proofs.Kept.{formed, reached-well-formed}
 use Rattle.machine.specs.Calls as calls
 use Rattle.machine.proofs.Cases.{or-cases}
-use Rattle.machine.specs.Why.{is, ordinal, unsettled, holds, commitGoes, lowest, lowestIn, inFlight, named, why}
+use Rattle.machine.specs.Why.{is, ordinal, unsettled, holds, tried, firstOf, commitGoes, lowest, lowestIn, inFlight, named, why}
 use Rattle.machine.proofs.Waits.{Waits1, Waits3, waits1, waits3}
 use Rattle.history.specs.Ops.{Op, opsOf, stack, stack-falls, mem, mem-low, mem-first, on-top, clash, crash}
 use Rattle.history.specs.Invariant.{Invariant, Committed}
@@ -31,12 +31,12 @@ use Rattle.history.specs.Stages.{Mode, rests, flies, closes, returns, cl
 use Rattle.history.proofs.Staged.{differ, staged}
 use Rattle.history.specs.Demand3.{live}
 use Rattle.history.specs.Whole.{whole, shown, Front, Passed}
-use Rattle.history.specs.Explained.{Given, Flies, flying, going, returning, InFlight, OnTop, EarlierOrdinal, Names}
+use Rattle.history.specs.Explained.{Given, otherwise, Flies, flying, going, returning, InFlight, OnTop, EarlierOrdinal, Names}
 use Rattle.history.proofs.Follow.{entry-seen, last-seen}
 use Rattle.history.proofs.Fronts.{ways, rest-seen}
 use Rattle.history.proofs.Reached.{Folded, folded, live-committed}
 use Rattle.history.proofs.Ordinals.{AtMostTwice, ordinals-at-most-twice}
-use Rattle.history.proofs.Reasons.{Asked, committed-low, closing-is, returned-is, holds-seen, idle-seen, phase-seen, reason-given}
+use Rattle.history.proofs.Reasons.{Asked, committed-low, closing-is, returned-is, holds-seen, idle-seen, phase-seen, no-eighth, reason-given}
 use Rattle.history.proofs.Reasons as reasons
 
 -- ---- the lowest entry that a test holds of
@@ -298,8 +298,8 @@ own-low s j i h = by (eqb j 1) (eqb j 2) (eqb j 3)
     by false false true = h .rollbacks i
     by false false false = h .rollbacks i
 
-unsettled-some : (s : State) (j i : ℕ) → 1 ≤ unsettled s
-unsettled-some s j i =
+unsettled-some : (s : State) → 1 ≤ unsettled s
+unsettled-some s =
     let a = s .applied .head .ordinal .0 in by a (eqb a 0) refl (allEntries (entrySettled a) (s .log))
   where
     by : (a : ℕ) (z : Bool) → eqb a 0 ≡ z → (b : Bool) → 1 ≤ cond (z || b) (a + 1) a
@@ -315,7 +315,7 @@ earlier-ordinal : (cs : List Call) (j i k : ℕ) → (let s = run cs .state in k
 earlier-ordinal cs j i k e p =
     let s = run cs .state in
     record {
-      given = (omega (arith, unsettled-some s j i), omega (arith, own-low s j i (ordinals-at-most-twice cs)));
+      given = (omega (arith, unsettled-some s), omega (arith, own-low s j i (ordinals-at-most-twice cs)));
       below = p;
       applied = λ u. e ∙ rw u;
       after = λ u. e ∙ rw u (omega arith);
@@ -352,18 +352,35 @@ unasked-phase cs k =
       (λ e. ap (λ t. t .rollback .commit) y ∙ x .reached .inv .sides k .unasked (sym (ap (λ t. t .phase) y) ∙ e)),
     )) (reached-well-formed cs)
 
--- an ordinal not settled: "if below the job's own" said of both branches, or of the second alone
-module _ {s : State} {ops acts : List Op} {bad : List ℕ} (inv : Invariant s ops acts bad) (st : Stages s) (i : ℕ) (ph : 1 ≤ entryOf (s .log) i .phase) (n : ℕ) (y : Bool) (u : settled s ≡ false) where
-  pub unsettled-below-2 : calls.job2 s n i y .answer ≡ 11 → holds s 2 i 1 ≡ false → holds s 2 i 6 ≡ false → s .applied .head .ordinal .0 < entryOf (s .log) i .change .ordinal .0
-  unsettled-below-2 e h g = go (holds s 2 i 7) refl
-    where
-      go : (b : Bool) → holds s 2 i 7 ≡ b → s .applied .head .ordinal .0 < entryOf (s .log) i .change .ordinal .0
-      go true x = ltb-true _ _ (rw u at x)
-      go false x = absurd (reasons.eighth-2 inv st i ph n y e h g x)
+-- an earlier ordinal: "if below the job's own" said of both ordinals, or of the one after alone; the same reason is given
+before-last : (a : Bool) (r x y : ℕ) → ((x ≡ 8 → ⊥) → y ≡ x) → (cond a r x ≡ 8 → ⊥) → cond a r y ≡ cond a r x
+before-last true r x y f n = refl
+before-last false r x y f n = f n
 
-  pub unsettled-below-4 : calls.job4 s n i y .answer ≡ 11 → holds s 4 i 1 ≡ false → holds s 4 i 6 ≡ false → s .applied .head .ordinal .0 < entryOf (s .log) i .rollback .ordinal .0
-  unsettled-below-4 e h g = go (holds s 4 i 7) refl
+last-fits : (c d : Bool) (r x : ℕ) → (c ≡ true → d ≡ true) → (cond c r x ≡ x → ⊥) → cond d r x ≡ cond c r x
+last-fits true d r x f n = rw (f refl) refl
+last-fits false d r x f n = absurd (n refl)
+
+module _ (s : State) (j i : ℕ) where
+  wider : holds s j i 7 ≡ true → otherwise s j i 7 ≡ true
+  wider = by (settled s) (s .applied .head .ordinal .0) (ordinal s j i)
     where
-      go : (b : Bool) → holds s 4 i 7 ≡ b → s .applied .head .ordinal .0 < entryOf (s .log) i .rollback .ordinal .0
-      go true x = ltb-true _ _ (rw u at x)
-      go false x = absurd (reasons.eighth-4 inv st i ph n y e h g x)
+      by : (b : Bool) (a o : ℕ) → ltb (cond b (a + 1) a) o ≡ true → (not b || ltb (a + 1) o) ≡ true
+      by true a o e = e
+      by false a o e = refl
+
+  unless-eighth : (firstOf (holds s j i) (tried j) ≡ 8 → ⊥) → firstOf (otherwise s j i) (tried j) ≡ firstOf (holds s j i) (tried j)
+  unfolding firstOf
+  unless-eighth = go (eqb j 1) (eqb j 2) (eqb j 3)
+    where
+      go : (x y z : Bool)
+          → (let rs : List ℕ = cond x (1 ∷ 3 ∷ 4 ∷ []) (cond y (1 ∷ 6 ∷ 7 ∷ []) (cond z (1 ∷ 2 ∷ 4 ∷ 5 ∷ []) (1 ∷ 2 ∷ 6 ∷ 7 ∷ []))) in
+          (firstOf (holds s j i) rs ≡ 8 → ⊥) → firstOf (otherwise s j i) rs ≡ firstOf (holds s j i) rs)
+      go true y z n = refl
+      go false true z n = before-last (holds s j i 1) 1 _ _ (before-last (holds s j i 6) 6 _ _ (last-fits (holds s j i 7) (otherwise s j i 7) 7 8 wider)) n
+      go false false true n = refl
+      go false false false n =
+          before-last (holds s j i 1) 1 _ _ (before-last (holds s j i 2) 2 _ _ (before-last (holds s j i 6) 6 _ _ (last-fits (holds s j i 7) (otherwise s j i 7) 7 8 wider))) n
+
+pub same-reason : (cs : List Call) (n j i : ℕ) → (let s = run cs .state in why s n j i .answer ≡ 0 → firstOf (otherwise s j i) (tried j) ≡ why s n j i .reason)
+same-reason cs n j i e = let k = reasons.asked (run cs .state) n j i e in unless-eighth (run cs .state) j i (λ x. no-eighth cs n j i e (k .gives ∙ x)) ∙ sym (k .gives)

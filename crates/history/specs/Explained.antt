@@ -1,10 +1,11 @@
 -- Order 4, stated: a reason that is given is true and the first of those that the job uses, and what it names is so. Proved
 -- in Reasons and Named; that one is given exactly where the job answers 11 is `why-answers` (crate machine, Waits). Assumes
 -- nothing.
-use Prim.Native.Nat.{ℕ, suc, _≤_, _<_}
+use Prim.Native.Nat.{ℕ, suc, _+_, _≤_, _<_}
 use mathlib.Core.List.{List}
-use mathlib.Core.Bool.{true, false}
+use mathlib.Core.Bool.{Bool, true, false, not, _||_, cond}
 use mathlib.Core.Path.{_≡_}
+use lib.Dec.{eqb, ltb}
 use Rattle.kinds.specs.declared.Event.{Event}
 use Rattle.kinds.specs.declared.Status.the-variants.{Pending}
 use Rattle.machine.specs.State.{State, entryOf, last}
@@ -18,6 +19,10 @@ pub record Given (s : State) (j i r : ℕ) : Type 0 where
   pub used : mem r (tried j) ≡ true
   pub fits : holds s j i r ≡ true
   pub before : (q : ℕ) → mem q (tried j) ≡ true → q < r → holds s j i q ≡ false
+
+-- the reasons with the seventh read otherwise: "if below the job's own" said of the one after alone
+abbrev pub otherwise : (s : State) (j i r : ℕ) → Bool
+otherwise s j i r = cond (eqb r 7) (not (settled s) || ltb (s .applied .head .ordinal .0 + 1) (ordinal s j i)) (holds s j i r)
 
 -- a commit in flight: the next change, the target on it; a change or a rollback in progress; the revision's rollback, the
 -- target on what it returns to
