@@ -12,11 +12,16 @@ use Rattle.kinds.specs.declared.Number.{Number}
 use Rattle.kinds.specs.declared.Ordinal.{Ordinal}
 use Rattle.kinds.specs.declared.Side.{Side}
 use Rattle.kinds.specs.declared.Mastership.{Mastership}
-use Rattle.kinds.specs.declared.Status.the-variants.{None}
-use Rattle.kinds.specs.Numbers.{num}
+use Rattle.kinds.specs.declared.Status.{Status}
+use Rattle.kinds.specs.declared.Status.the-variants.{None, Pending, InProgress, Complete, Aborted, Canceled, Failed}
+use Rattle.kinds.specs.Numbers.{num, follows}
 use Rattle.kinds.specs.Statuses.{codeOf, done, isComplete}
 use Rattle.rules.specs.declared.Plan.{Plan}
+use Rattle.rules.specs.declared.ApplyChangeRule.the-variants as of-change
+use Rattle.rules.specs.declared.ApplyRollbackRule.the-variants as of-rollback
+use Rattle.rules.specs.ApplyChange as change
 use Rattle.rules.specs.ApplyChange.{applyChange}
+use Rattle.rules.specs.ApplyRollback as rollback
 use Rattle.rules.specs.ApplyRollback.{applyRollback}
 use Rattle.machine.specs.State.{State, entryOf, isNode, isMaster, lineOpenFor}
 use Rattle.machine.specs.Rest.{restOf}
@@ -31,7 +36,7 @@ use Rattle.image.proofs.UpTo.{upTo-same, and-left, and-right}
 use Rattle.image.proofs.Scanned.{formed-state}
 use Rattle.controller.specs.declared.reasons.Why.{Why}
 use Rattle.controller.specs.Claims.{Entry}
-use Rattle.controller.specs.Reasons.{given, whyOf, gives, refuses, told, explained, commitFinished, applyFinished, unsettledBy, unapplied, changeWaits, rollbackWaits, flightOr, onTop}
+use Rattle.controller.specs.Reasons.{given, whyOf, gives, refuses, told, explained, commitFinished, applyFinished, unsettledBy, unapplied, quietUnless, changeOver, changeQuiet, rollbackOver, rollbackQuiet, changeWaits, rollbackWaits, flightOr, onTop}
 use Rattle.controller.proofs.Decided.{formed-view, entry-of, plan-1, plan-2, plan-3, plan-4}
 use Rattle.controller.proofs.Answered.{in-log, is-kept}
 
@@ -110,34 +115,92 @@ module _ (x : Side) (a : Ordinal) (q d : Bool) (ed : d ≡ isComplete (x .commit
     pub none-fits : o ≤ k → r ≡ gives 8 0 → r ≡ unapplied x (a .0) q
     none-fits h p = p ∙ sym (by-ordinal ∙ rw (le-ltb k o h))
 
-module _ (t : Transaction) (a : ℕ) (q : Bool) (r : Why) (k : ℕ) (x : Bool) where
-  module _ (ek : k ≡ codeOf (t .change .apply)) (ex : x ≡ applyFinished (t .change) (eqb k 4 || eqb k 6) a) where
-    change-over : changeWaits t a q ≡ cond x (gives 1 0) (unapplied (t .change) a q)
-    change-over =
-        ap (λ (y : Bool). cond y (gives 1 0) (unapplied (t .change) a q))
-        (sym (ex ∙ ap (λ (m : ℕ). applyFinished (t .change) (eqb m 4 || eqb m 6) a) ek))
+module _ (t : Transaction) (a : ℕ) (k : ℕ) (x : Bool) where
+  pub change-over : k ≡ codeOf (t .change .apply) → x ≡ applyFinished (t .change) (eqb k 4 || eqb k 6) a → x ≡ changeOver t a
+  change-over ek ex = ex ∙ ap (λ (m : ℕ). applyFinished (t .change) (eqb m 4 || eqb m 6) a) ek
 
+  pub rollback-over : k ≡ codeOf (t .rollback .apply) → x ≡ applyFinished (t .rollback) (eqb k 5) a → x ≡ rollbackOver t a
+  rollback-over ek ex = ex ∙ ap (λ (m : ℕ). applyFinished (t .rollback) (eqb m 5) a) ek
+
+module _ (t : Transaction) (a : ℕ) (q : Bool) (r : Why) (x : Bool) where
+  module _ (ex : x ≡ changeOver t a) where
     pub change-over-1 : x ≡ true → r ≡ gives 1 0 → r ≡ changeWaits t a q
-    change-over-1 h p = p ∙ sym (change-over ∙ rw h)
+    change-over-1 h p = p ∙ sym (rw (← ex, h))
 
     pub change-left : x ≡ false → r ≡ unapplied (t .change) a q → r ≡ changeWaits t a q
-    change-left h p = p ∙ sym (change-over ∙ rw h)
+    change-left h p = p ∙ sym (rw (← ex, h))
 
-  module _ (ek : k ≡ codeOf (t .rollback .apply)) (ex : x ≡ applyFinished (t .rollback) (eqb k 5) a) where
-    rollback-over : rollbackWaits t a q ≡ cond x (gives 1 0) (cond (is (t .rollback .commit) None) (gives 2 0) (unapplied (t .rollback) a q))
-    rollback-over =
-        ap (λ (y : Bool). cond y (gives 1 0) (cond (is (t .rollback .commit) None) (gives 2 0) (unapplied (t .rollback) a q)))
-        (sym (ex ∙ ap (λ (m : ℕ). applyFinished (t .rollback) (eqb m 5) a) ek))
-
+  module _ (ex : x ≡ rollbackOver t a) where
     pub rollback-over-1 : x ≡ true → r ≡ gives 1 0 → r ≡ rollbackWaits t a q
-    rollback-over-1 h p = p ∙ sym (rollback-over ∙ rw h)
+    rollback-over-1 h p = p ∙ sym (rw (← ex, h))
 
     module _ (h : x ≡ false) (m : ℕ) (em : m ≡ codeOf (t .rollback .commit)) where
       pub rollback-none : m ≡ 0 → r ≡ gives 2 0 → r ≡ rollbackWaits t a q
-      rollback-none z p = p ∙ sym (rollback-over ∙ rw (h, ← em, z))
+      rollback-none z p = p ∙ sym (rw (← ex, h, ← em, z))
 
       pub rollback-left : (m ≡ 0 → ⊥) → r ≡ unapplied (t .rollback) a q → r ≡ rollbackWaits t a q
-      rollback-left z p = p ∙ sym (rollback-over ∙ rw (h, ← em, ne-eqb m 0 z))
+      rollback-left z p = p ∙ sym (rw (← ex, h, ← em, ne-eqb m 0 z))
+
+-- ---- settled, asked where something depends on it
+module _ (x : Side) (o d : Bool) (s : State) (r : Bool) (ed : d ≡ isComplete (x .commit)) where
+  pub quiet-asked : (d && not o) ≡ true → r ≡ settled s → r ≡ quietUnless o x s
+  quiet-asked h p = p ∙ sym (rw (← ed, h))
+
+  pub quiet-unasked : (d && not o) ≡ false → true ≡ quietUnless o x s
+  quiet-unasked h = sym (rw (← ed, h))
+
+module _ (t : Transaction) (h : Head) (s : State) (i : Number) (line ok : Bool) where
+  change-same : applyChange t h (changeQuiet t (h .ordinal .0) s) i line ok ≡ applyChange t h (settled s) i line ok
+  change-same = go (t .change .apply) (isComplete (t .change .commit)) (follows (h .ordinal .0) (t .change .ordinal .0))
+    where
+      go : (a : Status) (b f : Bool) →
+          change.plans (cond b (change.ruleBy a (change.tests t h (cond (b && not (done a && not ((is a Aborted || is a Failed) && (b && f)))) (settled s) true) i line ok)) of-change.Wait) t h i
+          ≡ change.plans (cond b (change.ruleBy a (change.tests t h (settled s) i line ok)) of-change.Wait) t h i
+      go a false f = refl
+      go Pending true f = refl
+      go None true f = refl
+      go InProgress true f = refl
+      go Complete true f = refl
+      go Aborted true f = refl
+      go Canceled true f = refl
+      go Failed true f = refl
+
+  rollback-same : applyRollback t h (rollbackQuiet t (h .ordinal .0) s) i line ok ≡ applyRollback t h (settled s) i line ok
+  rollback-same = go (t .rollback .apply) (isComplete (t .rollback .commit)) (follows (h .ordinal .0) (t .rollback .ordinal .0))
+    where
+      go : (a : Status) (b f : Bool) →
+          rollback.plans (cond b (rollback.ruleBy a (rollback.tests t h (cond (b && not (done a && not (is a Canceled && (b && f)))) (settled s) true) line ok)) of-rollback.Wait) t h i
+          ≡ rollback.plans (cond b (rollback.ruleBy a (rollback.tests t h (settled s) line ok)) of-rollback.Wait) t h i
+      go a false f = refl
+      go Pending true f = refl
+      go None true f = refl
+      go InProgress true f = refl
+      go Complete true f = refl
+      go Aborted true f = refl
+      go Canceled true f = refl
+      go Failed true f = refl
+
+module _ (t : Transaction) (a : ℕ) (s : State) where
+  change-quiet-told : changeWaits t a (changeQuiet t a s) ≡ changeWaits t a (settled s)
+  change-quiet-told = go (changeOver t a) (isComplete (t .change .commit))
+    where
+      go : (o b : Bool) →
+          cond o (gives 1 0) (cond b (cond (ltb (unsettledBy (cond (b && not o) (settled s) true) a) (t .change .ordinal .0)) (gives 7 (unsettledBy (cond (b && not o) (settled s) true) a)) (gives 8 0)) (gives 6 0))
+          ≡ cond o (gives 1 0) (cond b (cond (ltb (unsettledBy (settled s) a) (t .change .ordinal .0)) (gives 7 (unsettledBy (settled s) a)) (gives 8 0)) (gives 6 0))
+      go true b = refl
+      go false true = refl
+      go false false = refl
+
+  rollback-quiet-told : rollbackWaits t a (rollbackQuiet t a s) ≡ rollbackWaits t a (settled s)
+  rollback-quiet-told = go (rollbackOver t a) (is (t .rollback .commit) None) (isComplete (t .rollback .commit))
+    where
+      go : (o n b : Bool) →
+          cond o (gives 1 0) (cond n (gives 2 0) (cond b (cond (ltb (unsettledBy (cond (b && not o) (settled s) true) a) (t .rollback .ordinal .0)) (gives 7 (unsettledBy (cond (b && not o) (settled s) true) a)) (gives 8 0)) (gives 6 0)))
+          ≡ cond o (gives 1 0) (cond n (gives 2 0) (cond b (cond (ltb (unsettledBy (settled s) a) (t .rollback .ordinal .0)) (gives 7 (unsettledBy (settled s) a)) (gives 8 0)) (gives 6 0)))
+      go true n b = refl
+      go false true b = refl
+      go false false true = refl
+      go false false false = refl
 
 -- ---- the lowest in progress
 -- the first of them, and the others
@@ -253,46 +316,59 @@ pub ordinal-in : (l : List ℕ) (h : Head) → formed l ≡ true → h ≡ headA
 unfolding view
 ordinal-in l h w e = rw e (formed-view l w .applied .ordinal)
 
-module _ (l : List ℕ) (i : ℕ) (w : Entry l i) (t : Transaction) (et : t ≡ entryAt l i) (h : Head) (eh : h ≡ headAt l appliedAt) (q : Bool) (eq : q ≡ settled (view l)) (r : Why) where
-  here : t ≡ entryOf (view l .log) i
+module _ (l : List ℕ) (i : ℕ) (w : Entry l i) (t : Transaction) (et : t ≡ entryAt l i) (h : Head) (eh : h ≡ headAt l appliedAt) (q : Bool) where
+  abbrev entry : Transaction
+  entry = entryOf (view l .log) i
+
+  abbrev head : Head
+  head = headAt l appliedAt
+
+  here : t ≡ entry
   here = et ∙ sym (entry-of l i (w .kept) (w .last))
 
-  module _ (n : ℕ) (o : Bool) (eo : o ≡ lineOpenFor (view l .net) n) (k : Number) (ek : k ≡ num i) (p : Plan) where
-    module _ (ep : p ≡ applyChange t h q k o false) where
-      plan2 : p ≡ job2 (view l) n i false
-      unfolding view
-      plan2 =
-          ep ∙ ap₂ (λ (x : Transaction) (y : Head). applyChange x y q k o false) here eh
-          ∙ ap₂ (λ (x : Bool) (y : Number). applyChange (entryOf (view l .log) i) (headAt l appliedAt) x y o false) eq ek
-          ∙ ap (λ (x : Bool). applyChange (entryOf (view l .log) i) (headAt l appliedAt) (settled (view l)) (num i) x false) eo
+  module _ (eq : q ≡ changeQuiet t (h .ordinal .0) (view l)) (r : Why) (n : ℕ) (o : Bool) (eo : o ≡ lineOpenFor (view l .net) n) (k : Number) (ek : k ≡ num i) (p : Plan) (ep : p ≡ applyChange t h q k o false) where
+    asked-2 : q ≡ changeQuiet entry (head .ordinal .0) (view l)
+    asked-2 = eq ∙ ap₂ (λ (x : Transaction) (y : Head). changeQuiet x (y .ordinal .0) (view l)) here eh
 
-      pub change-11 : p .answer ≡ 11 → r ≡ changeWaits t (h .ordinal .0) q → r ≡ explained (view l) (job2 (view l) n i false) 2 i
-      unfolding view
-      change-11 a er =
-          answers-11 (view l) p (job2 (view l) n i false) 2 i r plan2 a
-          (er ∙ ap₂ (λ (x : Transaction) (y : Head). changeWaits x (y .ordinal .0) q) here eh
-          ∙ ap (changeWaits (entryOf (view l .log) i) (headAt l appliedAt .ordinal .0)) eq ∙ sym (told-2 (view l) i))
+    plan2 : p ≡ job2 (view l) n i false
+    unfolding view
+    plan2 =
+        ep ∙ ap₂ (λ (x : Transaction) (y : Head). applyChange x y q k o false) here eh
+        ∙ ap₂ (λ (x : Bool) (y : Number). applyChange entry head x y o false) asked-2 ek
+        ∙ ap (λ (x : Bool). applyChange entry head (changeQuiet entry (head .ordinal .0) (view l)) (num i) x false) eo
+        ∙ change-same entry head (view l) (num i) (lineOpenFor (view l .net) n) false
 
-      pub change-15 : (p .answer ≡ 11 → ⊥) → r ≡ refuses 15 → r ≡ explained (view l) (job2 (view l) n i false) 2 i
-      change-15 a er = answers-15 (view l) p (job2 (view l) n i false) 2 i r plan2 a er
+    pub change-11 : p .answer ≡ 11 → r ≡ changeWaits t (h .ordinal .0) q → r ≡ explained (view l) (job2 (view l) n i false) 2 i
+    unfolding view
+    change-11 a er =
+        answers-11 (view l) p (job2 (view l) n i false) 2 i r plan2 a
+        (er ∙ ap₂ (λ (x : Transaction) (y : Head). changeWaits x (y .ordinal .0) q) here eh
+        ∙ ap (changeWaits entry (head .ordinal .0)) asked-2 ∙ change-quiet-told entry (head .ordinal .0) (view l) ∙ sym (told-2 (view l) i))
 
-    module _ (ep : p ≡ applyRollback t h q k o false) where
-      plan4 : p ≡ job4 (view l) n i false
-      unfolding view
-      plan4 =
-          ep ∙ ap₂ (λ (x : Transaction) (y : Head). applyRollback x y q k o false) here eh
-          ∙ ap₂ (λ (x : Bool) (y : Number). applyRollback (entryOf (view l .log) i) (headAt l appliedAt) x y o false) eq ek
-          ∙ ap (λ (x : Bool). applyRollback (entryOf (view l .log) i) (headAt l appliedAt) (settled (view l)) (num i) x false) eo
+    pub change-15 : (p .answer ≡ 11 → ⊥) → r ≡ refuses 15 → r ≡ explained (view l) (job2 (view l) n i false) 2 i
+    change-15 a er = answers-15 (view l) p (job2 (view l) n i false) 2 i r plan2 a er
 
-      pub rollback-11 : p .answer ≡ 11 → r ≡ rollbackWaits t (h .ordinal .0) q → r ≡ explained (view l) (job4 (view l) n i false) 4 i
-      unfolding view
-      rollback-11 a er =
-          answers-11 (view l) p (job4 (view l) n i false) 4 i r plan4 a
-          (er ∙ ap₂ (λ (x : Transaction) (y : Head). rollbackWaits x (y .ordinal .0) q) here eh
-          ∙ ap (rollbackWaits (entryOf (view l .log) i) (headAt l appliedAt .ordinal .0)) eq ∙ sym (told-4 (view l) i))
+  module _ (eq : q ≡ rollbackQuiet t (h .ordinal .0) (view l)) (r : Why) (n : ℕ) (o : Bool) (eo : o ≡ lineOpenFor (view l .net) n) (k : Number) (ek : k ≡ num i) (p : Plan) (ep : p ≡ applyRollback t h q k o false) where
+    asked-4 : q ≡ rollbackQuiet entry (head .ordinal .0) (view l)
+    asked-4 = eq ∙ ap₂ (λ (x : Transaction) (y : Head). rollbackQuiet x (y .ordinal .0) (view l)) here eh
 
-      pub rollback-15 : (p .answer ≡ 11 → ⊥) → r ≡ refuses 15 → r ≡ explained (view l) (job4 (view l) n i false) 4 i
-      rollback-15 a er = answers-15 (view l) p (job4 (view l) n i false) 4 i r plan4 a er
+    plan4 : p ≡ job4 (view l) n i false
+    unfolding view
+    plan4 =
+        ep ∙ ap₂ (λ (x : Transaction) (y : Head). applyRollback x y q k o false) here eh
+        ∙ ap₂ (λ (x : Bool) (y : Number). applyRollback entry head x y o false) asked-4 ek
+        ∙ ap (λ (x : Bool). applyRollback entry head (rollbackQuiet entry (head .ordinal .0) (view l)) (num i) x false) eo
+        ∙ rollback-same entry head (view l) (num i) (lineOpenFor (view l .net) n) false
+
+    pub rollback-11 : p .answer ≡ 11 → r ≡ rollbackWaits t (h .ordinal .0) q → r ≡ explained (view l) (job4 (view l) n i false) 4 i
+    unfolding view
+    rollback-11 a er =
+        answers-11 (view l) p (job4 (view l) n i false) 4 i r plan4 a
+        (er ∙ ap₂ (λ (x : Transaction) (y : Head). rollbackWaits x (y .ordinal .0) q) here eh
+        ∙ ap (rollbackWaits entry (head .ordinal .0)) asked-4 ∙ rollback-quiet-told entry (head .ordinal .0) (view l) ∙ sym (told-4 (view l) i))
+
+    pub rollback-15 : (p .answer ≡ 11 → ⊥) → r ≡ refuses 15 → r ≡ explained (view l) (job4 (view l) n i false) 4 i
+    rollback-15 a er = answers-15 (view l) p (job4 (view l) n i false) 4 i r plan4 a er
 
 -- ---- by the job
 module _ (s : State) (n j i : ℕ) (r : Why) where

@@ -2,7 +2,7 @@
 -- the code finds them. Assumes nothing.
 use Prim.Native.Nat.{ℕ, _+_}
 use mathlib.Core.Path.{_≡_}
-use mathlib.Core.Bool.{Bool, not, _&&_, _||_, cond}
+use mathlib.Core.Bool.{Bool, true, not, _&&_, _||_, cond}
 use mathlib.Core.List.{List}
 use lib.Dec.{eqb, ltb}
 use Rattle.kinds.specs.declared.Transaction.{Transaction}
@@ -14,6 +14,7 @@ use Rattle.kinds.specs.Statuses.{done, isComplete}
 use Rattle.rules.specs.declared.Plan.{Plan}
 use Rattle.machine.specs.State.{State}
 use Rattle.machine.specs.Rest.{restOf}
+use Rattle.machine.specs.Settled.{settled}
 use Rattle.machine.specs.Why as machine
 use Rattle.machine.specs.Why.{is, reason, named, inFlight, whyNot}
 use Rattle.image.specs.View.{view}
@@ -58,13 +59,30 @@ unsettledBy q a = cond q (a + 1) a
 abbrev pub unapplied : Side → ℕ → (quiet : Bool) → Why
 unapplied x a q = cond (isComplete (x .commit)) (cond (ltb (unsettledBy q a) (x .ordinal .0)) (gives 7 (unsettledBy q a)) (gives 8 0)) (gives 6 0)
 
+-- settled, asked only of a side that is committed and not over: of any other nothing depends on it
+abbrev pub quietUnless : (over : Bool) → Side → State → Bool
+quietUnless o x s = cond (isComplete (x .commit) && not o) (settled s) true
+
+-- a change and a rollback, by the entry and the applied ordinal: over, and what is asked
+abbrev pub changeOver : Transaction → ℕ → Bool
+changeOver t a = applyFinished (t .change) (is (t .change .apply) Aborted || is (t .change .apply) Failed) a
+
+abbrev pub changeQuiet : Transaction → ℕ → State → Bool
+changeQuiet t a s = quietUnless (changeOver t a) (t .change) s
+
+abbrev pub rollbackOver : Transaction → ℕ → Bool
+rollbackOver t a = applyFinished (t .rollback) (is (t .rollback .apply) Canceled) a
+
+abbrev pub rollbackQuiet : Transaction → ℕ → State → Bool
+rollbackQuiet t a s = quietUnless (rollbackOver t a) (t .rollback) s
+
 -- jobs 2 and 4, by the entry, the applied ordinal and whether it is settled
 abbrev pub changeWaits : Transaction → ℕ → (quiet : Bool) → Why
-changeWaits t a q = cond (applyFinished (t .change) (is (t .change .apply) Aborted || is (t .change .apply) Failed) a) (gives 1 0) (unapplied (t .change) a q)
+changeWaits t a q = cond (changeOver t a) (gives 1 0) (unapplied (t .change) a q)
 
 abbrev pub rollbackWaits : Transaction → ℕ → (quiet : Bool) → Why
 rollbackWaits t a q =
-    cond (applyFinished (t .rollback) (is (t .rollback .apply) Canceled) a) (gives 1 0)
+    cond (rollbackOver t a) (gives 1 0)
     (cond (is (t .rollback .commit) None) (gives 2 0) (unapplied (t .rollback) a q))
 
 -- a commit in flight, or what else is told

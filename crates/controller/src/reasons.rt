@@ -12,7 +12,7 @@ ghost use Rattle.image.specs.Records.{entryAt};
 ghost use Rattle.image.specs.View.{upFrom, view};
 ghost use Rattle.image.specs.Formed.{formed};
 ghost use Rattle.controller.specs.Claims.{Entry};
-ghost use Rattle.controller.specs.Reasons.{given, gives, refuses, told, explained, commitFinished, applyFinished, unsettledBy, unapplied, changeWaits, rollbackWaits, flightOr, onTop};
+ghost use Rattle.controller.specs.Reasons.{given, gives, refuses, told, explained, commitFinished, applyFinished, unsettledBy, unapplied, quietUnless, changeOver, changeQuiet, rollbackOver, rollbackQuiet, changeWaits, rollbackWaits, flightOr, onTop};
 use crate::calls::in_log;
 use crate::calls::is_node;
 use crate::deciding::job1;
@@ -28,6 +28,7 @@ use image::load_change;
 use image::load_entry;
 use image::load_head;
 use image::load_mastership;
+use kinds::Head;
 use kinds::Number;
 use kinds::Ordinal;
 use kinds::Side;
@@ -100,6 +101,24 @@ fn apply_finished(x: Side, ends: bool, a: Ordinal) -> bool
     over & !(ends & (complete & next))
 }
 
+fn change_over(t: Transaction, a: Ordinal) -> bool
+    ensures { λ r. ⌜ r ≡ changeOver t (a .0) ⌝ }
+{
+    let x = t.change;
+    let apply = x.apply;
+    let code = apply.code();
+    apply_finished(x, (code == 4) | (code == 6), a)
+}
+
+fn rollback_over(t: Transaction, a: Ordinal) -> bool
+    ensures { λ r. ⌜ r ≡ rollbackOver t (a .0) ⌝ }
+{
+    let y = t.rollback;
+    let apply = y.apply;
+    let code = apply.code();
+    apply_finished(y, code == 5, a)
+}
+
 // The applied ordinal if not settled, else the one after.
 fn unsettled(a: u32, quiet: bool) -> u32
     requires { ⌜ a ≤ 131070 ⌝ }
@@ -131,13 +150,10 @@ fn change_waits(t: Transaction, a: Ordinal, quiet: bool) -> Why
     requires { ⌜ a .0 ≤ 131070 ⌝ }
     ensures { λ r. ⌜ r ≡ changeWaits t (a .0) quiet ⌝ }
 {
-    let x = t.change;
-    let apply = x.apply;
-    let code = apply.code();
-    let ends = (code == 4) | (code == 6);
-    if apply_finished(x, ends, a) {
+    if change_over(t, a) {
         return Why::gives(1, 0);
     }
+    let x = t.change;
     unapplied(x, a, quiet)
 }
 
@@ -145,12 +161,10 @@ fn rollback_waits(t: Transaction, a: Ordinal, quiet: bool) -> Why
     requires { ⌜ a .0 ≤ 131070 ⌝ }
     ensures { λ r. ⌜ r ≡ rollbackWaits t (a .0) quiet ⌝ }
 {
-    let y = t.rollback;
-    let apply = y.apply;
-    let code = apply.code();
-    if apply_finished(y, code == 5, a) {
+    if rollback_over(t, a) {
         return Why::gives(1, 0);
     }
+    let y = t.rollback;
     let commit = y.commit;
     if commit.code() == 0 {
         return Why::gives(2, 0);
@@ -252,6 +266,40 @@ fn commit_rollback_told(s: &[u8], number: u16) -> Why
     flight_or(s, on_top(v, number))
 }
 
+// ---- settled, where something depends on it: else no entry is looked at
+
+fn quiet_unless(s: &[u8], over: bool, x: Side) -> bool
+    requires { ⌜ formed (now s) ≡ true ⌝ }
+    ensures { λ r. ⌜ r ≡ quietUnless over x (view (now (s .entry))) ⌝ }
+{
+    let commit = x.commit;
+    let complete = commit.complete();
+    if complete & !over {
+        return settled(s);
+    }
+    true
+}
+
+fn change_quiet(s: &[u8], t: Transaction, h: Head) -> bool
+    requires { ⌜ formed (now s) ≡ true ⌝ }
+    ensures { λ r. ⌜ r ≡ changeQuiet t (h .ordinal .0) (view (now (s .entry))) ⌝ }
+{
+    let a = h.ordinal;
+    let over = change_over(t, a);
+    let x = t.change;
+    quiet_unless(s, over, x)
+}
+
+fn rollback_quiet(s: &[u8], t: Transaction, h: Head) -> bool
+    requires { ⌜ formed (now s) ≡ true ⌝ }
+    ensures { λ r. ⌜ r ≡ rollbackQuiet t (h .ordinal .0) (view (now (s .entry))) ⌝ }
+{
+    let a = h.ordinal;
+    let over = rollback_over(t, a);
+    let y = t.rollback;
+    quiet_unless(s, over, y)
+}
+
 // ---- each job: a reason where it answers 11, else 15
 
 fn commit_change_why(s: &[u8], number: u16) -> Why
@@ -282,7 +330,7 @@ fn apply_change_why(s: &[u8], node: u8, number: u16) -> Why
 {
     let t = load_entry(s, number);
     let h = load_head(s, APPLIED_AT);
-    let quiet = settled(s);
+    let quiet = change_quiet(s, t, h);
     let open = line(s, node);
     let p = apply_change(t, h, quiet, Number::of(number), open, false);
     if p.answer == 11 {
@@ -298,7 +346,7 @@ fn apply_rollback_why(s: &[u8], node: u8, number: u16) -> Why
 {
     let t = load_entry(s, number);
     let h = load_head(s, APPLIED_AT);
-    let quiet = settled(s);
+    let quiet = rollback_quiet(s, t, h);
     let open = line(s, node);
     let p = apply_rollback(t, h, quiet, Number::of(number), open, false);
     if p.answer == 11 {
