@@ -1,5 +1,6 @@
 -- Order 4, what the reasons name: the number in flight is of a commit that is in flight, and another than the one asked
--- for; the number on top is of the newest live change; the ordinal was given out, and is below the job's own. Assumes nothing.
+-- for; the number on top is of the newest live change; the ordinal was given out, is below the job's own, and one that is kept
+-- carries it (Carried). Assumes nothing.
 use Prim.Native.Nat.{ℕ, zero, suc, _+_, _-_, _≤_, _<_}
 use native.Mathlib.Omega.{arith}
 use mathlib.Core.List.{List, [], _∷_}
@@ -31,11 +32,12 @@ use Rattle.history.specs.Stages.{Mode, rests, flies, closes, returns, cl
 use Rattle.history.proofs.Staged.{differ, staged}
 use Rattle.history.specs.Demand3.{live}
 use Rattle.history.specs.Whole.{whole, shown, Front, Passed}
-use Rattle.history.specs.Explained.{Given, otherwise, Flies, flying, going, returning, InFlight, OnTop, EarlierOrdinal, Names}
+use Rattle.history.specs.Explained.{Given, otherwise, Flies, flying, going, returning, InFlight, OnTop, Carried, EarlierOrdinal, Names}
 use Rattle.history.proofs.Follow.{entry-seen, last-seen}
 use Rattle.history.proofs.Fronts.{ways, rest-seen}
 use Rattle.history.proofs.Reached.{Folded, folded, live-committed}
 use Rattle.history.proofs.Ordinals.{AtMostTwice, ordinals-at-most-twice}
+use Rattle.history.proofs.Carried.{applied-carried, next-carried}
 use Rattle.history.proofs.Reasons.{Asked, committed-low, closing-is, returned-is, holds-seen, idle-seen, phase-seen, no-eighth, reason-given}
 use Rattle.history.proofs.Reasons as reasons
 
@@ -314,11 +316,17 @@ unsettled-some s =
 earlier-ordinal : (cs : List Call) (j i k : ℕ) → (let s = run cs .state in k ≡ unsettled s → k < ordinal s j i → EarlierOrdinal s j i k)
 earlier-ordinal cs j i k e p =
     let s = run cs .state in
+    let low : k < s .committed .head .ordinal .0 = omega (arith, own-low s j i (ordinals-at-most-twice cs)) in
+    let applied : settled s ≡ false → k ≡ s .applied .head .ordinal .0 = λ u. e ∙ rw u in
+    let after : settled s ≡ true → k ≡ suc (s .applied .head .ordinal .0) = λ u. e ∙ rw u (omega arith) in
     record {
-      given = (omega (arith, unsettled-some s), omega (arith, own-low s j i (ordinals-at-most-twice cs)));
+      given = (omega (arith, unsettled-some s), omega arith);
       below = p;
-      applied = λ u. e ∙ rw u;
-      after = λ u. e ∙ rw u (omega arith);
+      applied = applied;
+      after = after;
+      carried =
+          by-bool (settled s) (λ u. subst (Carried s) (sym (after u)) (next-carried cs (omega (arith, after u))))
+          (λ u. subst (Carried s) (sym (applied u)) (applied-carried s u));
     }
 
 -- ---- all of them

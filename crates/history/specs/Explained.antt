@@ -7,6 +7,7 @@ use mathlib.Core.Bool.{Bool, true, false, not, _||_, cond}
 use mathlib.Core.Path.{_≡_}
 use lib.Dec.{eqb, ltb}
 use Rattle.kinds.specs.declared.Event.{Event}
+use Rattle.kinds.specs.declared.Transaction.{Transaction}
 use Rattle.kinds.specs.declared.Status.the-variants.{Pending}
 use Rattle.machine.specs.State.{State, entryOf, last}
 use Rattle.machine.specs.Settled.{settled}
@@ -43,13 +44,24 @@ pub record OnTop (s : State) (es : List Event) (i k : ℕ) : Type 0 where
   pub stands : live es 1 k ≡ true
   pub newest : (n : ℕ) → live es 1 n ≡ true → n ≤ k
 
--- the earlier ordinal k that job j on number i waits for: it was given out, is below the job's own, and is the applied one if
--- that is not settled, else the one after
+-- who carries ordinal k: a transaction that is kept, by its change or by its rollback
+pub data Carries (t : Transaction) (k : ℕ) : Type 0 where
+  byChange : t .change .ordinal .0 ≡ k → Carries t k
+  byRollback : t .rollback .ordinal .0 ≡ k → Carries t k
+
+pub record Carried (s : State) (k : ℕ) : Type 0 where
+  pub number : ℕ
+  pub kept : (s .log .folded .0 < number) × (number ≤ last (s .log))
+  pub carries : Carries (entryOf (s .log) number) k
+
+-- the earlier ordinal k that job j on number i waits for: it was given out, is below the job's own, is the applied one if
+-- that is not settled, else the one after, and a transaction that is kept carries it
 pub record EarlierOrdinal (s : State) (j i k : ℕ) : Type 0 where
   pub given : (1 ≤ k) × (k ≤ s .committed .head .ordinal .0)
   pub below : k < ordinal s j i
   pub applied : settled s ≡ false → k ≡ s .applied .head .ordinal .0
   pub after : settled s ≡ true → k ≡ suc (s .applied .head .ordinal .0)
+  pub carried : Carried s k
 
 -- what the reason r names, k, for job j and number i, the events being es
 pub record Names (s : State) (es : List Event) (j i r k : ℕ) : Type 0 where
