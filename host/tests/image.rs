@@ -125,15 +125,16 @@ fn the_lean_calls_lead_to_the_same_bytes() {
         let mut folded = Number::NONE;
         for turn in 0..20_000 {
             let state = image::decode(&typed).unwrap();
+            if turn % 4 == 0 {
+                let query = Query::Why(any_question(&state, &mut random));
+                assert_eq!(lean::read(&lean, query), query.packed(Some(&state), &typed), "{query:?}");
+            }
             let request = if turn % 8 == 0 { wild(&state, &mut random) } else { sensible(&state, 128, &mut random) };
             let pairs = if let Request::Append(pairs) = &request { pairs.as_slice() } else { &[] };
             let expected = northbound::serve(&mut typed, &request).packed();
             assert_eq!(lean::serve(&mut lean, &request, pairs), expected, "{request:?}");
             assert!(typed == lean, "{request:?}");
             folded = folded.max(state.folded);
-            let query = Query::Why(any_question(&state, &mut random));
-            let expected = query.packed(image::decode(&typed).as_ref(), &typed);
-            assert_eq!(lean::read(&lean, query), expected, "{query:?}");
         }
         assert!(folded > Number(128));
     }
@@ -270,7 +271,7 @@ fn the_lean_reasons_are_the_same() {
     numbers.extend([at::COMMITTED, at::APPLIED].iter().flat_map(|head| [0, 2, 4, 6].map(|field| head + field)));
     numbers.push(at::COMMITTED_CHANGE);
     let mut seen = [0; 8];
-    for _ in 0..20_000 {
+    for _ in 0..6_000 {
         let mut bytes = begin.clone();
         for _ in 0..random.between(1, 4) {
             bytes[random.one_of(&statuses)] = random.below(7) as u8;
@@ -285,7 +286,7 @@ fn the_lean_reasons_are_the_same() {
             seen.get_mut(reason.wrapping_sub(1)).into_iter().for_each(|count| *count += 1);
         }
     }
-    assert!(seen.iter().all(|count| *count > 100), "{seen:?}");
+    assert!(seen.iter().all(|count| *count > 30), "{seen:?}");
 }
 
 #[test]
