@@ -15,6 +15,6 @@ pub mod Audited
 pub mod Guaranteed
 pub mod Staged
 pub mod Places
-pub mod Carried
 pub mod Reasons
+pub mod Carried
 pub mod Named

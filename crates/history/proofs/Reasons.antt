@@ -1,5 +1,6 @@
--- Order 4: the reason given is true of the state and every one before it is false; in a reached state it is never the
--- eighth. That one is given exactly when the job answers 11 is `why-answers` (crate machine, Waits). Assumes nothing.
+-- Order 4: the reason given is true of the state and every one before it, of those that the job uses, is false; in a reached
+-- state it is never the eighth. That one is given exactly when the job answers 11 is `why-answers` (crate machine, Waits).
+-- Assumes nothing.
 use Prim.Native.Nat.{ℕ, zero, suc, _+_, _≤_, _<_}
 use native.Mathlib.Omega.{arith}
 use mathlib.Core.List.{List, [], _∷_}

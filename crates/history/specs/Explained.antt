@@ -1,13 +1,12 @@
 -- Order 4, stated: a reason that is given is true and the first of those that the job uses, and what it names is so. Proved
--- in Reasons and Named; that one is given exactly where the job answers 11 is `why-answers` (crate machine, Waits). Assumes
--- nothing.
+-- in Reasons, Carried and Named; that one is given exactly where the job answers 11 is `why-answers` (crate machine, Waits).
+-- Assumes nothing.
 use Prim.Native.Nat.{ℕ, suc, _+_, _≤_, _<_}
 use mathlib.Core.List.{List}
 use mathlib.Core.Bool.{Bool, true, false, not, _||_, cond}
 use mathlib.Core.Path.{_≡_}
 use lib.Dec.{eqb, ltb}
 use Rattle.kinds.specs.declared.Event.{Event}
-use Rattle.kinds.specs.declared.Transaction.{Transaction}
 use Rattle.kinds.specs.declared.Status.the-variants.{Pending}
 use Rattle.machine.specs.State.{State, entryOf, last}
 use Rattle.machine.specs.Settled.{settled}
@@ -44,15 +43,16 @@ pub record OnTop (s : State) (es : List Event) (i k : ℕ) : Type 0 where
   pub stands : live es 1 k ≡ true
   pub newest : (n : ℕ) → live es 1 n ≡ true → n ≤ k
 
--- who carries ordinal k: a transaction that is kept, by its change or by its rollback
-pub data Carries (t : Transaction) (k : ℕ) : Type 0 where
-  byChange : t .change .ordinal .0 ≡ k → Carries t k
-  byRollback : t .rollback .ordinal .0 ≡ k → Carries t k
+-- number x carries ordinal k, by its change or by its rollback, and the apply of that is not finished
+pub data Carries (s : State) (x k : ℕ) : Type 0 where
+  byChange : entryOf (s .log) x .change .ordinal .0 ≡ k → holds s 2 x 1 ≡ false → Carries s x k
+  byRollback : entryOf (s .log) x .rollback .ordinal .0 ≡ k → holds s 4 x 1 ≡ false → Carries s x k
 
+-- and one that is kept does
 pub record Carried (s : State) (k : ℕ) : Type 0 where
   pub number : ℕ
   pub kept : (s .log .folded .0 < number) × (number ≤ last (s .log))
-  pub carries : Carries (entryOf (s .log) number) k
+  pub carries : Carries s number k
 
 -- the earlier ordinal k that job j on number i waits for: it was given out, is below the job's own, is the applied one if
 -- that is not settled, else the one after, and a transaction that is kept carries it
