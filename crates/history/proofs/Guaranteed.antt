@@ -21,6 +21,7 @@ use Rattle.history.specs.Demand3.{tells, told, completed, live}
 use Rattle.history.specs.Ops.{Op, push, pop, none, opsIf, opsOf, pushed, popped, told-change, told-rollback, top, tail, stack, newest, Rising, stack-falls, mem, mem-low, pushed-low, popped-pushed, standing, top-standing, opAt, first, first-rises, Sub, sub-pushed, sub-popped, first-sub, held, clash, crash, or-late, rest-rises}
 use Rattle.history.specs.Invariant.{complete, isStarted, changeTouched, Paired}
 use Rattle.history.specs.Frames.{by-eq}
+use Rattle.history.proofs.Places.{more-pushed, more-popped, opAt-pushed}
 use Rattle.history.proofs.Applies as applies
 use Rattle.history.proofs.Jobs as jobs
 use Rattle.history.proofs.Reached.{Reached, reached, by-history, live-committed, live-applied}
@@ -140,30 +141,9 @@ step-tells : (cs : List Call) (c : Call) → Tells (whole cs) (step (run cs .sta
 step-tells cs c = by-history cs (λ r next. Tells (whole cs) (r .event)) (λ a. quiet (whole cs) _ (λ k. refl) (λ k. refl)) c (each-tells (whole cs))
 
 -- ---- lists
-more-pushed : (x : Op) (xs : List Op) (k : ℕ) → pushed k xs ≡ true → pushed k (x ∷ xs) ≡ true
-unfolding pushed
-more-pushed (push j) xs k e = or-late (eqb j k) (pushed k xs) e
-more-pushed (pop j) xs k e = e
-more-pushed none xs k e = e
-
-more-popped : (x : Op) (xs : List Op) (k : ℕ) → popped k xs ≡ true → popped k (x ∷ xs) ≡ true
-unfolding popped
-more-popped (push j) xs k e = e
-more-popped (pop j) xs k e = or-late (eqb j k) (popped k xs) e
-more-popped none xs k e = e
-
 push-pushed : (x : Op) (xs : List Op) (k : ℕ) → x ≡ push k → pushed k (x ∷ xs) ≡ true
 unfolding pushed
 push-pushed x xs k e = rw e (ap (λ b. b || pushed k xs) (eq-eqb k k refl))
-
-opAt-pushed : (xs : List Op) (o k : ℕ) → opAt xs o ≡ push k → pushed k xs ≡ true
-unfolding opAt
-opAt-pushed [] o k e = let z : _≡_ {A = ℕ} 0 1 = cc in absurd (omega arith)
-opAt-pushed (x ∷ xs) o k e = go (eqb o (suc (length xs))) e (opAt-pushed xs o k)
-  where
-    go : (b : Bool) → cond b x (opAt xs o) ≡ push k → (opAt xs o ≡ push k → pushed k xs ≡ true) → pushed k (x ∷ xs) ≡ true
-    go true f r = push-pushed x xs k f
-    go false f r = more-pushed x xs k (r f)
 
 -- an op with an ordinal passed is among those passed
 pushed-first : (xs : List Op) (a o k : ℕ) → opAt xs o ≡ push k → o ≤ a → pushed k (first xs a) ≡ true

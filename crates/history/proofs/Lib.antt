@@ -12,9 +12,9 @@ pub mod Over
 pub mod Ordinals
 pub mod Marked
 pub mod Audited
+pub mod Places
 pub mod Guaranteed
 pub mod Staged
-pub mod Places
 pub mod Reasons
 pub mod Carried
 pub mod Named

@@ -10,13 +10,13 @@ use borrow.Author.Tests.{eqb-true, eqb-false, eq-eqb, leb-true}
 use Rattle.machine.proofs.Cases.{and-right}
 use Rattle.history.specs.Ops.{Op, push, pop, none, pushed, popped, Rising, pushed-low, top-standing, opAt, opAt-in, first, rest-rises, or-late, clash}
 
-more-pushed : (x : Op) (xs : List Op) (k : ℕ) → pushed k xs ≡ true → pushed k (x ∷ xs) ≡ true
+pub more-pushed : (x : Op) (xs : List Op) (k : ℕ) → pushed k xs ≡ true → pushed k (x ∷ xs) ≡ true
 unfolding pushed
 more-pushed (push j) xs k e = or-late (eqb j k) (pushed k xs) e
 more-pushed (pop j) xs k e = e
 more-pushed none xs k e = e
 
-more-popped : (x : Op) (xs : List Op) (k : ℕ) → popped k xs ≡ true → popped k (x ∷ xs) ≡ true
+pub more-popped : (x : Op) (xs : List Op) (k : ℕ) → popped k xs ≡ true → popped k (x ∷ xs) ≡ true
 unfolding popped
 more-popped (push j) xs k e = e
 more-popped (pop j) xs k e = or-late (eqb j k) (popped k xs) e
