@@ -13,3 +13,5 @@ pub mod Traps
 pub mod Reconnected
 pub mod Retried
 pub mod Waits
+pub mod Worked
+pub mod Turns

@@ -17,3 +17,5 @@ pub mod Witnesses
 pub mod FoldSessions
 pub mod Why
 pub mod WhySessions
+pub mod Night
+pub mod NightSessions

@@ -26,7 +26,11 @@ unfoldable pub run : List Call → Past
 run [] = record { state = fresh; events = [] }
 run (c ∷ cs) = let o = step (run cs .state) c in record { state = o .next; events = o .reply .event ∷ run cs .events }
 
--- the state after calls made from any state, the newest first
+-- the state after calls made from any state, and the events that they give, the newest first
 unfoldable pub stateFrom : State → List Call → State
 stateFrom s [] = s
 stateFrom s (c ∷ cs) = step (stateFrom s cs) c .next
+
+unfoldable pub eventsFrom : State → List Call → List Event
+eventsFrom s [] = []
+eventsFrom s (c ∷ cs) = step (stateFrom s cs) c .reply .event ∷ eventsFrom s cs
