@@ -18,3 +18,6 @@ pub mod Staged
 pub mod Reasons
 pub mod Carried
 pub mod Named
+pub mod Left
+pub mod Ends
+pub mod Nights

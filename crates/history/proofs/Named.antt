@@ -38,7 +38,7 @@ use Rattle.history.proofs.Fronts.{ways, rest-seen}
 use Rattle.history.proofs.Reached.{Folded, folded, live-committed}
 use Rattle.history.proofs.Ordinals.{AtMostTwice, ordinals-at-most-twice}
 use Rattle.history.proofs.Carried.{applied-carried, next-carried}
-use Rattle.history.proofs.Reasons.{Asked, committed-low, closing-is, returned-is, holds-seen, idle-seen, phase-seen, no-eighth, reason-given}
+use Rattle.history.proofs.Reasons.{Says, Asked, committed-low, closing-is, returned-is, holds-seen, idle-seen, says-seen, no-eighth, reason-given}
 use Rattle.history.proofs.Reasons as reasons
 
 -- ---- the lowest entry that a test holds of
@@ -177,7 +177,7 @@ module _ {s : State} {ops acts : List Op} {bad : List ℕ} (inv : Invariant s op
   abbrev tx : Transaction
   tx = entryOf (s .log) i
 
-  not-itself-1 : 1 ≤ tx .phase → (y : Bool) → calls.job1 s i y .answer ≡ 11 → holds s 1 i 1 ≡ false → Flies s i → ⊥
+  not-itself-1 : Says tx → (y : Bool) → calls.job1 s i y .answer ≡ 11 → holds s 1 i 1 ≡ false → Flies s i → ⊥
   not-itself-1 ph y e h = by
     where
       w : Waits1 tx (s .committed .head) i (s .change) (restOf s) (present (s .committed .values) tx) y e
@@ -191,7 +191,7 @@ module _ {s : State} {ops acts : List Op} {bad : List ℕ} (inv : Invariant s op
       by (flying n b g) = go (tx .change .commit) refl
         where
           go : (x : Status) → tx .change .commit ≡ x → ⊥
-          go None p = st .entries i .some ph .0 p
+          go None p = ph .0 p
           go Pending p = w .pending p n .0 g
           go InProgress p = w .begun p .0 n
           go Complete p = omega (arith, committed-low inv st i p)
@@ -239,7 +239,7 @@ module _ {w : State} {ops acts : List Op} {bad : List ℕ} (inv : Invariant w op
   unfolding planOf mem
   not-itself o n i zero k g x = absurd (omega (arith, k .job .0))
   not-itself o n i (suc zero) k g x =
-      not-itself-1 inv st i (phase-seen inv st b vs f o i (k .number .0) (k .number .1)) false (idle-seen inv st b vs f i (k .number .0) n 1 false (k .waits))
+      not-itself-1 inv st i (says-seen inv st b vs f o i (k .number .0) (k .number .1)) false (idle-seen inv st b vs f i (k .number .0) n 1 false (k .waits))
       (sym (holds-seen inv st b vs f i (k .number .0) 1 1) ∙ g .before 1 refl (omega arith)) (flies-whole i (k .number .0) x)
   not-itself o n i (suc (suc zero)) k g x = crash (g .used)
   not-itself o n i (suc (suc (suc zero))) k g x =

@@ -24,7 +24,7 @@ use Rattle.machine.proofs.Cases.{and-left, and-right, commit-change, commit-rol
 use Rattle.history.specs.Ops.{Op, crash}
 use Rattle.history.specs.Invariant.{changeTouched, rollbackTouched, Invariant}
 use Rattle.history.specs.Whole.{whole, shown, EntryPassed, Passed}
-use Rattle.history.proofs.Follow.{entry-seen, last-seen, plan-seen}
+use Rattle.history.proofs.Follow.{last-seen, plan-seen}
 use Rattle.history.proofs.Fronts.{ways, rest-seen, settled-seen, ended, fold-passed}
 use Rattle.history.proofs.Reached.{Folded, folded}
 
@@ -69,32 +69,32 @@ module _ (w : State) {ops acts : List Op} {bad : List ℕ} (inv : Invariant w op
   return-idle = ways inv i e (λ a b u. ap going (u .apply)) (λ a b p u. ap going (u .apply)) (λ a b c d. ap going c) (λ a b c d. ap going c)
 
   abbrev Refused : Plan → Type 0
-  Refused p = p .answer ≡ 0 → ⊥
+  Refused p = (p .answer ≡ 0 → ⊥) × (p .answer ≡ 9 → ⊥)
 
   none-goes : (net : Net) (n : ℕ) (a b d ok : Bool)
       → Refused (cond a (job1 (withNet w net) i ok) (cond b (job2 (withNet w net) n i ok) (cond d (job3 (withNet w net) i) (job4 (withNet w net) n i ok))))
   none-goes net n true b d ok =
       commit-change t (w .committed .head) i Refused (w .change) (restOf w) (present (w .committed .values) t) ok
       (record {
-        wait = λ z. omega arith;
+        wait = ((λ z. omega arith), (λ z. omega arith));
         full = λ x y z. not-going (t .change .commit) InProgress commit-idle refl x;
         begin = λ x y z. not-going (t .change .commit) Pending commit-idle refl x;
         aim = λ x y z. not-going (t .change .commit) Pending commit-idle refl x;
         land = λ x y z o u. not-going (t .change .commit) InProgress commit-idle refl x;
         reject = λ x y. not-going (t .change .commit) InProgress commit-idle refl x;
         finish = λ x y. not-going (t .change .commit) InProgress commit-idle refl x;
-        close = λ x y z. omega arith;
+        close = λ x y. absurd (omega arith);
       })
   none-goes net n false true d ok =
       apply-change t (w .applied .head) i Refused (settled w) (lineOpenFor net n) ok
       (record {
-        wait = λ z. omega arith;
-        noLine = λ z. omega arith;
+        wait = ((λ z. omega arith), (λ z. omega arith));
+        noLine = ((λ z. omega arith), (λ z. omega arith));
         begin = λ m x y. not-going (t .change .apply) Pending apply-idle refl x;
         aim = λ m x y z. not-going (t .change .apply) Pending apply-idle refl x;
         abort = λ m x y z. not-going (t .change .apply) Pending apply-idle refl x;
-        closeAborted = λ m x z. omega (arith, m .1, p .change (ap changeTouched x));
-        closeFailed = λ m x z. omega (arith, m .1, p .change (ap changeTouched x));
+        closeAborted = λ m x. absurd (omega (arith, m .1, p .change (ap changeTouched x)));
+        closeFailed = λ m x. absurd (omega (arith, m .1, p .change (ap changeTouched x)));
         finish = λ m x y. not-going (t .change .apply) InProgress apply-idle refl x;
         fail = λ m x. not-going (t .change .apply) InProgress apply-idle refl x;
         push = λ m x y. not-going (t .change .apply) InProgress apply-idle refl x;
@@ -102,7 +102,7 @@ module _ (w : State) {ops acts : List Op} {bad : List ℕ} (inv : Invariant w op
   none-goes net n false false true ok =
       commit-rollback t (w .committed .head) i Refused (restOf w)
       (record {
-        wait = λ z. omega arith;
+        wait = ((λ z. omega arith), (λ z. omega arith));
         full = λ x y z. not-going (t .rollback .commit) InProgress rollback-idle refl x;
         begin = λ x y z. not-going (t .rollback .commit) Pending rollback-idle refl x;
         aim = λ x y z. not-going (t .rollback .commit) Pending rollback-idle refl x;
@@ -112,21 +112,20 @@ module _ (w : State) {ops acts : List Op} {bad : List ℕ} (inv : Invariant w op
   none-goes net n false false false ok =
       apply-rollback t (w .applied .head) i Refused (settled w) (lineOpenFor net n) ok
       (record {
-        wait = λ z. omega arith;
-        noLine = λ z. omega arith;
-        rejected = λ z. omega arith;
+        wait = ((λ z. omega arith), (λ z. omega arith));
+        noLine = ((λ z. omega arith), (λ z. omega arith));
+        rejected = ((λ z. omega arith), (λ z. omega arith));
         begin = λ m x y z. not-going (t .rollback .apply) Pending return-idle refl x;
         aim = λ m x y z. not-going (t .rollback .apply) Pending return-idle refl x;
         cancel = λ m x y z. not-going (t .rollback .apply) Pending return-idle refl x;
-        close = λ m x z. omega (arith, m .1, p .rollback (ap rollbackTouched x));
+        close = λ m x. absurd (omega (arith, m .1, p .rollback (ap rollbackTouched x)));
         finish = λ m x y. not-going (t .rollback .apply) InProgress return-idle refl x;
         push = λ m x y. not-going (t .rollback .apply) InProgress return-idle refl x;
       })
 
-plan-idle : (w : State) {ops acts : List Op} {bad : List ℕ} (inv : Invariant w ops acts bad) (b : ℕ) → Passed w b → (i : ℕ) → 1 ≤ i → i ≤ b → finished (entryOf (w .log) i) ≡ true
+pub plan-idle : (w : State) {ops acts : List Op} {bad : List ℕ} (inv : Invariant w ops acts bad) (b : ℕ) → Passed w b → (i : ℕ) → 1 ≤ i → i ≤ b → finished (entryOf (w .log) i) ≡ true
     → (net : Net) (n j : ℕ) (ok : Bool)
-    → planOf (withNet w net) n j i ok .answer ≡ 0
-    → ⊥
+    → (planOf (withNet w net) n j i ok .answer ≡ 0 → ⊥) × (planOf (withNet w net) n j i ok .answer ≡ 9 → ⊥)
 unfolding planOf
 plan-idle w inv b d i p q e net n j ok = none-goes w inv i e (omega (arith, d .change)) (d .entries i p q) net n (eqb j 1) (eqb j 2) (eqb j 3) ok
 
@@ -135,7 +134,7 @@ pub never-more : (cs : List Call) (net : Net) (n j i : ℕ) (ok : Bool) → 1 �
 never-more cs net n j i ok p q =
     let x = folded cs in
     let b : i ≤ x .fold = subst (λ s. i ≤ s .log .folded .0) (x .shows) q in
-    plan-idle (whole cs) (x .reached .inv) (x .fold) (x .passed) i p b (x .front .finished i p b) net n j ok
+    plan-idle (whole cs) (x .reached .inv) (x .fold) (x .passed) i p b (x .front .finished i p b) net n j ok .0
 
 -- ---- where a fold is accepted
 unless-held : (a : ℕ) (t : Bool) (o : Outcome) → (a ≡ 0 → ⊥) → unless a t o .reply .answer ≡ 0 → (t ≡ true) × (o .reply .answer ≡ 0)
@@ -168,4 +167,4 @@ nothing-left cs b z net n j i ok p q =
         let l : last (s .log) ≡ last (w .log) = last-seen w (x .fold) (x .base) f in
         subst (λ y. y .answer ≡ 0 → ⊥) (sym (plan-seen (withNet w net) (x .fold) (x .base) f (rest-seen inv (x .fold) (x .base) f) (settled-seen inv (x .fold) (x .base) f) n j i ok r))
         (plan-idle w inv b (fold-passed inv (x .fold) (x .base) f b (m .2) (omega (arith, m .0, l)) (m .1) (x .passed)) i (omega arith) q
-        (ended inv (x .fold) (x .base) f b (m .2) (omega (arith, m .0, l)) (m .1) i (omega arith) q) net n j ok)
+        (ended inv (x .fold) (x .base) f b (m .2) (omega (arith, m .0, l)) (m .1) i (omega arith) q) net n j ok .0)

@@ -29,7 +29,7 @@ use Rattle.history.specs.Invariant.{Invariant, complete, changeTouched, 
 use Rattle.history.specs.Frames.{by-eq, paired}
 use Rattle.history.proofs.Applies as applies
 use Rattle.history.proofs.Jobs as jobs
-use Rattle.history.specs.Whole.{whole, shown, Front}
+use Rattle.history.specs.Whole.{shown, Front}
 use Rattle.history.specs.Explained.{Given}
 use Rattle.history.proofs.Follow.{entry-seen, plan-seen}
 use Rattle.history.proofs.Fronts.{rest-seen, settled-seen}
@@ -91,6 +91,10 @@ not-false : (b : Bool) → not b ≡ false → b ≡ true
 not-false true e = refl
 not-false false e = sym e
 
+-- an entry of the log
+abbrev pub Says : Transaction → Type 0
+Says t = (t .change .commit ≡ None → ⊥) × (t .change .apply ≡ None → ⊥)
+
 module _ {s : State} {ops acts : List Op} {bad : List ℕ} (inv : Invariant s ops acts bad) (st : Stages s) (i : ℕ) where
   abbrev t : Transaction
   t = entryOf (s .log) i
@@ -133,14 +137,14 @@ module _ {s : State} {ops acts : List Op} {bad : List ℕ} (inv : Invariant s op
   pub asked-low : t .rollback .commit ≡ Pending → i ≤ v
   asked-low e = omega (arith, mem-low (stack ops) (stack-falls ops (inv .committed .rising)) i (live-asked e), inv .committed .tip)
 
-  pub eighth-1 : 1 ≤ t .phase → (y : Bool) → calls.job1 s i y .answer ≡ 11 → holds s 1 i 1 ≡ false → holds s 1 i 3 ≡ false → holds s 1 i 4 ≡ false → ⊥
+  pub eighth-1 : Says t → (y : Bool) → calls.job1 s i y .answer ≡ 11 → holds s 1 i 1 ≡ false → holds s 1 i 3 ≡ false → holds s 1 i 4 ≡ false → ⊥
   eighth-1 ph y e h1 h3 h4 = go (t .change .commit) refl
     where
       w : Waits1 t (s .committed .head) i (s .change) (restOf s) (present (s .committed .values) t) y e
       w = waits1 t (s .committed .head) i (s .change) (restOf s) (present (s .committed .values) t) y e
 
       go : (x : Status) → t .change .commit ≡ x → ⊥
-      go None p = st .entries i .some ph .0 p
+      go None p = ph .0 p
       go Pending p = w .pending p (omega (arith, st .entries i .waits p, ltb-false (c + 1) i h3)) .1 (not-false _ h4)
       go InProgress p = by-eq i (suc c) (w .begun p .0) (λ n. w .begun p .1 (closing-is p (omega (arith, inv .committed .entries i .begun p))))
       go Complete p = clash (rw p at h1)
@@ -177,7 +181,7 @@ module _ {s : State} {ops acts : List Op} {bad : List ℕ} (inv : Invariant s op
       let side = jobs.side inv in
       omega (arith, applies.push-link side i n .back, ap top (inv .applied .split), applies.held-top side, inv .applied .tip)
 
-  pub eighth-2 : 1 ≤ t .phase → (n : ℕ) (y : Bool) → calls.job2 s n i y .answer ≡ 11 → holds s 2 i 1 ≡ false → holds s 2 i 6 ≡ false → holds s 2 i 7 ≡ false → ⊥
+  pub eighth-2 : Says t → (n : ℕ) (y : Bool) → calls.job2 s n i y .answer ≡ 11 → holds s 2 i 1 ≡ false → holds s 2 i 6 ≡ false → holds s 2 i 7 ≡ false → ⊥
   eighth-2 ph n y e h1 h6 h7 = go (t .change .apply) refl
     where
       m : t .change .commit ≡ Complete
@@ -190,7 +194,7 @@ module _ {s : State} {ops acts : List Op} {bad : List ℕ} (inv : Invariant s op
       some = paired (t .change .commit) Complete (t .change .apply) (t .change .ordinal .0) m (inv .sides i .change)
 
       go : (x : Status) → t .change .apply ≡ x → ⊥
-      go None p = st .entries i .some ph .1 p
+      go None p = ph .1 p
       go Pending p =
           let k = next-only (t .change .ordinal .0) h7 (st .entries i .change .waits m p) in
           omega (arith, w .pending p (k .1) (k .0), under-next (k .1))
@@ -213,7 +217,7 @@ module _ {s : State} {ops acts : List Op} {bad : List ℕ} (inv : Invariant s op
           push-place ops (inv .committed .rising) (suc o) a i (inv .numbered i .change o e)
           (and-left (pushed i (first ops a)) _ (top-standing (first ops a) (first-rises ops a (inv .committed .rising)) i (applies.pop-under side i n)))
 
-  pub eighth-4 : 1 ≤ t .phase → (n : ℕ) (y : Bool) → calls.job4 s n i y .answer ≡ 11 → holds s 4 i 1 ≡ false → holds s 4 i 6 ≡ false → holds s 4 i 7 ≡ false → ⊥
+  pub eighth-4 : Says t → (n : ℕ) (y : Bool) → calls.job4 s n i y .answer ≡ 11 → holds s 4 i 1 ≡ false → holds s 4 i 6 ≡ false → holds s 4 i 7 ≡ false → ⊥
   eighth-4 ph n y e h1 h6 h7 = go (t .rollback .apply) refl
     where
       m : t .rollback .commit ≡ Complete
@@ -232,7 +236,7 @@ module _ {s : State} {ops acts : List Op} {bad : List ℕ} (inv : Invariant s op
       from = paired (t .change .commit) Complete (t .change .apply) (t .change .ordinal .0) (ask .0) (inv .sides i .change)
 
       tries : t .rollback .apply ≡ Pending → settled s ≡ true → t .rollback .ordinal .0 ≡ suc a → (x : Status) → t .change .apply ≡ x → ⊥
-      tries p q o None x = st .entries i .some ph .1 x
+      tries p q o None x = ph .1 x
       tries p q o Pending x = omega (arith, st .entries i .change .waits (ask .0) x, change-passed o from)
       tries p q o InProgress x = jobs.settled-quiet inv q i .change x (omega (arith, st .entries i .change .goes x, change-passed o from))
       tries p q o Complete x = w .tried p o (ap wasTried x) q
@@ -252,7 +256,7 @@ module _ {s : State} {ops acts : List Op} {bad : List ℕ} (inv : Invariant s op
       go Failed p = clash (rw p at h1)
 
   -- ---- all four
-  pub never-eighth : 1 ≤ t .phase → (n j : ℕ) → 1 ≤ j → j ≤ 4 → (y : Bool) → planOf s n j i y .answer ≡ 11 → reason s j i ≡ 8 → ⊥
+  pub never-eighth : Says t → (n j : ℕ) → 1 ≤ j → j ≤ 4 → (y : Bool) → planOf s n j i y .answer ≡ 11 → reason s j i ≡ 8 → ⊥
   unfolding planOf mem
   never-eighth ph n zero p q y e f = omega arith
   never-eighth ph n (suc zero) p q y e f = eighth-1 ph y e (none-fits s 1 i f 1 refl (omega arith)) (none-fits s 1 i f 3 refl (omega arith)) (none-fits s 1 i f 4 refl (omega arith))
@@ -315,13 +319,13 @@ module _ {w : State} {ops acts : List Op} {bad : List ℕ} (inv : Invariant w op
     idle-seen n j y e = sym (ap (λ p. p .answer) (plan-seen w b vs f (rest-seen inv b vs f) (settled-seen inv b vs f) n j i y q)) ∙ e
 
   -- an entry kept says something, in a state that is well-formed
-  pub phase-seen : wellFormed (shown w b vs) ≡ true → (k : ℕ) → b < k → k ≤ last (shown w b vs .log) → 1 ≤ entryOf (w .log) k .phase
-  phase-seen o k p q = subst (λ t. 1 ≤ t .phase) (entry-seen w b vs f k p) (formed (shown w b vs) o .entries k p q .phase .0)
+  pub says-seen : wellFormed (shown w b vs) ≡ true → (k : ℕ) → b < k → k ≤ last (shown w b vs .log) → Says (entryOf (w .log) k)
+  says-seen o k p q = st .entries k .some (subst (λ t. 1 ≤ t .phase) (entry-seen w b vs f k p) (formed (shown w b vs) o .entries k p q .phase .0))
 
   none-eighth : wellFormed (shown w b vs) ≡ true → (n j i : ℕ) → why (shown w b vs) n j i .answer ≡ 0 → why (shown w b vs) n j i .reason ≡ 8 → ⊥
   none-eighth o n j i e g =
       let k = asked (shown w b vs) n j i e in
-      never-eighth inv st i (phase-seen o i (k .number .0) (k .number .1)) n j (k .job .0) (k .job .1) false (idle-seen i (k .number .0) n j false (k .waits))
+      never-eighth inv st i (says-seen o i (k .number .0) (k .number .1)) n j (k .job .0) (k .job .1) false (idle-seen i (k .number .0) n j false (k .waits))
       (sym (reason-seen i (k .number .0) j) ∙ sym (k .gives) ∙ g)
 
 module _ (cs : List Call) (n j i : ℕ) (e : why (run cs .state) n j i .answer ≡ 0) where

@@ -11,3 +11,4 @@ pub mod Audit
 pub mod Guarantees
 pub mod Stages
 pub mod Explained
+pub mod Finished
