@@ -8,3 +8,5 @@ pub mod Freshened
 pub mod Walked
 pub mod Shows
 pub mod Explained
+pub mod Idle
+pub mod Turned

@@ -5,4 +5,5 @@ pub mod Fresh
 pub mod Live
 pub mod Reads
 pub mod Reasons
+pub mod Nights
 pub mod Promises

@@ -1,5 +1,5 @@
 -- No second outcome keeps what a public function of this crate promises: `Claims`, `Freshens` (in Fresh), `Lists` (in Live),
--- and here what the reads promise, and `why`. Assumes nothing.
+-- `Nights` (in Nights), and here what the reads promise, and `why`. Assumes nothing.
 use Prim.Native.Nat.{ℕ}
 use mathlib.Core.Path.{_≡_}
 use mathlib.Core.List.{List}
@@ -11,11 +11,13 @@ use Rattle.controller.specs.declared.walking.Listed.{Listed}
 use Rattle.controller.specs.declared.reads.Read.{Read}
 use Rattle.controller.specs.declared.reads.Heads.{Heads}
 use Rattle.controller.specs.declared.reasons.Why.{Why}
+use Rattle.controller.specs.declared.nights.Night.{Night}
 use Rattle.controller.specs.Claims.{Claims}
 use Rattle.controller.specs.Fresh.{Freshens}
 use Rattle.controller.specs.Live.{Lists}
 use Rattle.controller.specs.Reads.{readOf, headsOf}
 use Rattle.controller.specs.Reasons.{whyOf}
+use Rattle.controller.specs.Nights.{Nights}
 
 -- ---- what changes lent bytes
 pub claims-only : (l : List ℕ) (c : Call) (r q : Reply) (m n : List ℕ) → Claims l c r m → Claims l c q n → (r ≡ q) × (m ≡ n)
@@ -26,6 +28,10 @@ freshens-only l r q m n = both
 
 pub lists-only : (l room : List ℕ) (r q : Listed) (m n : List ℕ) → Lists l room r m → Lists l room q n → (r ≡ q) × (m ≡ n)
 lists-only l room r q m n = both
+
+pub nights-only : (l : List ℕ) (n b : ℕ) (os room : List ℕ) (r q : Night) (m m′ x x′ : List ℕ)
+    → Nights l n b os room r m x → Nights l n b os room q m′ x′ → (r ≡ q) × (m ≡ m′) × (x ≡ x′)
+nights-only l n b os room r q m m′ x x′ p u = (one (p .0) (u .0), one (p .1) (u .1), one (p .2) (u .2))
 
 -- ---- reads
 abbrev pub Shows : List ℕ → Query → Read → Type 0

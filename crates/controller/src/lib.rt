@@ -7,6 +7,7 @@ ghost use Rattle.image.specs.Formed.{formed};
 ghost use Rattle.controller.specs.Claims.{Claims, Does};
 ghost use Rattle.controller.specs.Bytes.{appendOf};
 ghost use Rattle.controller.specs.Promises.{Explains};
+ghost use Rattle.controller.specs.Nights.{Nights};
 use image::well_formed;
 use kinds::Reply;
 
@@ -19,9 +20,11 @@ mod clearing; // clearing.rt: a fresh image
 mod walking; // walking.rt: the live list
 mod reads; // reads.rt: one number of the state at a time
 mod reasons; // reasons.rt: why a job answers 11
+mod nights; // nights.rt: work by itself through the night
 
 pub use clearing::fresh;
 pub use image::IMAGE_LENGTH;
+pub use nights::Night;
 pub use reads::Heads;
 pub use reads::Read;
 pub use reads::both_heads;
@@ -144,5 +147,22 @@ pub fn why(s: &[u8], node: u16, job: u16, number: u16) -> Why
         answer: 1,
         reason: 0,
         named: 0,
+    }
+}
+
+// The jobs of a node one after another, each the first that is not refused, at most as many as the budget (0 to 4,096): 256
+// outcomes of one byte, two for each number kept, of its validation and of the push of its change. Each job's event is
+// written in the room, 16 bytes each in order, as far as there is room; that of a job that shows none is zeros.
+pub fn night(s: &mut [u8], node: u16, budget: u16, outcomes: &[u8], events: &mut [u8]) -> Night
+    ensures { λ r. ⌜ Nights (now (s .entry)) node budget (now (outcomes .entry)) (now (events .entry)) r (now (s .exit)) (now (events .exit)) ⌝ }
+{
+    if well_formed(s) {
+        return nights::spend(s, node, budget, outcomes, events);
+    }
+    Night {
+        answer: 1,
+        jobs: 0,
+        stopped: 0,
+        events: 0,
     }
 }

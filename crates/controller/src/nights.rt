@@ -1,0 +1,372 @@
+// Work by itself through the night (order 2): each turn does the first job that is not refused.
+ghost use mathlib.Core.Path.{_≡_};
+ghost use mathlib.Core.Bool.{true};
+ghost use Prim.Native.Nat.{_≤_};
+ghost use Rattle.machine.specs.Night.{bits, tableOk, nightOk};
+ghost use Rattle.image.specs.View.{view};
+ghost use Rattle.image.specs.Formed.{formed};
+ghost use Rattle.controller.specs.Nights.{putEvent, fitting, refuses, Awake, sceneOf, stands, idle, Quiet, tries, outcomeBy, Finds, stoppedAt, Through, Nighted};
+use crate::calls::is_node;
+use crate::calls::work;
+use crate::deciding::line;
+use crate::deciding::rest;
+use crate::deciding::settled;
+use fields::put4;
+use image::APPLIED_AT;
+use image::COMMITTED_AT;
+use image::last_fold;
+use image::last_number;
+use image::load_change;
+use image::load_entry;
+use image::load_head;
+use image::load_mastership;
+use kinds::Event;
+use kinds::Head;
+use kinds::Number;
+use kinds::Ordinal;
+use kinds::Status;
+use kinds::Transaction;
+use rules::apply_change;
+use rules::apply_rollback;
+use rules::commit_change;
+use rules::commit_rollback;
+
+// The refusal, or 0 with the jobs done and why it stopped: 0 every job is refused and none with 12, 1 some with 12, 2 the
+// budget is spent and a job could still go. And how many of the turns' events are in the room.
+pub struct Night {
+    pub answer: u8,
+    pub jobs: u16,
+    pub stopped: u8,
+    pub events: u16,
+}
+
+impl Night {
+    fn refuses(answer: u8) -> Night
+        ensures { λ r. ⌜ r ≡ refuses answer ⌝ }
+    {
+        Night {
+            answer,
+            jobs: 0,
+            stopped: 0,
+            events: 0,
+        }
+    }
+}
+
+// What a turn's rules read beside the entry, loaded once a turn.
+struct Scene {
+    committed: Head,
+    change: Number,
+    rest: bool,
+    applied: Head,
+    settled: bool,
+    line: bool,
+}
+
+// The first job of an entry that is not refused, or 0; where it is 0, whether one is refused with 12.
+struct Tried {
+    job: u16,
+    lacks: bool,
+}
+
+// The same of a turn, with the job's number and outcome.
+struct Found {
+    job: u16,
+    number: u16,
+    outcome: u16,
+    lacks: bool,
+}
+
+// ---- the arguments
+
+// Whether every outcome is 0 or 1.
+fn all_bits(outcomes: &[u8]) -> bool
+    ensures { λ r. ⌜ r ≡ bits (now (outcomes .entry)) ⌝ }
+{
+    let mut i: usize = 0;
+    while i < outcomes.len() {
+        if 1 < outcomes[i] {
+            return false;
+        }
+        i += 1;
+    }
+    true
+}
+
+fn table_ok(outcomes: &[u8]) -> bool
+    ensures { λ r. ⌜ r ≡ tableOk (now (outcomes .entry)) ⌝ }
+{
+    if outcomes.len() == 256 {
+        return all_bits(outcomes);
+    }
+    false
+}
+
+fn args_ok(node: u16, budget: u16, outcomes: &[u8]) -> bool
+    ensures { λ r. ⌜ r ≡ nightOk node budget (now (outcomes .entry)) ⌝ }
+{
+    let node_ok = is_node(node);
+    if node_ok & (budget <= 4096) {
+        return table_ok(outcomes);
+    }
+    false
+}
+
+// ---- a turn
+
+fn load_scene(s: &[u8], node: u8) -> Scene
+    requires { ⌜ (formed (now s) ≡ true) × ((1 ≤ node) × (node ≤ 8)) ⌝ }
+    ensures { λ r. ⌜ r ≡ sceneOf (view (now (s .entry))) node ⌝ }
+{
+    let committed = load_head(s, COMMITTED_AT);
+    let change = load_change(s);
+    let quiet = rest(s);
+    let applied = load_head(s, APPLIED_AT);
+    let calm = settled(s);
+    let open = line(s, node);
+    Scene {
+        committed,
+        change,
+        rest: quiet,
+        applied,
+        settled: calm,
+        line: open,
+    }
+}
+
+// Whether a stage neither waits nor goes.
+fn stands(x: Status) -> bool
+    ensures { λ r. ⌜ r ≡ stands x ⌝ }
+{
+    match x {
+        Status::None => true,
+        Status::Pending => false,
+        Status::InProgress => false,
+        Status::Complete => true,
+        Status::Aborted => true,
+        Status::Canceled => true,
+        Status::Failed => true,
+    }
+}
+
+// Whether nothing is left of entry t, numbered i: no job of it goes, now or later in the night.
+fn is_idle(t: Transaction, change: Number, applied: Ordinal, i: u16) -> bool
+    ensures { λ r. ⌜ r ≡ idle (change .0) (applied .0) i t ⌝ }
+{
+    let x = t.change;
+    let y = t.rollback;
+    let commit = x.commit;
+    let apply = x.apply;
+    let undo = y.commit;
+    let back = y.apply;
+    let changed = stands(commit) & stands(apply);
+    let undone = stands(undo) & stands(back);
+    let o = x.ordinal;
+    let p = y.ordinal;
+    let c = change.get();
+    let a = applied.get();
+    (changed & undone) & ((i <= c) & ((o.get() <= a) & (p.get() <= a)))
+}
+
+// From one number on, the last up to which nothing is left of any.
+fn skip(s: &[u8], from: u16) -> u16
+    requires { ⌜ (formed (now s) ≡ true) × Quiet (now s) from ⌝ }
+    ensures { λ r. ⌜ Quiet (now (s .entry)) r ⌝ }
+{
+    let n = last_number(s);
+    let change = load_change(s);
+    let h = load_head(s, APPLIED_AT);
+    let applied = h.ordinal;
+    let mut i = from;
+    while i < n {
+        let number = i + 1;
+        let t = load_entry(s, number);
+        if !is_idle(t, change, applied, number) {
+            return i;
+        }
+        i += 1;
+    }
+    i
+}
+
+// The four jobs of entry t, numbered i: what the validation and the push of the change would answer is handed in.
+fn try_jobs(t: Transaction, i: Number, x: Scene, valid: bool, taken: bool) -> Tried
+    ensures { λ r. ⌜ r ≡ tries t i x valid taken ⌝ }
+{
+    let committed = x.committed;
+    let applied = x.applied;
+    let change = x.change;
+    let a = commit_change(t, committed, change, x.rest, i, valid, [0u16, 0, 0, 0]);
+    if a.answer == 0 {
+        return Tried {
+            job: 1,
+            lacks: false,
+        };
+    }
+    let b = apply_change(t, applied, x.settled, i, x.line, taken);
+    if b.answer == 0 {
+        return Tried {
+            job: 2,
+            lacks: false,
+        };
+    }
+    let c = commit_rollback(t, committed, x.rest, i);
+    if c.answer == 0 {
+        return Tried {
+            job: 3,
+            lacks: false,
+        };
+    }
+    let d = apply_rollback(t, applied, x.settled, i, x.line, true);
+    if d.answer == 0 {
+        return Tried {
+            job: 4,
+            lacks: false,
+        };
+    }
+    Tried {
+        job: 0,
+        lacks: (b.answer == 12) | (d.answer == 12),
+    }
+}
+
+fn outcome_by(job: u16, valid: u8, taken: u8) -> u16
+    ensures { λ r. ⌜ r ≡ outcomeBy job valid taken ⌝ }
+{
+    if job == 1 {
+        return valid as u16;
+    }
+    if job == 2 {
+        return taken as u16;
+    }
+    0
+}
+
+// A turn's job: numbers upward, jobs 1 to 4 for each. Nothing is left of those up to `from`.
+fn find(s: &[u8], node: u8, outcomes: &[u8], from: u16) -> Found
+    requires { ⌜ Awake (now s) node (now outcomes) × Quiet (now s) from ⌝ }
+    ensures { λ r. ⌜ Finds (view (now (s .entry))) node (now (outcomes .entry)) r ⌝ }
+{
+    let x = load_scene(s, node);
+    let b = last_fold(s);
+    let n = last_number(s);
+    let mut i = from;
+    let mut lacks = false;
+    while i < n {
+        let number = i + 1;
+        let t = load_entry(s, number);
+        let k = 2 * ((i - b) as usize);
+        let valid = outcomes[k];
+        let taken = outcomes[k + 1];
+        let f = try_jobs(t, Number::of(number), x, valid == 0, taken == 0);
+        let job = f.job;
+        if 0 < job {
+            return Found {
+                job,
+                number,
+                outcome: outcome_by(job, valid, taken),
+                lacks: false,
+            };
+        }
+        lacks = lacks | f.lacks;
+        i += 1;
+    }
+    Found {
+        job: 0,
+        number: 0,
+        outcome: 0,
+        lacks,
+    }
+}
+
+fn stopped_at(job: u16, lacks: bool) -> u8
+    ensures { λ r. ⌜ r ≡ stoppedAt job lacks ⌝ }
+{
+    if job == 0 {
+        if lacks {
+            return 1;
+        }
+        return 0;
+    }
+    2
+}
+
+// ---- the events
+
+// The k-th event, from 0, where there is room for it.
+fn put_event(room: &mut [u8], k: u16, e: Event)
+    ensures { λ _. ⌜ now (room .exit) ≡ putEvent (now (room .entry)) k e ⌝ }
+{
+    let at = 16 * (k as usize);
+    if at + 16 <= room.len() {
+        let number = e.number;
+        let status = e.status;
+        put4(room, at, e.phase as u32);
+        put4(room, at + 4, e.stage as u32);
+        put4(room, at + 8, number.get() as u32);
+        put4(room, at + 12, status.code() as u32);
+        return;
+    }
+}
+
+// How many of the events of k jobs are in a room.
+fn fitting(k: u16, room: usize) -> u16
+    ensures { λ r. ⌜ r ≡ fitting k room ⌝ }
+{
+    let n = room / 16;
+    if (k as usize) < n {
+        return k;
+    }
+    n as u16
+}
+
+// ---- the call
+
+// The turns of a night, at most as many as the budget.
+fn through(s: &mut [u8], node: u16, budget: u16, outcomes: &[u8], events: &mut [u8]) -> Night
+    requires { ⌜ Awake (now s) node (now outcomes) ⌝ }
+    ensures { λ r. ⌜ Through (now (s .entry)) node budget (now (outcomes .entry)) (now (events .entry)) r (now (s .exit)) (now (events .exit)) ⌝ }
+{
+    let at = node as u8;
+    let mut low = last_fold(s);
+    let mut k: u16 = 0;
+    while k < budget {
+        low = skip(s, low);
+        let f = find(s, at, outcomes, low);
+        if f.job == 0 {
+            return Night {
+                answer: 0,
+                jobs: k,
+                stopped: stopped_at(f.job, f.lacks),
+                events: fitting(k, events.len()),
+            };
+        }
+        let r = work(s, node, f.job, f.number, f.outcome, 0);
+        let e = r.event;
+        put_event(events, k, e);
+        k += 1;
+    }
+    let f = find(s, at, outcomes, low);
+    Night {
+        answer: 0,
+        jobs: k,
+        stopped: stopped_at(f.job, f.lacks),
+        events: fitting(k, events.len()),
+    }
+}
+
+// Of a well-formed image: refuses 2, 10.
+pub fn spend(s: &mut [u8], node: u16, budget: u16, outcomes: &[u8], events: &mut [u8]) -> Night
+    requires { ⌜ formed (now s) ≡ true ⌝ }
+    ensures { λ r. ⌜ Nighted (now (s .entry)) node budget (now (outcomes .entry)) (now (events .entry)) r (now (s .exit)) (now (events .exit)) ⌝ }
+{
+    if args_ok(node, budget, outcomes) {
+        let m = load_mastership(s);
+        let at = node as u8;
+        if m.master == at {
+            return through(s, node, budget, outcomes, events);
+        }
+        return Night::refuses(10);
+    }
+    Night::refuses(2)
+}
