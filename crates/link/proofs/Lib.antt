@@ -6,3 +6,4 @@ pub mod Agree
 pub mod Same
 pub mod Plain
 pub mod Fresh
+pub mod Nights
