@@ -99,7 +99,10 @@ enum {
     MAKOWIST_PATHS = 32,          /* paths, from 0 */
     MAKOWIST_PAIR_LIMIT = 4,      /* pairs of a change */
     MAKOWIST_PAIR_LENGTH = 4,     /* bytes of a lent pair */
-    MAKOWIST_ORDINAL_LIMIT = 131070  /* the greatest ordinal; 0 means none */
+    MAKOWIST_ORDINAL_LIMIT = 131070, /* the greatest ordinal; 0 means none */
+    MAKOWIST_BUDGET_LIMIT = 4096, /* jobs of a night */
+    MAKOWIST_OUTCOMES = 256,      /* bytes of a night's table */
+    MAKOWIST_EVENT_LENGTH = 16    /* bytes of a night's event */
 };
 
 /* What a call answers: accepted, or why it was refused. */
@@ -201,6 +204,17 @@ static inline uint32_t makowist_reply_value(uint64_t reply) { return (uint32_t)(
 static inline unsigned makowist_reply_reason(uint64_t reply) { return (unsigned)(reply >> 8 & 0xff); }
 static inline uint32_t makowist_reply_named(uint64_t reply) { return (uint32_t)(reply >> 32); }
 
+/* The reply of makowist_night: answer + 2^8 stopped + 2^16 jobs + 2^32 events: why it stopped, the jobs done, and how many events are
+ * in the room; all 0 where it is refused. */
+enum {
+    MAKOWIST_STOPPED_NOTHING_LEFT = 0, /* every job is refused, and none with MAKOWIST_LINE_NOT_OPEN */
+    MAKOWIST_STOPPED_NO_LINE = 1,      /* every job is refused, some with MAKOWIST_LINE_NOT_OPEN */
+    MAKOWIST_STOPPED_BUDGET_SPENT = 2  /* a job could still go */
+};
+static inline unsigned makowist_reply_stopped(uint64_t reply) { return (unsigned)(reply >> 8 & 0xff); }
+static inline unsigned makowist_reply_jobs(uint64_t reply) { return (unsigned)(reply >> 16 & 0xffff); }
+static inline uint32_t makowist_reply_events(uint64_t reply) { return (uint32_t)(reply >> 32); }
+
 /* ---- Calls that change an image. All but makowist_fresh refuse MAKOWIST_NOT_WELL_FORMED first. */
 
 /* Makes the bytes, whatever they hold, a fresh image: empty log, no master, configuration Pending, all else 0.
@@ -260,6 +274,23 @@ uint64_t makowist_work(uint8_t *image, size_t length, uint64_t node, uint64_t jo
 /* Folds all up to the number away: they are kept no more, and what those of them that are live set stays as the base. Gives
  * no event. Refuses MAKOWIST_NO_SUCH_NUMBER, MAKOWIST_NOT_FINISHED. */
 uint64_t makowist_fold(uint8_t *image, size_t length, uint64_t number);
+
+/* Works through the night by itself. Each turn tries the kept transactions from the lowest number upward, jobs 1 to 4 for each, and
+ * does the first that is not refused, without cut; so many turns as the budget allows, or until every job is refused. outcomes
+ * are MAKOWIST_OUTCOMES bytes, each 0 or 1, two for each kept transaction in log order: what the validation says to its change, and
+ * what the switch says to the push of it; the push of a rollback counts as accepted. It leaves what makowist_work would leave, job
+ * after job. events is room for what they show, MAKOWIST_EVENT_LENGTH bytes a job in the order in which they are done: phase,
+ * stage, number and status, four bytes each, little-endian; zeros for a job that shows none (it finishes one that was cut). As
+ * many are written as there is room for, and bytes behind them stay; it may be NULL with a length of 0.
+ * Refuses MAKOWIST_OUT_OF_RANGE (node, budget, the table's length or an outcome), MAKOWIST_NOT_MASTER. */
+uint64_t makowist_night(uint8_t *image, size_t length, uint64_t node, uint64_t budget, const uint8_t *outcomes,
+                        size_t outcomes_length, uint8_t *events, size_t events_length);
+
+/* The k-th event, from 0, that makowist_night wrote: its phase 0, stage 1, number 2, status 3. */
+static inline uint32_t makowist_night_event(const uint8_t *events, size_t k, unsigned part) {
+    const uint8_t *at = events + MAKOWIST_EVENT_LENGTH * k + 4 * part;
+    return (uint32_t)at[0] | (uint32_t)at[1] << 8 | (uint32_t)at[2] << 16 | (uint32_t)at[3] << 24;
+}
 
 /* ---- Reads. They change no byte of the image. All refuse MAKOWIST_NOT_WELL_FORMED first. */
 

@@ -2,3 +2,4 @@
 pub mod Packed
 pub mod Wider
 pub mod WiderWhy
+pub mod WiderNight

@@ -1,6 +1,6 @@
 -- The packing loses nothing, over the ranges of what is packed; and the controller's contract gives the packed one.
 -- Assumes nothing.
-use Prim.Native.Nat.{ℕ, _+_, _*_, _/_, _<_}
+use Prim.Native.Nat.{ℕ, _+_, _*_, _/_, _%_, _<_}
 use mathlib.Core.Path.{_≡_, refl, ap, ap₂, sym, _∙_}
 use mathlib.Core.Bool.{Bool}
 use mathlib.Core.List.{List}
@@ -14,13 +14,15 @@ use Rattle.image.proofs.Sized.{status-code, code-low}
 use Rattle.controller.specs.declared.reads.Read.{Read}
 use Rattle.controller.specs.declared.walking.Listed.{Listed}
 use Rattle.controller.specs.declared.reasons.Why.{Why}
+use Rattle.controller.specs.declared.nights.Night.{Night}
 use Rattle.controller.specs.Claims as controller
 use Rattle.controller.specs.Fresh as fresh
 use Rattle.controller.specs.Live as live
+use Rattle.controller.specs.Nights as nightly
 use Rattle.controller.specs.Reads.{readOf}
 use Rattle.controller.specs.Reasons.{whyOf}
-use Rattle.northbound.specs.Packing.{packed, packedRead, packedListed, packedWhy, low, high, unpacked, unpackedRead, unpackedListed, unpackedWhy, Packs, PacksRead, PacksListed, PacksWhy}
-use Rattle.northbound.specs.Exports.{Claims, Freshens, Lists, Shows, Explains, answerOf, Tells}
+use Rattle.northbound.specs.Packing.{packed, packedRead, packedListed, packedWhy, packedNight, low, high, unpacked, unpackedRead, unpackedListed, unpackedWhy, unpackedNight, Packs, PacksRead, PacksListed, PacksWhy, PacksNight}
+use Rattle.northbound.specs.Exports.{Claims, Freshens, Nights, Lists, Shows, Explains, answerOf, Tells}
 
 -- ---- nothing is lost
 -- the four bytes and the number of a sum of five
@@ -89,6 +91,17 @@ unpacks-why r h k =
       let e : high (r .answer + 256 * r .reason + 4294967296 * r .named) ≡ r .named = omega arith in e,
     )
 
+-- and a night's three numbers
+pub unpacks-night : (r : Night) → r .answer < 256 → r .stopped < 256 → r .jobs < 65536 → unpackedNight (packedNight r) ≡ r
+unfolding packedNight
+unpacks-night r h k j =
+    simp (
+      let e : low (r .answer + 256 * r .stopped + 65536 * r .jobs + 4294967296 * r .events) ≡ r .answer = omega arith in e,
+      let e : low ((r .answer + 256 * r .stopped + 65536 * r .jobs + 4294967296 * r .events) / 256) ≡ r .stopped = omega arith in e,
+      let e : (r .answer + 256 * r .stopped + 65536 * r .jobs + 4294967296 * r .events) / 65536 % 65536 ≡ r .jobs = omega arith in e,
+      let e : high (r .answer + 256 * r .stopped + 65536 * r .jobs + 4294967296 * r .events) ≡ r .events = omega arith in e,
+    )
+
 -- ---- what the code adds up
 pub adds-up : (r : Reply) (s n p : ℕ) → r .answer < 256 → r .event .phase < 256 → r .event .stage < 256 → s ≡ codeOf (r .event .status) → n ≡ r .event .number .0
     → p ≡ r .answer + 256 * r .event .phase + 65536 * r .event .stage + 16777216 * s + 4294967296 * n → Packs r p
@@ -108,6 +121,11 @@ pub adds-up-why : (r : Why) → r .answer < 256 → r .reason < 256 → PacksWhy
 unfolding packedWhy
 adds-up-why r h k = (refl, unpacks-why r h k)
 
+pub adds-up-night :
+    (r : Night) → r .answer < 256 → r .stopped < 256 → r .jobs < 65536 → PacksNight r (r .answer + 256 * r .stopped + 65536 * r .jobs + 4294967296 * r .events)
+unfolding packedNight
+adds-up-night r h k j = (refl, unpacks-night r h k j)
+
 -- ---- the controller's contract, packed
 pub claims : (l : List ℕ) (c : Call) (r : Reply) (m : List ℕ) (p : ℕ) → controller.Claims l c r m → Packs r p → Claims l c p m
 claims l c r m p k e = ((e .0 ∙ ap packed (k .0), e .1 ∙ k .0), k .1)
@@ -120,6 +138,10 @@ lists l m r m′ p k e = ((e .0 ∙ ap packedListed (k .0), e .1 ∙ k .0), k .1
 
 pub shows : (l : List ℕ) (q : Query) (r : Read) (p : ℕ) → r ≡ readOf l q → PacksRead r p → Shows l q p
 shows l q r p k e = (e .0 ∙ ap packedRead k, e .1 ∙ k)
+
+pub nights : (l : List ℕ) (n b : ℕ) (os m : List ℕ) (r : Night) (l′ m′ : List ℕ) (p : ℕ) → nightly.Nights l n b os m r l′ m′ → PacksNight r p
+    → Nights l n b os m p l′ m′
+nights l n b os m r l′ m′ p k e = ((e .0 ∙ ap packedNight (k .0), e .1 ∙ k .0), k .1, k .2)
 
 pub explains : (l : List ℕ) (n j i : ℕ) (r : Why) (p : ℕ) → r ≡ whyOf l n j i → PacksWhy r p → Explains l n j i p
 explains l n j i r p k e = (e .0 ∙ ap packedWhy k, e .1 ∙ k)

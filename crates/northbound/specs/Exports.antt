@@ -16,7 +16,8 @@ use Rattle.controller.specs.Fresh.{answerIf, imageIf}
 use Rattle.controller.specs.Live.{listingOf}
 use Rattle.controller.specs.Reads.{readOf}
 use Rattle.controller.specs.Reasons.{whyOf}
-use Rattle.northbound.specs.Packing.{Packs, PacksRead, PacksListed, PacksWhy}
+use Rattle.controller.specs.Nights.{lentFrom, roomAfter, given, nightIn}
+use Rattle.northbound.specs.Packing.{Packs, PacksRead, PacksListed, PacksWhy, PacksNight}
 
 abbrev pub Claims : List ℕ → Call → ℕ → List ℕ → Type 0
 Claims l c p m = Packs (outcomeOf l c .reply) p × (m ≡ written l (outcomeOf l c .stores))
@@ -32,6 +33,10 @@ Shows l q p = PacksRead (readOf l q) p
 
 abbrev pub Explains : List ℕ → (node job number : ℕ) → ℕ → Type 0
 Explains l n j i p = PacksWhy (whyOf l n j i) p
+
+abbrev pub Nights : List ℕ → (node budget : ℕ) → (outcomes room : List ℕ) → ℕ → (image room : List ℕ) → Type 0
+Nights l n b os m p l′ m′ =
+    let w = nightIn l n b os in PacksNight (given w m) p × (l′ ≡ lentFrom l (w .calls)) × (m′ ≡ roomAfter m (w .events))
 
 -- 0 where it is well-formed, else the refusal
 abbrev pub answerOf : Bool → ℕ

@@ -1,5 +1,6 @@
 -- What an answer is as one number: the answer in the lowest byte, and above it the event; or from bit 32 on the number read; or
--- a reason, in the second byte, and from bit 32 on what it names. Assumes nothing.
+-- a reason, in the second byte, and from bit 32 on what it names; or why a night stopped, in the second byte, the jobs done in
+-- the next two, and from bit 32 on the events shown. Assumes nothing.
 use Prim.Native.Nat.{ℕ, _+_, _*_, _/_, _%_}
 use mathlib.Core.Path.{_≡_}
 use Rattle.kinds.specs.declared.Reply.{Reply}
@@ -8,6 +9,7 @@ use Rattle.kinds.specs.Statuses.{codeOf, statusOf}
 use Rattle.controller.specs.declared.reads.Read.{Read}
 use Rattle.controller.specs.declared.walking.Listed.{Listed}
 use Rattle.controller.specs.declared.reasons.Why.{Why}
+use Rattle.controller.specs.declared.nights.Night.{Night}
 
 -- answer, phase, stage and status, a byte each, then the number
 unfoldable pub packed : Reply → ℕ
@@ -22,6 +24,9 @@ packedListed r = r .answer + 4294967296 * r .length
 
 unfoldable pub packedWhy : Why → ℕ
 packedWhy r = r .answer + 256 * r .reason + 4294967296 * r .named
+
+unfoldable pub packedNight : Night → ℕ
+packedNight r = r .answer + 256 * r .stopped + 65536 * r .jobs + 4294967296 * r .events
 
 -- ---- and back
 abbrev pub low : ℕ → ℕ
@@ -43,6 +48,9 @@ unpackedListed p = record { answer = low p; length = high p }
 abbrev pub unpackedWhy : ℕ → Why
 unpackedWhy p = record { answer = low p; reason = low (p / 256); named = high p }
 
+abbrev pub unpackedNight : ℕ → Night
+unpackedNight p = record { answer = low p; jobs = p / 65536 % 65536; stopped = low (p / 256); events = high p }
+
 -- ---- a number that is an answer packed, and reads back as that answer: nothing is lost
 abbrev pub Packs : Reply → ℕ → Type 0
 Packs r p = (p ≡ packed r) × (unpacked p ≡ r)
@@ -55,3 +63,6 @@ PacksListed r p = (p ≡ packedListed r) × (unpackedListed p ≡ r)
 
 abbrev pub PacksWhy : Why → ℕ → Type 0
 PacksWhy r p = (p ≡ packedWhy r) × (unpackedWhy p ≡ r)
+
+abbrev pub PacksNight : Night → ℕ → Type 0
+PacksNight r p = (p ≡ packedNight r) × (unpackedNight p ≡ r)

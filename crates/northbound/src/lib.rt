@@ -6,10 +6,11 @@ ghost use Rattle.machine.specs.Calls.{rollback, start, stop, connect, disconnec
 ghost use Rattle.machine.specs.Reads.{ofTable, ofEntry, ofState, ofNode};
 ghost use Rattle.image.specs.Formed.{formed};
 ghost use Rattle.controller.specs.Bytes.{appendOf};
-ghost use Rattle.northbound.specs.Packing.{Packs, PacksRead, PacksListed, PacksWhy};
+ghost use Rattle.northbound.specs.Packing.{Packs, PacksRead, PacksListed, PacksWhy, PacksNight};
 ghost use Rattle.northbound.specs.Wide.{narrowed, handed};
-ghost use Rattle.northbound.specs.Exports.{Claims, Freshens, Lists, Shows, Explains, Tells};
+ghost use Rattle.northbound.specs.Exports.{Claims, Freshens, Nights, Lists, Shows, Explains, Tells};
 use controller::Listed;
+use controller::Night;
 use controller::Read;
 use controller::Why;
 use image::well_formed;
@@ -48,6 +49,15 @@ fn pack_why(r: Why) -> u64
     ensures { λ p. ⌜ PacksWhy r p ⌝ }
 {
     (r.answer as u64) + 256 * (r.reason as u64) + 4294967296 * (r.named as u64)
+}
+
+fn pack_night(r: Night) -> u64
+    ensures { λ p. ⌜ PacksNight r p ⌝ }
+{
+    (r.answer as u64)
+        + 256 * (r.stopped as u64)
+        + 65536 * (r.jobs as u64)
+        + 4294967296 * (r.events as u64)
 }
 
 // ---- a number of C's, of 64 bits: one that is no 16-bit number is refused, or handed on as another that is refused as it is
@@ -210,6 +220,23 @@ pub extern "C" fn makowist_fold(image: &mut [u8], number: u64) -> u64
 {
     let i = narrow(number, NONE);
     pack(controller::fold(image, i))
+}
+
+// Works by itself: each turn does the first job that is not refused. The events go into the room lent, 16 bytes each, as many as
+// there is room for.
+#[no_mangle]
+pub extern "C" fn makowist_night(
+    image: &mut [u8],
+    node: u64,
+    budget: u64,
+    outcomes: &[u8],
+    events: &mut [u8],
+) -> u64
+    ensures { λ r. ⌜ Nights (now (image .entry)) node budget (now (outcomes .entry)) (now (events .entry)) r (now (image .exit)) (now (events .exit)) ⌝ }
+{
+    let n = narrow(node, OUTSIDE);
+    let b = narrow(budget, OUTSIDE);
+    pack_night(controller::night(image, n, b, outcomes, events))
 }
 
 // ---- the reads
