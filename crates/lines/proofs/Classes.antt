@@ -8,7 +8,7 @@ use borrow.Author.Tests.{eqb-true, leb-true, ne-eqb}
 use lib.Dec.{eqb, leb}
 use Rattle.lines.specs.Decimal.{isDigit}
 use Rattle.lines.specs.Grammar.{isWord}
-use Rattle.lines.specs.Reading.{isMark, isTag, inside, begins, parts}
+use Rattle.lines.specs.Reading.{isNumbered, isMark, isTag, inside, begins, parts}
 
 pub differ : {A : Type 0} → true ≡ false → A
 differ e = absurd (let z : _≡_ {A = ℕ} 0 1 = ap (λ (b : Bool). cond b 0 1) e in omega arith)
@@ -68,26 +68,36 @@ pub word-other : (c x : ℕ) → isWord c ≡ true → x ≤ 60 → (x ≡ 32 �
 word-other c x w h n = ne-eqb c x (λ i. word-elim c w (λ e. n (sym i ∙ e)) (λ e. omega arith) (λ e. omega arith))
 
 -- ---- a mark
-pub mark-is : (c : ℕ) → isMark c ≡ true → (c ≡ 35) ⊎ (c ≡ 37)
-mark-is c h = by (or-split (eqb c 35) (eqb c 37) h)
+pub numbered-mark : (c : ℕ) → isNumbered c ≡ true → isMark c ≡ true
+numbered-mark c h = rw h
+
+pub mark-is : (c : ℕ) → isMark c ≡ true → (isNumbered c ≡ true) ⊎ (c ≡ 38)
+mark-is c h = by (or-split (isNumbered c) (eqb c 38) h)
   where
-    by : (eqb c 35 ≡ true) ⊎ (eqb c 37 ≡ true) → (c ≡ 35) ⊎ (c ≡ 37)
-    by (inl x) = inl (eqb-true c 35 x)
-    by (inr x) = inr (eqb-true c 37 x)
+    by : (isNumbered c ≡ true) ⊎ (eqb c 38 ≡ true) → (isNumbered c ≡ true) ⊎ (c ≡ 38)
+    by (inl x) = inl x
+    by (inr x) = inr (eqb-true c 38 x)
+
+pub mark-elim : {A : Type 0} (c : ℕ) → isMark c ≡ true → (c ≡ 35 → A) → (c ≡ 37 → A) → (c ≡ 38 → A) → A
+mark-elim {A} c h f g k = by (mark-is c h)
+  where
+    numbered : (eqb c 35 ≡ true) ⊎ (eqb c 37 ≡ true) → A
+    numbered (inl x) = f (eqb-true c 35 x)
+    numbered (inr x) = g (eqb-true c 37 x)
+
+    by : (isNumbered c ≡ true) ⊎ (c ≡ 38) → A
+    by (inl x) = numbered (or-split (eqb c 35) (eqb c 37) x)
+    by (inr x) = k x
+
+-- what takes numbers takes no single digits
+pub numbered-other : (c : ℕ) → isNumbered c ≡ true → eqb c 38 ≡ false
+numbered-other c h = mark-elim c (numbered-mark c h) (λ e. ap (λ (x : ℕ). eqb x 38) e) (λ e. ap (λ (x : ℕ). eqb x 38) e) (λ e. differ (sym h ∙ ap isNumbered e))
 
 pub mark-no-word : (c : ℕ) → isMark c ≡ true → isWord c ≡ true → ⊥
-mark-no-word c h w = by (mark-is c h)
-  where
-    by : (c ≡ 35) ⊎ (c ≡ 37) → ⊥
-    by (inl e) = differ (sym w ∙ ap isWord e)
-    by (inr e) = differ (sym w ∙ ap isWord e)
+mark-no-word c h w = mark-elim c h (λ e. differ (sym w ∙ ap isWord e)) (λ e. differ (sym w ∙ ap isWord e)) (λ e. differ (sym w ∙ ap isWord e))
 
 pub mark-no-tag : (c : ℕ) → isMark c ≡ true → isTag c ≡ true → ⊥
-mark-no-tag c h w = by (mark-is c h)
-  where
-    by : (c ≡ 35) ⊎ (c ≡ 37) → ⊥
-    by (inl e) = differ (sym w ∙ ap isTag e)
-    by (inr e) = differ (sym w ∙ ap isTag e)
+mark-no-tag c h w = mark-elim c h (λ e. differ (sym w ∙ ap isTag e)) (λ e. differ (sym w ∙ ap isTag e)) (λ e. differ (sym w ∙ ap isTag e))
 
 pub tag-some : (c : ℕ) → isTag c ≡ true → 1 ≤ c
 tag-some c h = omega (arith, leb-true 65 c (and-left (leb 65 c) (leb c 90) h))

@@ -8,10 +8,10 @@ use Rattle.machine.specs.Calls.{Pair}
 use Rattle.lines.specs.Text.{text}
 use Rattle.lines.specs.Decimal.{isDigit}
 use Rattle.lines.specs.Forms.{Asked, Token, Asks}
-use Rattle.lines.specs.Grammar.{allDigits, tenfold, flat, Number, Row, one, more, Fits, fits-end, fits-letter, fits-number, fits-none, fits-pairs}
-use Rattle.lines.specs.Reading.{letterAt, isMark, isTag, inside, begins, mayEnd}
+use Rattle.lines.specs.Grammar.{allDigits, tenfold, flat, worths, Number, Row, one, more, Fits, fits-end, fits-letter, fits-number, fits-none, fits-pairs, fits-digits}
+use Rattle.lines.specs.Reading.{letterAt, isNumbered, isMark, isTag, inside, begins, mayEnd}
 use Rattle.lines.proofs.Classes.{and-left, and-right, begins-inside}
-use Rattle.lines.proofs.Goes.{Goes, done, leave, begin, grow, part, spell}
+use Rattle.lines.proofs.Goes.{Goes, done, leave, begin, grow, digit, part, spell}
 use Rattle.lines.proofs.Standing.{Stands}
 
 -- ---- digits
@@ -19,7 +19,7 @@ grows : (d : List ℕ) (v : ℕ) → v ≤ foldl tenfold v d
 grows [] v = omega arith
 grows (b ∷ d) v = omega (arith, grows d (tenfold v b))
 
-module _ (q t : ℕ) (mark : isMark (letterAt q) ≡ true) where
+module _ (q t : ℕ) (mark : isNumbered (letterAt q) ≡ true) where
   digits-go :
       (s : ℕ) → inside s ≡ true → (d : List ℕ) (v : ℕ) (l ns : List ℕ) → allDigits d ≡ true → foldl tenfold v d ≤ 65535 →
       Goes q s (foldl tenfold v d) l ns t → Goes q s v (d ++ l) ns t
@@ -41,7 +41,7 @@ module _ (q t : ℕ) (mark : isMark (letterAt q) ≡ true) where
 
 -- ---- pairs
 module _ (q t : ℕ) (is : letterAt q ≡ 37) where
-  mark : isMark (letterAt q) ≡ true
+  mark : isNumbered (letterAt q) ≡ true
   mark = rw is
 
   row-goes :
@@ -53,7 +53,7 @@ module _ (q t : ℕ) (is : letterAt q ≡ 37) where
       (number-goes q t mark s v (58 ∷ (b ++ l)) (x ∷ y ∷ ns) a i j
       (subst (λ (u : ℕ). Goes q u x (58 ∷ (b ++ l)) (x ∷ y ∷ ns) t) (sym e)
       (part 1 (y ∷ ns) refl (rw is) refl
-      (number-goes q t mark 2 0 l (y ∷ ns) b refl k (leave ns mark (rw is) refl (g y))))))
+      (number-goes q t mark 2 0 l (y ∷ ns) b refl k (leave ns (rw is) (rw is) refl (g y))))))
     where
       regroup : (a b : List ℕ) → a ++ (58 ∷ (b ++ l)) ≡ a ++ text ":" ++ b ++ l
       regroup a b = simp append-assoc
@@ -68,6 +68,26 @@ module _ (q t : ℕ) (is : letterAt q ≡ 37) where
       regroup : (a b l′ : List ℕ) → a ++ (58 ∷ (b ++ (44 ∷ (l′ ++ l)))) ≡ a ++ text ":" ++ b ++ text "," ++ l′ ++ l
       regroup a b l′ = simp append-assoc
 
+-- ---- single digits
+module _ (q t : ℕ) (is : letterAt q ≡ 38) where
+  may : mayEnd (letterAt q) 0 ≡ true
+  may = rw is
+
+  -- behind one that is being read
+  more-go :
+      (d : List ℕ) (v : ℕ) (l ns : List ℕ) → allDigits d ≡ true → ((v : ℕ) → Goes (q + 1) 0 v l ns t) → Goes q 1 v (d ++ l) (v ∷ (worths d ++ ns)) t
+  unfolding allDigits worths
+  more-go [] v l ns a g = leave {q = q} {s = 1} ns (rw is) (rw is) refl (g v)
+  more-go (b ∷ d) v l ns a g =
+      digit ((b - 48) ∷ (worths d ++ ns)) is (and-left (isDigit b) (allDigits d) a) refl (more-go d (b - 48) l ns (and-right (isDigit b) (allDigits d) a) g)
+
+  singles-go :
+      (d : List ℕ) (v : ℕ) (l ns : List ℕ) → allDigits d ≡ true → ((v : ℕ) → Goes (q + 1) 0 v l ns t) → Goes q 0 v (d ++ l) (worths d ++ ns) t
+  unfolding allDigits worths
+  singles-go [] v l ns a g = leave {q = q} {s = 0} ns (rw is) may refl (g v)
+  singles-go (b ∷ d) v l ns a g =
+      digit ((b - 48) ∷ (worths d ++ ns)) is (and-left (isDigit b) (allDigits d) a) refl (more-go d (b - 48) l ns (and-right (isDigit b) (allDigits d) a) g)
+
 -- ---- a form
 pub fits-go :
     {f : List Token} {a : Asks f} {l ns : List ℕ} {x : Asked} → Fits f a l ns x → (q t v : ℕ) → isTag t ≡ true → Stands f t q → Goes q 0 v l ns t
@@ -75,11 +95,12 @@ unfolding Stands
 fits-go fits-end q t v g s = done refl g s
 fits-go (fits-letter w y) q t v g s = spell refl w (s .0) (fits-go y (q + 1) t v g (s .1))
 fits-go (fits-number {d} {n} {l = l} {ns = ns} x y) q t v g s =
-    let m : isMark (letterAt q) ≡ true = rw (s .0) in
+    let m : isNumbered (letterAt q) ≡ true = rw (s .0) in
     let e : mayEnd (letterAt q) 1 ≡ true = rw (s .0) in
-    number-goes q t m 0 v l (n ∷ ns) d refl x (leave ns m e refl (fits-go y (q + 1) t n g (s .1)))
+    number-goes q t m 0 v l (n ∷ ns) d refl x (leave ns (rw (s .0)) e refl (fits-go y (q + 1) t n g (s .1)))
 fits-go (fits-none {ns = ns} y) q t v g s =
     let m : isMark (letterAt q) ≡ true = rw (s .0) in
     let e : mayEnd (letterAt q) 0 ≡ true = rw (s .0) in
     leave ns m e refl (fits-go y (q + 1) t v g (s .1))
 fits-go (fits-pairs {l = l} {ns = ns} r y) q t v g s = row-goes q t (s .0) r 0 v l ns refl refl (λ u. fits-go y (q + 1) t u g (s .1))
+fits-go (fits-digits d {l = l} {ns = ns} a y) q t v g s = singles-go q t (s .0) d v l ns a (λ u. fits-go y (q + 1) t u g (s .1))

@@ -10,8 +10,8 @@ use lib.Dec.{eqb, leb, ltb, eqb·suc-zero}
 use Rattle.lines.specs.declared.reading.Reader.{Reader}
 use Rattle.lines.specs.Decimal.{isDigit}
 use Rattle.lines.specs.Grammar.{isWord, tenfold}
-use Rattle.lines.specs.Reading.{size, letterAt, isMark, isTag, like, takes, goes, left, seek, inside, begins, parts, mayEnd, past, pushed, grownIf, kept, storedIf, placed, begun, spelt}
-use Rattle.lines.proofs.Classes.{differ, and-left, and-right, and-both, word-no-digit, mark-no-word, tag-some, word-some, mark-some, word-other, parted-by, word-parts}
+use Rattle.lines.specs.Reading.{size, letterAt, isNumbered, isMark, isTag, like, takes, goes, left, seek, inside, begins, parts, mayEnd, past, pushed, grownIf, kept, storedIf, placed, begun, spelt}
+use Rattle.lines.proofs.Classes.{differ, and-left, and-right, and-both, numbered-mark, numbered-other, word-no-digit, mark-no-word, tag-some, word-some, mark-some, word-other, parted-by, word-parts}
 use Rattle.lines.proofs.Places.{within, zero-like, like-next, like-prior, like-trans, like-sym, Found, Missing, sought}
 use Rattle.lines.proofs.Table.{same-column, lone-mark, no-mark-behind}
 
@@ -24,11 +24,14 @@ pub data Goes : (q s v : ℕ) → List ℕ → List ℕ → ℕ → Type 0 where
   done : {q s v t : ℕ} → s ≡ 0 → isTag t ≡ true → letterAt q ≡ t → Goes q s v [] [] t
   spell : {q s v b t : ℕ} {l ns : List ℕ} → s ≡ 0 → isWord b ≡ true → letterAt q ≡ b → Goes (q + 1) 0 v l ns t → Goes q s v (b ∷ l) ns t
   begin :
-      {q s v b t : ℕ} {l ns : List ℕ} → isMark (letterAt q) ≡ true → isDigit b ≡ true → inside s ≡ false → Goes q (begins s) (b - 48) l ns t →
+      {q s v b t : ℕ} {l ns : List ℕ} → isNumbered (letterAt q) ≡ true → isDigit b ≡ true → inside s ≡ false → Goes q (begins s) (b - 48) l ns t →
       Goes q s v (b ∷ l) ns t
   grow :
-      {q s v b t : ℕ} {l ns : List ℕ} → isMark (letterAt q) ≡ true → isDigit b ≡ true → inside s ≡ true → tenfold v b ≤ 65535 →
+      {q s v b t : ℕ} {l ns : List ℕ} → isNumbered (letterAt q) ≡ true → isDigit b ≡ true → inside s ≡ true → tenfold v b ≤ 65535 →
       Goes q s (tenfold v b) l ns t → Goes q s v (b ∷ l) ns t
+  digit :
+      {q s v b t : ℕ} {l m : List ℕ} (ns : List ℕ) → letterAt q ≡ 38 → isDigit b ≡ true → m ≡ held s v ++ ns → Goes q 1 (b - 48) l ns t →
+      Goes q s v (b ∷ l) m t
   part :
       {q s v b t : ℕ} {l m : List ℕ} (n : ℕ) (ns : List ℕ) → isDigit b ≡ false → parts (letterAt q) s b ≡ suc n → m ≡ v ∷ ns → Goes q (suc n) 0 l ns t →
       Goes q s v (b ∷ l) m t
@@ -39,8 +42,9 @@ pub data Goes : (q s v : ℕ) → List ℕ → List ℕ → ℕ → Type 0 where
 pub goes-some : {q s v t : ℕ} {l ns : List ℕ} → Goes q s v l ns t → 1 ≤ letterAt q
 goes-some {q} {t = t} (done e h i) = subst (λ (c : ℕ). 1 ≤ c) (sym i) (tag-some t h)
 goes-some (spell {b = b} e w i g) = subst (λ (c : ℕ). 1 ≤ c) (sym i) (word-some b w)
-goes-some {q} (begin m d n g) = mark-some (letterAt q) m
-goes-some {q} (grow m d n f g) = mark-some (letterAt q) m
+goes-some {q} (begin m d n g) = mark-some (letterAt q) (numbered-mark (letterAt q) m)
+goes-some {q} (grow m d n f g) = mark-some (letterAt q) (numbered-mark (letterAt q) m)
+goes-some {q} (digit ns c d e g) = subst (λ (x : ℕ). 1 ≤ x) (sym c) (omega arith)
 goes-some {q} {s} (part {b = b} n ns d e f g) = mark-some (letterAt q) (parted-by (letterAt q) s b n e .mark)
 goes-some {q} (leave ns m f e g) = mark-some (letterAt q) m
 
@@ -136,13 +140,13 @@ abbrev pub st : ℕ → ℕ → ℕ → ℕ → Reader
 st p s v k = record { at = p; sub = s; value = v; used = k }
 
 abbrev pub adds : Reader → ℕ → List ℕ
-adds r b = cond (isDigit b) [] (held (r .sub) (r .value))
+adds r b = cond (isDigit b) (cond (eqb (letterAt (r .at)) 38) (held (r .sub) (r .value)) []) (held (r .sub) (r .value))
 
 abbrev pub AccR : Reader → List ℕ → List ℕ → ℕ → Type 0
 AccR r l ns t = Acc (r .at) (r .sub) (r .value) l ns t
 
 kept-at : (r : Reader) → kept r .value ≡ r .value
-kept-at r = by (inside (r .sub)) (ltb (r .used) 19)
+kept-at r = by (inside (r .sub)) (ltb (r .used) 517)
   where
     by : (x y : Bool) → cond x (storedIf y r) r .value ≡ r .value
     by true true = refl
@@ -150,18 +154,22 @@ kept-at r = by (inside (r .sub)) (ltb (r .used) 19)
     by false y = refl
 
 module _ (p s v k : ℕ) (b : ℕ) where
-  push-begin : isDigit b ≡ true → isMark (letterAt p) ≡ true → inside s ≡ false → pushed (st p s v k) b ≡ st p (begins s) (b - 48) k
+  push-begin : isDigit b ≡ true → isNumbered (letterAt p) ≡ true → inside s ≡ false → pushed (st p s v k) b ≡ st p (begins s) (b - 48) k
   unfolding pushed
-  push-begin d h i = rw (d, h, i)
+  push-begin d h i = rw (d, numbered-other (letterAt p) h, h, i)
 
-  push-grow : isDigit b ≡ true → isMark (letterAt p) ≡ true → inside s ≡ true → pushed (st p s v k) b ≡ grownIf (leb (tenfold v b) 65535) (st p s v k)
+  push-grow : isDigit b ≡ true → isNumbered (letterAt p) ≡ true → inside s ≡ true → pushed (st p s v k) b ≡ grownIf (leb (tenfold v b) 65535) (st p s v k)
       (tenfold v b)
   unfolding pushed
-  push-grow d h i = rw (d, h, i)
+  push-grow d h i = rw (d, numbered-other (letterAt p) h, h, i)
 
-  push-dead : isDigit b ≡ true → isMark (letterAt p) ≡ false → pushed (st p s v k) b ≡ st 0 0 v k
+  push-dead : isDigit b ≡ true → eqb (letterAt p) 38 ≡ false → isNumbered (letterAt p) ≡ false → pushed (st p s v k) b ≡ st 0 0 v k
   unfolding pushed
-  push-dead d h = rw (d, h)
+  push-dead d o h = rw (d, o, h)
+
+  push-digit : isDigit b ≡ true → letterAt p ≡ 38 → pushed (st p s v k) b ≡ begun (kept (st p s v k)) 1 (b - 48)
+  unfolding pushed
+  push-digit d h = rw (d, h)
 
   push-part : (n : ℕ) → isDigit b ≡ false → parts (letterAt p) s b ≡ suc n → pushed (st p s v k) b ≡ begun (kept (st p s v k)) (suc n) 0
   unfolding pushed
@@ -171,21 +179,21 @@ module _ (p s v k : ℕ) (b : ℕ) where
   unfolding pushed
   push-spell d e = rw (d, e)
 
-  kept-on : (n t : ℕ) (l ns : List ℕ) → Acc p n 0 l ns t → AccR (begun (kept (st p s v k)) n 0) l ns t
-  kept-on n t l ns a = by (inside s) (ltb k 19)
+  kept-on : (n x t : ℕ) (l ns : List ℕ) → Acc p n x l ns t → AccR (begun (kept (st p s v k)) n x) l ns t
+  kept-on n x t l ns a = by (inside s) (ltb k 517)
     where
-      by : (x y : Bool) → AccR (begun (cond x (storedIf y (st p s v k)) (st p s v k)) n 0) l ns t
+      by : (y z : Bool) → AccR (begun (cond y (storedIf z (st p s v k)) (st p s v k)) n x) l ns t
       by true true = a
       by true false = a
-      by false y = a
+      by false z = a
 
-  kept-back : (n t : ℕ) (l ns : List ℕ) → AccR (begun (kept (st p s v k)) n 0) l ns t → Acc p n 0 l ns t
-  kept-back n t l ns a = by (inside s) (ltb k 19) a
+  kept-back : (n x t : ℕ) (l ns : List ℕ) → AccR (begun (kept (st p s v k)) n x) l ns t → Acc p n x l ns t
+  kept-back n x t l ns a = by (inside s) (ltb k 517) a
     where
-      by : (x y : Bool) → AccR (begun (cond x (storedIf y (st p s v k)) (st p s v k)) n 0) l ns t → Acc p n 0 l ns t
+      by : (y z : Bool) → AccR (begun (cond y (storedIf z (st p s v k)) (st p s v k)) n x) l ns t → Acc p n x l ns t
       by true true c = c
       by true false c = c
-      by false y c = c
+      by false z c = c
 
 -- what is left of a line behind its first byte
 pub record On (r : Reader) (b : ℕ) (l ns : List ℕ) (t : ℕ) : Type 0 where
@@ -212,6 +220,9 @@ module _ (p s v k : ℕ) (b t : ℕ) (l : List ℕ) where
           split true e = absurd (word-no-digit b w e)
           split false e = e
 
+      numbered-there : (q : ℕ) → p ≤ q → like p q ≡ true → isNumbered (letterAt q) ≡ true → isNumbered (letterAt p) ≡ true
+      numbered-there q h e c = ap isNumbered (mark-there p q h e (numbered-mark (letterAt q) c)) ∙ c
+
       behind : (q : ℕ) (ns′ : List ℕ) → p ≤ q → like p q ≡ true → isMark (letterAt q) ≡ true → mayEnd (letterAt q) s ≡ true → ns ≡ held s v ++ ns′ → Goes
           (q + 1) 0 v (b ∷ l) ns′ t → On (st p s v k) b l ns t
       behind q ns′ h e c f i (spell z w j g) =
@@ -223,8 +234,9 @@ module _ (p s v k : ℕ) (b t : ℕ) (l : List ℕ) where
             is = rw (no-digit w) i;
             acc = spelled-on ns′ (no-digit w) w (subst (λ (y : ℕ). Acc (seek y b) 0 v l ns′ t) (sym at) x);
           }
-      behind q ns′ h e c f i (begin y d n g) = differ (sym y ∙ no-mark-behind q c)
-      behind q ns′ h e c f i (grow y d n z g) = differ (sym y ∙ no-mark-behind q c)
+      behind q ns′ h e c f i (begin y d n g) = differ (sym (numbered-mark (letterAt (q + 1)) y) ∙ no-mark-behind q c)
+      behind q ns′ h e c f i (grow y d n z g) = differ (sym (numbered-mark (letterAt (q + 1)) y) ∙ no-mark-behind q c)
+      behind q ns′ h e c f i (digit x y d j g) = differ (sym (ap isMark y) ∙ no-mark-behind q c)
       behind q ns′ h e c f i (part n z d y j g) = differ (sym (parted-by (letterAt (q + 1)) 0 b n y .mark) ∙ no-mark-behind q c)
       behind q ns′ h e c f i (leave x y z j g) = differ (sym y ∙ no-mark-behind q c)
 
@@ -246,18 +258,25 @@ module _ (p s v k : ℕ) (b t : ℕ) (l : List ℕ) where
       by q h e (begin c d n g) =
           record {
             rest = ns;
-            is = rw d;
-            acc = to ns (st p (begins s) (b - 48) k) (push-begin p s v k b d (ap isMark (mark-there p q h e c) ∙ c) n)
-                (record { place = q; above = h; same = e; then = g });
+            is = rw (d, numbered-other (letterAt p) (numbered-there q h e c));
+            acc = to ns (st p (begins s) (b - 48) k) (push-begin p s v k b d (numbered-there q h e c) n) (record { place = q; above = h; same = e; then = g });
           }
       by q h e (grow c d n f g) =
           record {
             rest = ns;
-            is = rw d;
+            is = rw (d, numbered-other (letterAt p) (numbered-there q h e c));
             acc =
-                to ns (st p s (tenfold v b) k)
-                (push-grow p s v k b d (ap isMark (mark-there p q h e c) ∙ c) n ∙ rw (le-leb (tenfold v b) 65535 f))
+                to ns (st p s (tenfold v b) k) (push-grow p s v k b d (numbered-there q h e c) n ∙ rw (le-leb (tenfold v b) 65535 f))
                 (record { place = q; above = h; same = e; then = g });
+          }
+      by q h e (digit ns′ c d i g) =
+          let there : letterAt p ≡ 38 = mark-there p q h e (ap isMark c) ∙ c in
+          record {
+            rest = ns′;
+            is = i ∙ rw (d, there);
+            acc =
+                to ns′ (begun (kept (st p s v k)) 1 (b - 48)) (push-digit p s v k b d there)
+                (kept-on p s v k b 1 (b - 48) t l ns′ (record { place = q; above = h; same = e; then = g }));
           }
       by q h e (part n ns′ d f i g) =
           let x = parted-by (letterAt q) s b n f in
@@ -266,7 +285,7 @@ module _ (p s v k : ℕ) (b t : ℕ) (l : List ℕ) where
             is = i ∙ rw (d, x .number);
             acc =
                 to ns′ (begun (kept (st p s v k)) (suc n) 0) (push-part p s v k b n d (ap (λ (c : ℕ). parts c s b) (mark-there p q h e (x .mark)) ∙ f))
-                (kept-on p s v k b (suc n) t l ns′ (record { place = q; above = h; same = e; then = g }));
+                (kept-on p s v k b (suc n) 0 t l ns′ (record { place = q; above = h; same = e; then = g }));
           }
       by q h e (leave ns′ c f i g) = behind q ns′ h e c f i g
 
@@ -280,29 +299,45 @@ module _ (p s v k : ℕ) (b t : ℕ) (l : List ℕ) where
       from : (r : Reader) → pushed (st p s v k) b ≡ r → AccR r l ns t
       from r e = subst (λ (x : Reader). AccR x l ns t) e a
 
-      grown : (x : Bool) → leb (tenfold v b) 65535 ≡ x → isDigit b ≡ true → isMark (letterAt p) ≡ true → inside s ≡ true → Acc p s v (b ∷ l) ns t
+      grown : (x : Bool) → leb (tenfold v b) 65535 ≡ x → isDigit b ≡ true → isNumbered (letterAt p) ≡ true → inside s ≡ true → Acc p s v (b ∷ l) ns t
       grown true f d c i =
           let y = from (st p s (tenfold v b) k) (push-grow p s v k b d c i ∙ rw f) in
           record {
             place = y .place;
             above = y .above;
             same = y .same;
-            then = grow {q = y .place} (rw (at-mark y c) c) d i (leb-true (tenfold v b) 65535 f)
-                (y .then);
+            then = grow {q = y .place} (ap isNumbered (at-mark y (numbered-mark (letterAt p) c)) ∙ c) d i (leb-true (tenfold v b) 65535 f) (y .then);
           }
       grown false f d c i = none (from (st 0 0 v k) (push-grow p s v k b d c i ∙ rw f))
 
-      digit : (x y : Bool) → isMark (letterAt p) ≡ x → inside s ≡ y → isDigit b ≡ true → Acc p s v (b ∷ l) ns t
-      digit true true c i d = grown (leb (tenfold v b) 65535) refl d c i
-      digit true false c i d =
+      digit-of : (x y : Bool) → eqb (letterAt p) 38 ≡ false → isNumbered (letterAt p) ≡ x → inside s ≡ y → isDigit b ≡ true → Acc p s v (b ∷ l) ns t
+      digit-of true true o c i d = grown (leb (tenfold v b) 65535) refl d c i
+      digit-of true false o c i d =
           let y = from (st p (begins s) (b - 48) k) (push-begin p s v k b d c i) in
-          record { place = y .place; above = y .above; same = y .same; then = begin {q = y .place} (rw (at-mark y c) c) d i (y .then) }
-      digit false y c i d = none (from (st 0 0 v k) (push-dead p s v k b d c))
+          record {
+            place = y .place;
+            above = y .above;
+            same = y .same;
+            then = begin {q = y .place} (ap isNumbered (at-mark y (numbered-mark (letterAt p) c)) ∙ c) d i (y .then);
+          }
+      digit-of false y o c i d = none (from (st 0 0 v k) (push-dead p s v k b d o c))
+
+      single : (x : Bool) → eqb (letterAt p) 38 ≡ x → isDigit b ≡ true → Acc p s v (b ∷ l) (cond x (held s v) [] ++ ns) t
+      single false e d = digit-of (isNumbered (letterAt p)) (inside s) e refl refl d
+      single true e d =
+          let c = eqb-true (letterAt p) 38 e in
+          let y = kept-back p s v k b 1 (b - 48) t l ns (from (begun (kept (st p s v k)) 1 (b - 48)) (push-digit p s v k b d c)) in
+          record {
+            place = y .place;
+            above = y .above;
+            same = y .same;
+            then = digit {q = y .place} {s = s} {v = v} ns (at-mark y (ap isMark c) ∙ c) d refl (y .then);
+          }
 
       other : (n : ℕ) → parts (letterAt p) s b ≡ n → (x : Bool) → isWord b ≡ x → isDigit b ≡ false → Acc p s v (b ∷ l) (held s v ++ ns) t
       other (suc n) e x w d =
           let z = parted-by (letterAt p) s b n e in
-          let y = kept-back p s v k b (suc n) t l ns (from (begun (kept (st p s v k)) (suc n) 0) (push-part p s v k b n d e)) in
+          let y = kept-back p s v k b (suc n) 0 t l ns (from (begun (kept (st p s v k)) (suc n) 0) (push-part p s v k b n d e)) in
           rw (z .number) (record {
             place = y .place;
             above = y .above;
@@ -319,6 +354,6 @@ module _ (p s v k : ℕ) (b t : ℕ) (l : List ℕ) where
           (rw w at y) in
           leave-back p s v t (b ∷ l) ns (spell-back (past (letterAt p) s p) v b t l ns w z)
 
-      by : (x : Bool) → isDigit b ≡ x → Acc p s v (b ∷ l) (cond x [] (held s v) ++ ns) t
-      by true d = digit (isMark (letterAt p)) (inside s) refl refl d
+      by : (x : Bool) → isDigit b ≡ x → Acc p s v (b ∷ l) (cond x (cond (eqb (letterAt p) 38) (held s v) []) (held s v) ++ ns) t
+      by true d = single (eqb (letterAt p) 38) refl d
       by false d = other (parts (letterAt p) s b) refl (isWord b) refl d

@@ -15,4 +15,5 @@ pub mod Handing
 pub mod Readable
 pub mod Edges
 pub mod Paper
+pub mod Telling
 pub mod Once

@@ -1,19 +1,20 @@
--- A line says one thing: two calls that one line says are the same, an append's pairs too. Assumes nothing.
+-- A line says one thing: two calls that one line says are the same, an append's pairs and a night's outcomes too. Assumes nothing.
 use Prim.Native.Nat.{ℕ}
 use mathlib.Core.Path.{_≡_, refl, sym, ap, ap₂, _∙_, subst}
-use mathlib.Core.Bool.{Bool, true, false, _&&_, true≢false}
+use mathlib.Core.Bool.{Bool, true, false, cond, _&&_, true≢false}
 use mathlib.Core.List.{List, [], _∷_, _++_, foldl, append-assoc}
 use lib.ListN.{getD, drop}
 use Rattle.machine.specs.Calls as machine
 use Rattle.machine.specs.Calls.{Pair}
 use Rattle.lines.specs.Text.{text}
 use Rattle.lines.specs.Decimal.{isDigit}
-use Rattle.lines.specs.Forms.{Asked, calls, why}
+use Rattle.lines.specs.Forms.{Asked, calls, why, night}
 use Rattle.lines.specs.Grammar.{allDigits, tenfold, Number, pair, Row, one, more, Says}
 use Rattle.lines.specs.declared.reading.Call.{Call}
-use Rattle.lines.specs.declared.reading.Call.the-variants.{Append, Rollback, Start, Stop, Connect, Disconnect, Master, Sync, Work, Fold, Why, Unreadable}
-use Rattle.lines.specs.Handed.{callFor, pairsIn}
-use Rattle.lines.proofs.Readable.{hands-once}
+use Rattle.lines.specs.declared.reading.Call.the-variants.{Append, Rollback, Start, Stop, Connect, Disconnect, Master, Sync, Work, Fold, Why, Night, Unreadable}
+use Rattle.lines.specs.Handed.{callFor, pairsIn, outcomesIn}
+use Rattle.lines.proofs.Readable.{goes-through, hands-once}
+use Rattle.lines.proofs.Telling.{sleeps, says-tell}
 use Rattle.lines.proofs.Paper as paper
 use Rattle.lines.proofs.Paper.{Line, says-line}
 
@@ -96,6 +97,7 @@ appends (Sync n) = false
 appends (Work n j i o c) = false
 appends (Fold n) = false
 appends (Why n j i) = false
+appends (Night n b) = false
 appends Unreadable = false
 
 abbrev key : List ℕ
@@ -119,6 +121,7 @@ held (paper.line-sync x) e = absurd (true≢false (sym e))
 held (paper.line-work x y z u w) e = absurd (true≢false (sym e))
 held (paper.line-fold x) e = absurd (true≢false (sym e))
 held (paper.line-why x y z) e = absurd (true≢false (sym e))
+held (paper.line-night x y d h) e = absurd (true≢false (sym e))
 
 held-once : {l : List ℕ} {ps qs : List Pair} → Held l ps → Held l qs → ps ≡ qs
 held-once (empty e f) (empty g h) = f ∙ sym h
@@ -138,6 +141,7 @@ no-pairs (calls (machine.sync n)) e = refl
 no-pairs (calls (machine.work n j i o c)) e = refl
 no-pairs (calls (machine.foldTo n)) e = refl
 no-pairs (why n j i) e = refl
+no-pairs (night n b os) e = refl
 
 pairs-once : {l : List ℕ} {x y : Asked} → Says l x → Says l y → pairsIn x ≡ pairsIn y
 pairs-once {l} {x} {y} s t = go (appends (callFor x)) refl
@@ -154,22 +158,28 @@ pairs-once {l} {x} {y} s t = go (appends (callFor x)) refl
     go true e = held-once (as-held s e) (as-held t (same ∙ e))
     go false e = no-pairs x e ∙ sym (no-pairs y (same ∙ e))
 
--- ---- what is asked, by the call and the pairs that are handed on
-abbrev askedOf : Call → List Pair → Asked
-askedOf Append ps = calls (machine.append ps)
-askedOf (Rollback n) ps = calls (machine.rollback n)
-askedOf Start ps = calls machine.start
-askedOf Stop ps = calls machine.stop
-askedOf (Connect n) ps = calls (machine.connect n)
-askedOf (Disconnect n) ps = calls (machine.disconnect n)
-askedOf (Master n) ps = calls (machine.master n)
-askedOf (Sync n) ps = calls (machine.sync n)
-askedOf (Work n j i o c) ps = calls (machine.work n j i o c)
-askedOf (Fold n) ps = calls (machine.foldTo n)
-askedOf (Why n j i) ps = why n j i
-askedOf Unreadable ps = calls machine.stop
+-- ---- a night's line
+outcomes-once : {l : List ℕ} {x y : Asked} → Says l x → Says l y → outcomesIn x ≡ outcomesIn y
+outcomes-once s t =
+    says-tell s ∙ ap₂ (λ (c : Call) (ns : List ℕ). cond (sleeps c) (drop 2 ns) []) (hands-once s t) (goes-through s .is ∙ sym (goes-through t .is)) ∙ sym (says-tell t)
 
-asked-back : (x : Asked) → askedOf (callFor x) (pairsIn x) ≡ x
+-- ---- what is asked, by the call, the pairs and the outcomes that are handed on
+abbrev askedOf : Call → List Pair → List ℕ → Asked
+askedOf Append ps os = calls (machine.append ps)
+askedOf (Rollback n) ps os = calls (machine.rollback n)
+askedOf Start ps os = calls machine.start
+askedOf Stop ps os = calls machine.stop
+askedOf (Connect n) ps os = calls (machine.connect n)
+askedOf (Disconnect n) ps os = calls (machine.disconnect n)
+askedOf (Master n) ps os = calls (machine.master n)
+askedOf (Sync n) ps os = calls (machine.sync n)
+askedOf (Work n j i o c) ps os = calls (machine.work n j i o c)
+askedOf (Fold n) ps os = calls (machine.foldTo n)
+askedOf (Why n j i) ps os = why n j i
+askedOf (Night n b) ps os = night n b os
+askedOf Unreadable ps os = calls machine.stop
+
+asked-back : (x : Asked) → askedOf (callFor x) (pairsIn x) (outcomesIn x) ≡ x
 asked-back (calls (machine.append ps)) = refl
 asked-back (calls (machine.rollback n)) = refl
 asked-back (calls machine.start) = refl
@@ -181,6 +191,9 @@ asked-back (calls (machine.sync n)) = refl
 asked-back (calls (machine.work n j i o c)) = refl
 asked-back (calls (machine.foldTo n)) = refl
 asked-back (why n j i) = refl
+asked-back (night n b os) = refl
 
 pub says-once : {l : List ℕ} {x y : Asked} → Says l x → Says l y → x ≡ y
-says-once {x = x} {y = y} s t = sym (asked-back x) ∙ ap₂ askedOf (hands-once s t) (pairs-once s t) ∙ asked-back y
+says-once {x = x} {y = y} s t =
+    sym (asked-back x) ∙ ap₂ (λ (c : Call) (ps : List Pair). askedOf c ps (outcomesIn x)) (hands-once s t) (pairs-once s t)
+    ∙ ap (λ (os : List ℕ). askedOf (callFor y) (pairsIn y) os) (outcomes-once s t) ∙ asked-back y

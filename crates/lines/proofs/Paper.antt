@@ -1,4 +1,4 @@
--- The paper's nine lines, the fold's and why's, each written out, are what the table says, and nothing else is. Assumes nothing.
+-- The paper's nine lines, the fold's, why's and the night's, each written out, are what the table says, and nothing else is. Assumes nothing.
 use Prim.Native.Nat.{ℕ}
 use mathlib.Core.Path.{_≡_, refl, ap, sym, subst, _∙_}
 use mathlib.Core.List.{List, [], _∷_, _++_, append-assoc, append-nil}
@@ -6,8 +6,8 @@ use mathlib.Core.Bool.{Bool, true, _&&_}
 use Rattle.machine.specs.Calls as machine
 use Rattle.machine.specs.Calls.{Pair}
 use Rattle.lines.specs.Text.{text}
-use Rattle.lines.specs.Forms.{Asked, calls, why, Token, letter, number, pairs, Asks, Form, forms}
-use Rattle.lines.specs.Grammar.{flat, isWord, Number, Row, Fits, fits-end, fits-letter, fits-number, fits-none, fits-pairs, Among, here, there, Says}
+use Rattle.lines.specs.Forms.{Asked, calls, why, night, Token, letter, number, pairs, digits, Asks, Form, forms}
+use Rattle.lines.specs.Grammar.{allDigits, flat, worths, isWord, Number, Row, Fits, fits-end, fits-letter, fits-number, fits-none, fits-pairs, fits-digits, Among, here, there, Says}
 use Rattle.lines.proofs.Classes.{and-left, and-right}
 use Rattle.lines.proofs.Each.{_&_, Each, each-among}
 
@@ -28,6 +28,9 @@ pub data Line : List ℕ → Asked → Type 0 where
   line-why :
       {a b d : List ℕ} {n j i : ℕ} → Number a n → Number b j → Number d i →
       Line (text "call=why node=" ++ a ++ text " job=" ++ b ++ text " number=" ++ d) (why n j i)
+  line-night :
+      {a b : List ℕ} {n k : ℕ} → Number a n → Number b k → (d : List ℕ) → allDigits d ≡ true →
+      Line (text "call=night node=" ++ a ++ text " budget=" ++ b ++ text " outcomes=" ++ d) (night n k (worths d))
 
 -- ---- a text of letters at the front of a form
 abbrev letters : List ℕ → List Token → List Token
@@ -96,6 +99,20 @@ why-fits x y z =
     fits-text (text "call=why node=") refl
     (fits-number x (fits-text (text " job=") refl (fits-number y (fits-text (text " number=") refl (at-end z)))))
 
+-- digits at the end
+all-end : {d : List ℕ} {a : List ℕ → Asked} → allDigits d ≡ true → Fits (digits ∷ []) a d (worths d) (a (worths d))
+all-end {d} {a} h =
+    subst (λ (z : List ℕ). Fits (digits ∷ []) a z (worths d) (a (worths d))) (append-nil d)
+    (subst (λ (z : List ℕ). Fits (digits ∷ []) a (d ++ []) z (a (worths d))) (append-nil (worths d)) (fits-digits d h fits-end))
+
+night-fits :
+    {a b : List ℕ} {n k : ℕ} → Number a n → Number b k → (d : List ℕ) → allDigits d ≡ true →
+    Fits (letters (text "call=night node=") (number ∷ letters (text " budget=") (number ∷ letters (text " outcomes=") (digits ∷ [])))) (λ n k os. night n k os)
+    (text "call=night node=" ++ (a ++ (text " budget=" ++ (b ++ (text " outcomes=" ++ d))))) (n ∷ k ∷ worths d) (night n k (worths d))
+night-fits x y d h =
+    fits-text (text "call=night node=") refl
+    (fits-number x (fits-text (text " budget=") refl (fits-number y (fits-text (text " outcomes=") refl (all-end h)))))
+
 -- ---- each line of the paper is said
 pub line-says : {l : List ℕ} {x : Asked} → Line l x → Says l x
 unfolding flat
@@ -130,6 +147,15 @@ line-says (line-why {a} {b} {d} {n} {j} {i} x y z) =
         (a b d : List ℕ) →
         text "call=why node=" ++ (a ++ (text " job=" ++ (b ++ (text " number=" ++ d))))
         ≡ text "call=why node=" ++ a ++ text " job=" ++ b ++ text " number=" ++ d
+    regroup a b d = simp append-assoc
+line-says (line-night {a} {b} {n} {k} x y d h) =
+    subst (λ (z : List ℕ). Says z (night n k (worths d))) (regroup a b d)
+    (says-by (there (there (there (there (there (there (there (there (there (there (there here))))))))))) (night-fits x y d h))
+  where
+    regroup :
+        (a b d : List ℕ) →
+        text "call=night node=" ++ (a ++ (text " budget=" ++ (b ++ (text " outcomes=" ++ d))))
+        ≡ text "call=night node=" ++ a ++ text " budget=" ++ b ++ text " outcomes=" ++ d
     regroup a b d = simp append-assoc
 
 -- ---- and what a row says is one of those lines
@@ -260,6 +286,42 @@ asked-why {x = x} y =
     (λ a n r1 ns1 u y1. behind-key (text " job=") Y3 (why n) (λ r. Lined (text "call=why node=" ++ (a ++ r)) x) y1
     (λ b j r2 ns2 v y2. third-key a b n j u v y2))
 
+-- ---- a night: two, and digits
+abbrev N3 : List Token
+N3 = letters (text " outcomes=") (digits ∷ [])
+
+abbrev N2 : List Token
+N2 = letters (text " budget=") (number ∷ N3)
+
+ended-night :
+    (a b : List ℕ) (n k : ℕ) {l ns : List ℕ} {x : Asked} → Number a n → Number b k → Fits (digits ∷ []) (night n k) l ns x →
+    Lined (text "call=night node=" ++ a ++ text " budget=" ++ b ++ text " outcomes=" ++ l) x
+ended-night a b n k u v (fits-digits d h fits-end) =
+    record {
+      asked = night n k (worths d);
+      is = refl;
+      line = subst (λ (l : List ℕ). Line (text "call=night node=" ++ a ++ text " budget=" ++ b ++ text " outcomes=" ++ l) (night n k (worths d))) (sym (append-nil d))
+          (line-night u v d h);
+    }
+
+outcomes-key :
+    (a b : List ℕ) (n k : ℕ) {l ns : List ℕ} {x : Asked} → Number a n → Number b k → Fits N3 (night n k) l ns x →
+    Lined (text "call=night node=" ++ (a ++ (text " budget=" ++ (b ++ l)))) x
+outcomes-key a b n k u v y =
+    let z = text-rest (text " outcomes=") (digits ∷ []) (night n k) y in
+    moved (ap (λ (r : List ℕ). text "call=night node=" ++ (a ++ (text " budget=" ++ (b ++ r)))) (z .is) ∙ regroup (z .rest)) (ended-night a b n k u v (z .fits))
+  where
+    regroup :
+        (d : List ℕ) → text "call=night node=" ++ (a ++ (text " budget=" ++ (b ++ (text " outcomes=" ++ d)))) ≡
+        text "call=night node=" ++ a ++ text " budget=" ++ b ++ text " outcomes=" ++ d
+    regroup d = simp append-assoc
+
+asked-night : {l ns : List ℕ} {x : Asked} → Fits (letters (text "call=night node=") (number ∷ N2)) night l ns x → Lined l x
+asked-night {x = x} y =
+    behind-key (text "call=night node=") N2 night (λ r. Lined r x) y
+    (λ a n r1 ns1 u y1. behind-key (text " budget=") N3 (night n) (λ r. Lined (text "call=night node=" ++ (a ++ r)) x) y1
+    (λ b k r2 ns2 v y2. outcomes-key a b n k u v y2))
+
 -- ---- each row
 LinesOf : Form → Type 0
 LinesOf f = (l ns : List ℕ) (x : Asked) → Fits (f .form) (f .asks) l ns x → Lined l x
@@ -278,6 +340,7 @@ each =
     & (λ l ns x y. worked y)
     & (λ l ns x y. single (text "call=fold number=") (λ n. calls (machine.foldTo n)) (λ d n k. line-fold k) y)
     & (λ l ns x y. asked-why y)
+    & (λ l ns x y. asked-night y)
     & tt
 
 pub says-line : {l : List ℕ} {x : Asked} → Says l x → Lined l x

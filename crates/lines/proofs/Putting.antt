@@ -14,7 +14,7 @@ use Rattle.kinds.specs.declared.Reply.{Reply}
 use Rattle.kinds.specs.Statuses.{codeOf}
 use Rattle.lines.specs.Text.{text}
 use Rattle.lines.specs.Decimal.{spelled, decimal}
-use Rattle.lines.specs.Replies.{filledFrom, replyLine, whyLine, closingLine, Put, Written}
+use Rattle.lines.specs.Replies.{filledFrom, replyLine, whyLine, nightLine, closingLine, Put, Written}
 
 -- ---- a text put after a text is both put at once
 sets-append : (s t l : List ℕ) (i : ℕ) → sets (sets l i s) (i + length s) t ≡ sets l i (s ++ t)
@@ -138,6 +138,11 @@ pub why-filled : (a r k : ℕ) →
     (((text "answer=" ++ decimal a) ++ (text " reason=" ++ decimal r)) ++ (text " named=" ++ decimal k)) ++ text "\n" ≡ whyLine a r k
 unfolding whyLine filledFrom
 why-filled a r k = three (text "answer=") (decimal a) (text " reason=") (decimal r) (text " named=") (decimal k) (text "\n")
+
+pub night-filled : (a j s : ℕ) →
+    (((text "answer=" ++ decimal a) ++ (text " jobs=" ++ decimal j)) ++ (text " stopped=" ++ decimal s)) ++ text "\n" ≡ nightLine a j s
+unfolding nightLine filledFrom
+night-filled a j s = three (text "answer=") (decimal a) (text " jobs=") (decimal j) (text " stopped=") (decimal s) (text "\n")
 
 -- ---- a whole line
 written : {l m t : List ℕ} {e : ℕ} → Put l 0 t e m → 96 ≤ length l → e ≤ length l → Written l t e m

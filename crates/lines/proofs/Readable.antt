@@ -16,28 +16,34 @@ use Rattle.machine.specs.Step.{outcome, step}
 use Rattle.lines.specs.declared.reading.Call.{Call}
 use Rattle.lines.specs.declared.reading.Call.the-variants.{Unreadable}
 use Rattle.lines.specs.declared.reading.Reader.{Reader}
-use Rattle.lines.specs.Forms.{Asked, calls, why}
+use Rattle.lines.specs.Forms.{Asked, calls, why, night}
 use Rattle.lines.specs.Grammar.{Says}
 use Rattle.lines.specs.Reading.{twoBytes, pushed, fresh, kept, keptIn, tagOf, callOf, lineOf, finished, ran, said, saidIn}
 use Rattle.lines.specs.Handed.{Hands, callFor}
 use Rattle.lines.proofs.Goes.{AccR}
-use Rattle.lines.proofs.Runs.{told, run-on, run-back, Holds, ran-reader, holds-run}
+use Rattle.lines.proofs.Runs.{told, Told, run-on, run-back, Holds, ran-reader, holds-run}
 use Rattle.lines.proofs.Standing.{row-of, row-from, like-start-of, tag-is, text-is}
 use Rattle.lines.proofs.Complete.{fits-go}
 use Rattle.lines.proofs.Sound.{goes-fit}
 use Rattle.lines.proofs.Handing.{handed}
 
-module _ (m : List ℕ) (n : length m ≡ 20) where
+-- the reader goes through a line that says something, and tells its numbers
+pub goes-through : {l : List ℕ} {x : Asked} (s : Says l x) → Told fresh l (s .numbers) (s .of .tag)
+goes-through {l} s =
+    let f = s .of in
+    let r = row-of f (s .among) in
+    let g = fits-go (s .fits) (r .place) (f .tag) 0 (tag-is f (s .among)) (r .stands) in
+    let a : AccR fresh l (s .numbers) (f .tag) =
+    record { place = r .place; above = omega (arith, r .start .is); same = like-start-of (r .place) (r .start); then = g } in
+    run-on l fresh (s .numbers) (f .tag) a
+
+module _ (m : List ℕ) (n : length m ≡ 518) where
   -- a line that says something is handed on as what it says
   pub complete : {l : List ℕ} {x : Asked} → Says l x → Hands x (said m l) (saidIn m l)
   unfolding twoBytes
   complete {l} {x} s =
       let f = s .of in
-      let r = row-of f (s .among) in
-      let g = fits-go (s .fits) (r .place) (f .tag) 0 (tag-is f (s .among)) (r .stands) in
-      let a : AccR fresh l (s .numbers) (f .tag) =
-      record { place = r .place; above = omega (arith, r .start .is); same = like-start-of (r .place) (r .start); then = g } in
-      let y = run-on l fresh (s .numbers) (f .tag) a in
+      let y = goes-through s in
       let u = kept (ran m l .0) .used in
       let h = holds-run l fresh m [] (record { used = refl; first = refl; long = n }) in
       subst (λ (t : ℕ). Hands x (lineOf t u (saidIn m l)) (saidIn m l)) (sym (ap tagOf (ran-reader l fresh m) ∙ y .tag))
@@ -76,6 +82,7 @@ told-apart (calls (machine.sync n)) e = let z : _≡_ {A = ℕ} 0 1 = cc in omeg
 told-apart (calls (machine.work n j i o c)) e = let z : _≡_ {A = ℕ} 0 1 = cc in omega arith
 told-apart (calls (machine.foldTo n)) e = let z : _≡_ {A = ℕ} 0 1 = cc in omega arith
 told-apart (why n j i) e = let z : _≡_ {A = ℕ} 0 1 = cc in omega arith
+told-apart (night n b os) e = let z : _≡_ {A = ℕ} 0 1 = cc in omega arith
 
 module _ (m l : List ℕ) where
   -- a readable line: the grammar has it as asking for something, and that is handed on
@@ -90,7 +97,7 @@ module _ (m l : List ℕ) where
     pub told : said m l .call ≡ Unreadable
 
 -- every line is one or the other
-pub read-right : (m l : List ℕ) → length m ≡ 20 → Readable m l ⊎ Unread m l
+pub read-right : (m l : List ℕ) → length m ≡ 518 → Readable m l ⊎ Unread m l
 read-right m l n = by (sound m l)
   where
     by : ((x : Asked) × Says l x) ⊎ (said m l .call ≡ Unreadable) → Readable m l ⊎ Unread m l
@@ -99,16 +106,21 @@ read-right m l n = by (sound m l)
 
 -- two things that one line says are handed on alike
 pub hands-once : {l : List ℕ} {c d : Asked} → Says l c → Says l d → callFor c ≡ callFor d
-hands-once x y = sym (complete (replicate 20 0) refl x .calls) ∙ complete (replicate 20 0) refl y .calls
+hands-once x y = sym (complete (replicate 518 0) refl x .calls) ∙ complete (replicate 518 0) refl y .calls
 
--- what is handed on of the pairs lies within the room
-pub within : (r : Reader) (m : List ℕ) → finished r m .length ≤ 20
-within r m = by (eqb (tagOf r) 65) (ltb (kept r .used) 20) refl
+-- what is handed on of the room lies within it
+pub within : (r : Reader) (m : List ℕ) → finished r m .length ≤ 518
+within r m = by (eqb (tagOf r) 65) (eqb (tagOf r) 78) (ltb (kept r .used) 20) refl (ltb (kept r .used) 518) refl
   where
-    by : (b t : Bool) → ltb (kept r .used) 20 ≡ t → cond b (cond t (kept r .used) 20) 0 ≤ 20
-    by true true e = omega (arith, ltb-true (kept r .used) 20 e)
-    by true false e = omega arith
-    by false t e = omega arith
+    u : ℕ
+    u = kept r .used
+
+    by : (a n x : Bool) → ltb u 20 ≡ x → (y : Bool) → ltb u 518 ≡ y → cond a (cond x u 20) (cond n (cond y u 518) 0) ≤ 518
+    by true n true e y f = omega (arith, ltb-true u 20 e)
+    by true n false e y f = omega arith
+    by false true x e true f = omega (arith, ltb-true u 518 f)
+    by false true x e false f = omega arith
+    by false false x e y f = omega arith
 
 -- ---- five pairs are refused as more are
 module _ (a b d e f : Pair) (ps : List Pair) where

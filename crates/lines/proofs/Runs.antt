@@ -13,11 +13,11 @@ use lib.Seq.{take-all, take-append-le, take-suc-set}
 use Rattle.lines.specs.declared.reading.Reader.{Reader}
 use Rattle.lines.specs.Decimal.{isDigit}
 use Rattle.lines.specs.Grammar.{tenfold}
-use Rattle.lines.specs.Reading.{size, letterAt, isMark, isTag, like, takes, goes, left, seek, inside, begins, parts, mayEnd, past, low, high, twoBytes, pushed, pushedIn, stepped, withDigit, withText, grownIf, stored, storedIf, storedIn, kept, keptIn, begun, placed, spelt, tagOf, tagBefore}
+use Rattle.lines.specs.Reading.{size, letterAt, isNumbered, isMark, isTag, like, takes, goes, left, seek, inside, begins, parts, mayEnd, past, low, high, twoBytes, pushed, digitIn, pushedIn, stepped, withDigit, withText, grownIf, stored, storedIf, storedIn, kept, keptIn, begun, placed, spelt, tagOf, tagBefore}
 use Rattle.lines.proofs.Classes.{differ, and-left, and-right, and-both, mark-no-tag, tag-some}
 use Rattle.lines.proofs.Places.{within, like-next, like-trans, like-sym, Found, Missing, sought}
 use Rattle.lines.proofs.Table.{same-column, lone-mark, lone-tag, no-mark-behind}
-use Rattle.lines.proofs.Goes.{held, Goes, done, leave, begin, grow, part, spell, Acc, AccR, mark-there, leave-back, st, adds, push-on, push-back}
+use Rattle.lines.proofs.Goes.{held, Goes, done, leave, begin, grow, digit, part, spell, Acc, AccR, mark-there, leave-back, st, adds, push-on, push-back}
 
 -- ---- the line's end
 end-at : (p q t : ℕ) → p ≤ q → like p q ≡ true → isTag t ≡ true → letterAt q ≡ t → tagBefore (seek p 10) ≡ t
@@ -69,8 +69,9 @@ end-on p s v k ns t a = by (a .place) (a .above) (a .same) (a .then)
               (held s v);
         }
     behind q n′ h e c f i l o (spell z w j g) = absurd (let u : _≡_ {A = ℕ} 0 1 = cc in omega arith)
-    behind q n′ h e c f i l o (begin y d n g) = differ (sym y ∙ no-mark-behind q c)
-    behind q n′ h e c f i l o (grow y d n z g) = differ (sym y ∙ no-mark-behind q c)
+    behind q n′ h e c f i l o (begin y d n g) = absurd (let u : _≡_ {A = ℕ} 0 1 = cc in omega arith)
+    behind q n′ h e c f i l o (grow y d n z g) = absurd (let u : _≡_ {A = ℕ} 0 1 = cc in omega arith)
+    behind q n′ h e c f i l o (digit x y d j g) = absurd (let u : _≡_ {A = ℕ} 0 1 = cc in omega arith)
     behind q n′ h e c f i l o (part n z d y j g) = absurd (let u : _≡_ {A = ℕ} 0 1 = cc in omega arith)
     behind q n′ h e c f i l o (leave x y z j g) = differ (sym y ∙ no-mark-behind q c)
 
@@ -84,6 +85,7 @@ end-on p s v k ns t a = by (a .place) (a .above) (a .same) (a .then)
         inner q h e l o n′ u (spell z w j g) = absurd (let w : _≡_ {A = ℕ} 0 1 = cc in omega arith)
         inner q h e l o n′ u (begin y d n g) = absurd (let w : _≡_ {A = ℕ} 0 1 = cc in omega arith)
         inner q h e l o n′ u (grow y d n z g) = absurd (let w : _≡_ {A = ℕ} 0 1 = cc in omega arith)
+        inner q h e l o n′ u (digit x y d j g) = absurd (let w : _≡_ {A = ℕ} 0 1 = cc in omega arith)
         inner q h e l o n′ u (part n z d y j g) = absurd (let w : _≡_ {A = ℕ} 0 1 = cc in omega arith)
         inner q h e l o n′ u (leave n″ c f i g) = behind q n″ h e c f (sym u ∙ i) l o g
 
@@ -129,14 +131,14 @@ run-back [] r n = end-back (r .at) (r .sub) (r .value) (r .used) n .0
 run-back (b ∷ l) r n =
     push-back (r .at) (r .sub) (r .value) (r .used) b (tagOf (foldl pushed (pushed r b) l)) l (told (pushed r b) l) (run-back l (pushed r b) n)
 
--- ---- the room: two bytes for each of the numbers so far, ten of them at most
+-- ---- the room: two bytes for each of the numbers so far, 259 of them at most
 abbrev pub firsts : List ℕ → List ℕ
-firsts ns = take 20 (twoBytes ns)
+firsts ns = take 518 (twoBytes ns)
 
 pub record Holds (ns : List ℕ) (u : ℕ) (m : List ℕ) : Type 0 where
   pub used : u ≡ length (firsts ns)
   pub first : take u m ≡ firsts ns
-  pub long : length m ≡ 20
+  pub long : length m ≡ 518
 
 pub two-length : (ns : List ℕ) → length (twoBytes ns) ≡ 2 * length ns
 unfolding twoBytes
@@ -158,35 +160,35 @@ put-two u a b m h =
     ∙ append-assoc (take u m) (a ∷ []) (b ∷ [])
 
 module _ (ns : List ℕ) (v u : ℕ) (m : List ℕ) (h : Holds ns u m) where
-  joined : firsts (ns ++ (v ∷ [])) ≡ take 20 (twoBytes ns ++ (low v ∷ high v ∷ []))
-  joined = ap (take 20) (two-append ns v)
+  joined : firsts (ns ++ (v ∷ [])) ≡ take 518 (twoBytes ns ++ (low v ∷ high v ∷ []))
+  joined = ap (take 518) (two-append ns v)
 
-  kept-room : u < 19 → Holds (ns ++ (v ∷ [])) (u + 2) (set (set m u (low v)) (u + 1) (high v))
+  kept-room : u < 517 → Holds (ns ++ (v ∷ [])) (u + 2) (set (set m u (low v)) (u + 1) (high v))
   kept-room g =
-      let few : length (twoBytes ns) ≤ 18 = omega (arith, two-length ns, length-take 20 (twoBytes ns), h .used) in
-      let all : firsts ns ≡ twoBytes ns = take-all 20 (twoBytes ns) (omega arith) in
+      let few : length (twoBytes ns) ≤ 516 = omega (arith, two-length ns, length-take 518 (twoBytes ns), h .used) in
+      let all : firsts ns ≡ twoBytes ns = take-all 518 (twoBytes ns) (omega arith) in
       let now : firsts (ns ++ (v ∷ [])) ≡ twoBytes ns ++ (low v ∷ high v ∷ []) =
-      joined ∙ take-all 20 (twoBytes ns ++ (low v ∷ high v ∷ [])) (omega (arith, length-append (twoBytes ns) (low v ∷ high v ∷ []))) in
+      joined ∙ take-all 518 (twoBytes ns ++ (low v ∷ high v ∷ [])) (omega (arith, length-append (twoBytes ns) (low v ∷ high v ∷ []))) in
       record {
         used = omega (arith, h .used, ap length all, ap length now, length-append (twoBytes ns) (low v ∷ high v ∷ []));
         first = put-two u (low v) (high v) m (omega (arith, h .long)) ∙ ap (λ (z : List ℕ). z ++ (low v ∷ high v ∷ [])) (h .first ∙ all) ∙ sym now;
         long = length-set (set m u (low v)) (u + 1) (high v) ∙ length-set m u (low v) ∙ h .long;
       }
 
-  full-room : 19 ≤ u → Holds (ns ++ (v ∷ [])) u m
+  full-room : 517 ≤ u → Holds (ns ++ (v ∷ [])) u m
   full-room g =
-      let many : 20 ≤ length (twoBytes ns) = omega (arith, two-length ns, length-take 20 (twoBytes ns), h .used) in
-      let same : firsts (ns ++ (v ∷ [])) ≡ firsts ns = joined ∙ take-append-le 20 (twoBytes ns) (low v ∷ high v ∷ []) many in
+      let many : 518 ≤ length (twoBytes ns) = omega (arith, two-length ns, length-take 518 (twoBytes ns), h .used) in
+      let same : firsts (ns ++ (v ∷ [])) ≡ firsts ns = joined ∙ take-append-le 518 (twoBytes ns) (low v ∷ high v ∷ []) many in
       record { used = h .used ∙ ap length (sym same); first = h .first ∙ sym same; long = h .long }
 
 holds-stored : (ns : List ℕ) (r : Reader) (m : List ℕ) → Holds ns (r .used) m → Holds (ns ++ (r .value ∷ [])) (stored r .used) (storedIn r m)
-holds-stored ns r m h = by (ltb (r .used) 19) refl
+holds-stored ns r m h = by (ltb (r .used) 517) refl
   where
     by :
-        (t : Bool) → ltb (r .used) 19 ≡ t →
+        (t : Bool) → ltb (r .used) 517 ≡ t →
         Holds (ns ++ (r .value ∷ [])) (storedIf t r .used) (cond t (set (set m (r .used) (low (r .value))) (r .used + 1) (high (r .value))) m)
-    by true e = kept-room ns (r .value) (r .used) m h (ltb-true (r .used) 19 e)
-    by false e = full-room ns (r .value) (r .used) m h (ltb-false (r .used) 19 e)
+    by true e = kept-room ns (r .value) (r .used) m h (ltb-true (r .used) 517 e)
+    by false e = full-room ns (r .value) (r .used) m h (ltb-false (r .used) 517 e)
 
 nothing-more : (ns : List ℕ) (u : ℕ) (m : List ℕ) → Holds ns u m → Holds (ns ++ []) u m
 nothing-more ns u m h = subst (λ (l : List ℕ). Holds l u m) (sym (append-nil ns)) h
@@ -202,11 +204,18 @@ holds-pushed : (ns : List ℕ) (r : Reader) (m : List ℕ) (b : ℕ) → Holds n
 unfolding pushed
 holds-pushed ns r m b h = by (isDigit b)
   where
-    digit : (x y z : Bool) → Holds (ns ++ []) (cond x (cond y (grownIf z r (tenfold (r .value) b)) (begun r (begins (r .sub)) (b - 48))) (placed r 0) .used) m
-    digit true true true = nothing-more ns (r .used) m h
-    digit true true false = nothing-more ns (r .used) m h
-    digit true false z = nothing-more ns (r .used) m h
-    digit false y z = nothing-more ns (r .used) m h
+    digits : (x y z : Bool) → Holds (ns ++ []) (cond x (cond y (grownIf z r (tenfold (r .value) b)) (begun r (begins (r .sub)) (b - 48))) (placed r 0) .used) m
+    digits true true true = nothing-more ns (r .used) m h
+    digits true true false = nothing-more ns (r .used) m h
+    digits true false z = nothing-more ns (r .used) m h
+    digits false y z = nothing-more ns (r .used) m h
+
+    -- a single digit, or a digit of a number
+    single : (x : Bool) → Holds (ns ++ cond x (held (r .sub) (r .value)) [])
+        (cond x (begun (kept r) 1 (b - 48)) (cond (isNumbered (letterAt (r .at))) (cond (inside (r .sub)) (grownIf (leb (tenfold (r .value) b) 65535) r (tenfold (r .value) b))
+        (begun r (begins (r .sub)) (b - 48))) (placed r 0)) .used) (cond x (keptIn r m) m)
+    single true = holds-kept ns r m h
+    single false = digits (isNumbered (letterAt (r .at))) (inside (r .sub)) (leb (tenfold (r .value) b) 65535)
 
     to : ℕ
     to = spelt (past (letterAt (r .at)) (r .sub) (r .at)) b
@@ -215,8 +224,9 @@ holds-pushed ns r m b h = by (isDigit b)
     other n true = holds-kept ns r m h
     other n false = holds-kept ns r m h
 
-    by : (x : Bool) → Holds (ns ++ cond x [] (held (r .sub) (r .value))) (cond x (withDigit r (b - 48)) (withText r b) .used) (cond x m (keptIn r m))
-    by true = digit (isMark (letterAt (r .at))) (inside (r .sub)) (leb (tenfold (r .value) b) 65535)
+    by : (x : Bool) → Holds (ns ++ cond x (cond (eqb (letterAt (r .at)) 38) (held (r .sub) (r .value)) []) (held (r .sub) (r .value)))
+        (cond x (withDigit r (b - 48)) (withText r b) .used) (cond x (digitIn r m) (keptIn r m))
+    by true = single (eqb (letterAt (r .at)) 38)
     by false = other (parts (letterAt (r .at)) (r .sub) b) (eqb (parts (letterAt (r .at)) (r .sub) b) 0)
 
 -- the reader goes its way whatever is in the room

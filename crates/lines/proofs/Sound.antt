@@ -10,14 +10,14 @@ use lib.Dec.{leb}
 use lib.ListN.{length, length-append}
 use Rattle.machine.specs.Calls.{Pair}
 use Rattle.lines.specs.Text.{text}
-use Rattle.lines.specs.Forms.{Asked, Token, letter, number, pairs, Asks}
-use Rattle.lines.specs.Grammar.{allDigits, tenfold, pair, flat, isWord, Number, Row, one, more, Fits, fits-end, fits-letter, fits-number, fits-none, fits-pairs}
-use Rattle.lines.specs.Reading.{letterAt, isMark, isTag, inside, begins, parts, mayEnd}
-use Rattle.lines.proofs.Classes.{differ, and-left, and-right, word-no-tag, mark-no-word, mark-no-tag, begins-inside, How, parted-by}
-use Rattle.lines.proofs.Goes.{Goes, done, leave, begin, grow, part, spell}
+use Rattle.lines.specs.Forms.{Asked, Token, letter, number, pairs, digits, Asks}
+use Rattle.lines.specs.Grammar.{allDigits, tenfold, pair, flat, worths, isWord, Number, Row, one, more, Fits, fits-end, fits-letter, fits-number, fits-none, fits-pairs, fits-digits}
+use Rattle.lines.specs.Reading.{letterAt, isNumbered, isMark, isTag, inside, begins, parts, mayEnd}
+use Rattle.lines.proofs.Classes.{differ, and-left, and-right, numbered-mark, word-no-tag, mark-no-word, mark-no-tag, begins-inside, How, parted-by}
+use Rattle.lines.proofs.Goes.{held, Goes, done, leave, begin, grow, digit, part, spell}
 use Rattle.lines.proofs.Standing.{Stands, sound-text}
 
-module _ (q t : ℕ) (mark : isMark (letterAt q) ≡ true) where
+module _ (q t : ℕ) (mark : isNumbered (letterAt q) ≡ true) where
   -- ---- behind a number that is worth n
   data After (s n : ℕ) (l ns : List ℕ) : Type 0 where
     parts-with :
@@ -37,6 +37,7 @@ module _ (q t : ℕ) (mark : isMark (letterAt q) ≡ true) where
   digits-of i f (done z g e) = differ (sym i ∙ ap inside z)
   digits-of i f (spell z w e g) = differ (sym i ∙ ap inside z)
   digits-of i f (begin m d n g) = differ (sym i ∙ n)
+  digits-of i f (digit ns c d e g) = differ (sym mark ∙ ap isNumbered c)
   digits-of {s} {v} i f (grow {b = b} m d n k g) =
       let y = digits-of i k g in
       record { d = b ∷ y .d; rest = y .rest; is = ap (λ (z : List ℕ). b ∷ z) (y .is); digits = rw d (y .digits); fits = y .fits; after = y .after }
@@ -60,8 +61,9 @@ module _ (q t : ℕ) (mark : isMark (letterAt q) ≡ true) where
 
   numbered : {s v : ℕ} {l ns : List ℕ} → inside s ≡ false → Goes q s v l ns t → Numbered s l ns ⊎ Skipped s v l ns
   unfolding allDigits
-  numbered i (done z g e) = absurd (mark-no-tag (letterAt q) mark (ap isTag e ∙ g))
-  numbered i (spell z w e g) = absurd (mark-no-word (letterAt q) mark (ap isWord e ∙ w))
+  numbered i (done z g e) = absurd (mark-no-tag (letterAt q) (numbered-mark (letterAt q) mark) (ap isTag e ∙ g))
+  numbered i (spell z w e g) = absurd (mark-no-word (letterAt q) (numbered-mark (letterAt q) mark) (ap isWord e ∙ w))
+  numbered i (digit ns c d e g) = differ (sym mark ∙ ap isNumbered c)
   numbered {s} i (begin {b = b} m d n g) =
       let y = digits-of (begins-inside s) (omega (arith, leb-true b 57 (and-right (leb 48 b) (leb b 57) d))) g in
       inl (record {
@@ -83,7 +85,7 @@ module _ (q t : ℕ) (mark : isMark (letterAt q) ≡ true) where
 
 -- ---- pairs
 module _ (q t : ℕ) (is : letterAt q ≡ 37) where
-  mark : isMark (letterAt q) ≡ true
+  mark : isNumbered (letterAt q) ≡ true
   mark = rw is
 
   record Listed (l ns : List ℕ) : Type 0 where
@@ -205,7 +207,7 @@ record Single (q t : ℕ) (l ns : List ℕ) : Type 0 where
 number-of : (q t v : ℕ) (l ns : List ℕ) → letterAt q ≡ 35 → Goes q 0 v l ns t → Single q t l ns
 number-of q t v l ns is g = by (numbered q t m refl g)
   where
-    m : isMark (letterAt q) ≡ true
+    m : isNumbered (letterAt q) ≡ true
     m = rw is
 
     last : (z : Numbered q t m 0 l ns) → After q t m 1 (z .n) (z .rest) ns → Single q t l ns
@@ -216,6 +218,43 @@ number-of q t v l ns is g = by (numbered q t m refl g)
     by (inr z) = differ (sym (z .may) ∙ rw is)
     by (inl z) = last z (z .after)
 
+-- ---- single digits
+module _ (q t : ℕ) (is : letterAt q ≡ 38) where
+  -- some digits, the numbers ns being what is held and theirs
+  record Singles (held l ns : List ℕ) : Type 0 where
+    d : List ℕ
+    rest : List ℕ
+    left : List ℕ
+    v : ℕ
+    is-line : l ≡ d ++ rest
+    digits : allDigits d ≡ true
+    is-told : ns ≡ held ++ (worths d ++ left)
+    then : Goes (q + 1) 0 v rest left t
+
+  no-number : {A : Type 0} → isNumbered (letterAt q) ≡ true → A
+  no-number m = differ (sym m ∙ ap isNumbered is)
+
+  singles-of : {s v : ℕ} {l ns : List ℕ} → Goes q s v l ns t → Singles (held s v) l ns
+  unfolding allDigits worths
+  singles-of (done z g e) = differ (sym g ∙ ap isTag (sym e ∙ is))
+  singles-of (spell {b = b} z w e g) = differ (sym w ∙ ap isWord (sym e ∙ is))
+  singles-of (begin m d n g) = no-number m
+  singles-of (grow m d n k g) = no-number m
+  singles-of {s} (part {b = b} n ns′ d e k g) = no-number (ap isNumbered (parted-by (letterAt q) s b n e .of))
+  singles-of {l = l} (leave {v = v} ns′ m e k g) = record { d = []; rest = l; left = ns′; v = v; is-line = refl; digits = refl; is-told = k; then = g }
+  singles-of {s} {v} (digit {b = b} ns′ c d k g) =
+      let y = singles-of g in
+      record {
+        d = b ∷ y .d;
+        rest = y .rest;
+        left = y .left;
+        v = y .v;
+        is-line = ap (λ (z : List ℕ). b ∷ z) (y .is-line);
+        digits = rw d (y .digits);
+        is-told = k ∙ ap (λ (z : List ℕ). held s v ++ z) (y .is-told);
+        then = y .then;
+      }
+
 -- ---- a form
 pub record Fitted (f : List Token) (a : Asks f) (l ns : List ℕ) (t t′ : ℕ) : Type 0 where
   pub asked : Asked
@@ -225,8 +264,9 @@ pub record Fitted (f : List Token) (a : Asks f) (l ns : List ℕ) (t t′ : ℕ)
 at-tag : (q t t′ v s : ℕ) (l ns : List ℕ) (a : Asked) → isTag t ≡ true → letterAt q ≡ t → Goes q s v l ns t′ → Fitted [] a l ns t t′
 at-tag q t t′ v s l ns a g e (done z h i) = record { asked = a; fits = fits-end; tag = sym i ∙ e }
 at-tag q t t′ v s l ns a g e (spell {b = b} z w i h) = absurd (word-no-tag b w (ap isTag (sym i ∙ e) ∙ g))
-at-tag q t t′ v s l ns a g e (begin m d n h) = absurd (mark-no-tag (letterAt q) m (ap isTag e ∙ g))
-at-tag q t t′ v s l ns a g e (grow m d n f h) = absurd (mark-no-tag (letterAt q) m (ap isTag e ∙ g))
+at-tag q t t′ v s l ns a g e (begin m d n h) = absurd (mark-no-tag (letterAt q) (numbered-mark (letterAt q) m) (ap isTag e ∙ g))
+at-tag q t t′ v s l ns a g e (grow m d n f h) = absurd (mark-no-tag (letterAt q) (numbered-mark (letterAt q) m) (ap isTag e ∙ g))
+at-tag q t t′ v s l ns a g e (digit k c d i h) = absurd (mark-no-tag (letterAt q) (ap isMark c) (ap isTag e ∙ g))
 at-tag q t t′ v s l ns a g e (part {b = b} n k d f i h) = absurd (mark-no-tag (letterAt q) (parted-by (letterAt q) s b n f .mark) (ap isTag e ∙ g))
 at-tag q t t′ v s l ns a g e (leave k m f i h) = absurd (mark-no-tag (letterAt q) m (ap isTag e ∙ g))
 
@@ -238,8 +278,9 @@ at-letter c f a q t t′ v s l ns w e ih (spell {b = b} {l = l′} z u i h) =
     let y = ih v l′ ns h in
     let j : c ≡ b = sym e ∙ i in
     record { asked = y .asked; fits = subst (λ (k : ℕ). Fits (letter c ∷ f) a (k ∷ l′) ns (y .asked)) j (fits-letter w (y .fits)); tag = y .tag }
-at-letter c f a q t t′ v s l ns w e ih (begin m d n h) = absurd (mark-no-word (letterAt q) m (ap isWord e ∙ w))
-at-letter c f a q t t′ v s l ns w e ih (grow m d n k h) = absurd (mark-no-word (letterAt q) m (ap isWord e ∙ w))
+at-letter c f a q t t′ v s l ns w e ih (begin m d n h) = absurd (mark-no-word (letterAt q) (numbered-mark (letterAt q) m) (ap isWord e ∙ w))
+at-letter c f a q t t′ v s l ns w e ih (grow m d n k h) = absurd (mark-no-word (letterAt q) (numbered-mark (letterAt q) m) (ap isWord e ∙ w))
+at-letter c f a q t t′ v s l ns w e ih (digit k y d i h) = absurd (mark-no-word (letterAt q) (ap isMark y) (ap isWord e ∙ w))
 at-letter c f a q t t′ v s l ns w e ih (part {b = b} n k d i j h) = absurd
     (mark-no-word (letterAt q) (parted-by (letterAt q) s b n i .mark) (ap isWord e ∙ w))
 at-letter c f a q t t′ v s l ns w e ih (leave k m i j h) = absurd (mark-no-word (letterAt q) m (ap isWord e ∙ w))
@@ -275,6 +316,20 @@ at-pairs f a q t t′ v l ns e ih g = by (pairs-of q t′ e v l ns g)
           tag = y .tag;
         }
 
+at-digits :
+    (f : List Token) (a : List ℕ → Asks f) (q t t′ v : ℕ) (l ns : List ℕ) → letterAt q ≡ 38 →
+    ((os : List ℕ) (v : ℕ) (l ns : List ℕ) → Goes (q + 1) 0 v l ns t′ → Fitted f (a os) l ns t t′) → Goes q 0 v l ns t′ → Fitted (digits ∷ f) a l ns t t′
+at-digits f a q t t′ v l ns e ih g =
+    let x = singles-of q t′ e g in
+    let y = ih (worths (x .d)) (x .v) (x .rest) (x .left) (x .then) in
+    record {
+      asked = y .asked;
+      fits =
+          subst (λ (k : List ℕ). Fits (digits ∷ f) a k ns (y .asked)) (sym (x .is-line))
+          (subst (λ (k : List ℕ). Fits (digits ∷ f) a (x .d ++ x .rest) k (y .asked)) (sym (x .is-told)) (fits-digits (x .d) (x .digits) (y .fits)));
+      tag = y .tag;
+    }
+
 pub goes-fit :
     (f : List Token) (a : Asks f) (q t t′ v : ℕ) (l ns : List ℕ) → sound-text f ≡ true → isTag t ≡ true → Stands f t q → Goes q 0 v l ns t′ →
     Fitted f a l ns t t′
@@ -285,3 +340,4 @@ goes-fit (letter c ∷ f) a q t t′ v l ns w g s h =
     (λ v l ns h. goes-fit f a (q + 1) t t′ v l ns (and-right (isWord c) (sound-text f) w) g (s .1) h) h
 goes-fit (number ∷ f) a q t t′ v l ns w g s h = at-number f a q t t′ v l ns (s .0) (λ n v l ns h. goes-fit f (a n) (q + 1) t t′ v l ns w g (s .1) h) h
 goes-fit (pairs ∷ f) a q t t′ v l ns w g s h = at-pairs f a q t t′ v l ns (s .0) (λ ps v l ns h. goes-fit f (a ps) (q + 1) t t′ v l ns w g (s .1) h) h
+goes-fit (digits ∷ f) a q t t′ v l ns w g s h = at-digits f a q t t′ v l ns (s .0) (λ os v l ns h. goes-fit f (a os) (q + 1) t t′ v l ns w g (s .1) h) h

@@ -1,5 +1,5 @@
--- The table of forms: a row for each line that can be read. In a row's text a letter stands for itself, `#` for a number and
--- `%` for pairs; its tag, a capital, is how the code names it; behind them, what a line of this form asks for, from what
+-- The table of forms: a row for each line that can be read. In a row's text a letter stands for itself, `#` for a number,
+-- `%` for pairs and `&` for single digits; its tag, a capital, is how the code names it; behind them, what a line of this form asks for, from what
 -- stands at its marks, in order. A new line is a new row. Assumes nothing.
 use Prim.Native.Nat.{ℕ, _-_}
 use Prim.Native.String.{String}
@@ -15,20 +15,23 @@ use Rattle.lines.specs.Text.{text}
 pub data Asked : Type 0 where
   calls : machine.Call → Asked
   why : (node job number : ℕ) → Asked
+  night : (node budget : ℕ) → List ℕ → Asked
 
 -- what stands at a place of a form
 pub data Token : Type 0 where
   letter : ℕ → Token
   number : Token
   pairs : Token
+  digits : Token
 
 abbrev pub tokenOf : ℕ → Token
-tokenOf c = cond (eqb c 35) number (cond (eqb c 37) pairs (letter c))
+tokenOf c = cond (eqb c 35) number (cond (eqb c 37) pairs (cond (eqb c 38) digits (letter c)))
 
 abbrev pub byteOf : Token → ℕ
 byteOf (letter c) = c
 byteOf number = 35
 byteOf pairs = 37
+byteOf digits = 38
 
 abbrev pub tokens : List ℕ → List Token
 tokens [] = []
@@ -40,6 +43,7 @@ Asks [] = Asked
 Asks (letter c ∷ f) = Asks f
 Asks (number ∷ f) = ℕ → Asks f
 Asks (pairs ∷ f) = List Pair → Asks f
+Asks (digits ∷ f) = List ℕ → Asks f
 
 pub record Form : Type 0 where
   pub form : List Token
@@ -66,6 +70,7 @@ forms =
     ∷ row "call=work node=# job=# number=# outcome=# cut=#" "W" (λ n j i o c. calls (machine.work n j i o c))
     ∷ row "call=fold number=#" "F" (λ n. calls (machine.foldTo n))
     ∷ row "call=why node=# job=# number=#" "Q" (λ n j i. why n j i)
+    ∷ row "call=night node=# budget=# outcomes=&" "N" (λ n b os. night n b os)
     ∷ []
 
 -- ---- the table as the code has it: for each row 64 letters, a newline, its text, its tag and dots

@@ -9,7 +9,7 @@ use lib.ListN.{length}
 use Rattle.machine.specs.Calls.{Pair}
 use Rattle.lines.specs.Text.{text}
 use Rattle.lines.specs.Decimal.{isDigit}
-use Rattle.lines.specs.Forms.{Asked, Token, letter, number, pairs, Asks, Form, forms}
+use Rattle.lines.specs.Forms.{Asked, Token, letter, number, pairs, digits, Asks, Form, forms}
 
 unfoldable pub allDigits : List ℕ → Bool
 allDigits [] = true
@@ -39,6 +39,11 @@ pub data Row : List ℕ → List Pair → Type 0 where
   one : {a b : List ℕ} {p v : ℕ} → Number a p → Number b v → Row (a ++ text ":" ++ b) (pair p v ∷ [])
   more : {a b l : List ℕ} {p v : ℕ} {ps : List Pair} → Number a p → Number b v → Row l ps → Row (a ++ text ":" ++ b ++ text "," ++ l) (pair p v ∷ ps)
 
+-- what single digits are worth
+unfoldable pub worths : List ℕ → List ℕ
+worths [] = []
+worths (b ∷ d) = (b - 48) ∷ worths d
+
 -- what may stand for itself in a line: a small letter, `=`, a blank, `_`
 abbrev pub isWord : ℕ → Bool
 isWord b = leb 97 b && leb b 122 || eqb b 61 || eqb b 32 || eqb b 95
@@ -55,6 +60,9 @@ pub data Fits : (f : List Token) → Asks f → List ℕ → List ℕ → Asked 
   fits-pairs :
       {d : List ℕ} {ps : List Pair} {f : List Token} {a : List Pair → Asks f} {l ns : List ℕ} {x : Asked} → Row d ps → Fits f (a ps) l ns x →
       Fits (pairs ∷ f) a (d ++ l) (flat ps ++ ns) x
+  fits-digits :
+      (d : List ℕ) {f : List Token} {a : List ℕ → Asks f} {l ns : List ℕ} {x : Asked} → allDigits d ≡ true → Fits f (a (worths d)) l ns x →
+      Fits (digits ∷ f) a (d ++ l) (worths d ++ ns) x
 
 pub data Among (f : Form) : List Form → Type 0 where
   here : {fs : List Form} → Among f (f ∷ fs)

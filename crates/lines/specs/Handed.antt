@@ -1,4 +1,5 @@
--- What the code hands on of what a line asks for: the call itself, and an append's pairs as bytes. Assumes nothing.
+-- What the code hands on of what a line asks for: the call itself, and as bytes an append's pairs and a night's outcomes.
+-- Assumes nothing.
 use Prim.Native.Nat.{ℕ, _≤_}
 use mathlib.Core.Path.{_≡_}
 use mathlib.Core.List.{List, [], _∷_}
@@ -9,8 +10,8 @@ use Rattle.machine.specs.Calls as machine
 use Rattle.machine.specs.Calls.{Pair}
 use Rattle.lines.specs.declared.reading.Line.{Line}
 use Rattle.lines.specs.declared.reading.Call.{Call}
-use Rattle.lines.specs.declared.reading.Call.the-variants.{Append, Rollback, Start, Stop, Connect, Disconnect, Master, Sync, Work, Fold, Why}
-use Rattle.lines.specs.Forms.{Asked, calls, why}
+use Rattle.lines.specs.declared.reading.Call.the-variants.{Append, Rollback, Start, Stop, Connect, Disconnect, Master, Sync, Work, Fold, Why, Night}
+use Rattle.lines.specs.Forms.{Asked, calls, why, night}
 use Rattle.lines.specs.Grammar.{flat}
 use Rattle.lines.specs.Reading.{twoBytes}
 
@@ -26,6 +27,7 @@ callFor (calls (machine.sync n)) = Sync n
 callFor (calls (machine.work n j i o c)) = Work n j i o c
 callFor (calls (machine.foldTo n)) = Fold n
 callFor (why n j i) = Why n j i
+callFor (night n b os) = Night n b
 
 -- the pairs that stand beside the call
 abbrev pub pairsIn : Asked → List Pair
@@ -40,18 +42,38 @@ pairsIn (calls (machine.sync n)) = []
 pairsIn (calls (machine.work n j i o c)) = []
 pairsIn (calls (machine.foldTo n)) = []
 pairsIn (why n j i) = []
+pairsIn (night n b os) = []
 
--- the first five of them at most: path and value in two bytes each, the low one first
-abbrev pub pairsFor : Asked → List ℕ
-pairsFor x = twoBytes (flat (take 5 (pairsIn x)))
+-- and the outcomes
+abbrev pub outcomesIn : Asked → List ℕ
+outcomesIn (calls c) = []
+outcomesIn (why n j i) = []
+outcomesIn (night n b os) = os
+
+-- ---- as bytes, each number in two, the low one first
+-- a night: node, budget, and 257 of its outcomes at most
+abbrev pub nightBytes : (node budget : ℕ) → List ℕ → List ℕ
+nightBytes n b os = take 518 (twoBytes (n ∷ b ∷ os))
+
+-- else the first five pairs at most
+abbrev pub bytesFor : Asked → List ℕ
+bytesFor (calls c) = twoBytes (flat (take 5 (pairsIn (calls c))))
+bytesFor (why n j i) = []
+bytesFor (night n b os) = nightBytes n b os
 
 -- in two bytes each has room
 abbrev pub Small : List Pair → Type 0
 Small [] = T true
 Small (p ∷ ps) = (p .path ≤ 65535) × (p .value ≤ 65535) × Small ps
 
+-- each is a digit
+abbrev pub Low : List ℕ → Type 0
+Low [] = T true
+Low (d ∷ ds) = (d ≤ 9) × Low ds
+
 -- the line r, read in the room m
 pub record Hands (x : Asked) (r : Line) (m : List ℕ) : Type 0 where
   pub calls : r .call ≡ callFor x
-  pub bytes : take (r .length) m ≡ pairsFor x
+  pub bytes : take (r .length) m ≡ bytesFor x
   pub small : Small (pairsIn x)
+  pub low : Low (outcomesIn x)

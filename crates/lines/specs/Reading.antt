@@ -1,4 +1,4 @@
--- How a line is read, byte by byte, in a state of a few numbers and a room of twenty bytes: the code's own steps as
+-- How a line is read, byte by byte, in a state of a few numbers and a room of 518 bytes: the code's own steps as
 -- definitions. A reader stands at a place of the table: the text of that row before the place is what the line so far has,
 -- and every row from there on with the same text may still be the line's. The room has the numbers that ended, two bytes
 -- each. That this reads just what the grammar says is proved in `proofs/Readable.antt`.
@@ -23,8 +23,12 @@ size = length table
 unfoldable pub letterAt : ℕ → ℕ
 letterAt p = getD table p 0
 
+-- a mark that takes numbers of more than one digit; any mark
+abbrev pub isNumbered : ℕ → Bool
+isNumbered c = eqb c 35 || eqb c 37
+
 abbrev pub isMark : ℕ → Bool
-isMark c = eqb c 35 || eqb c 37
+isMark c = isNumbered c || eqb c 38
 
 abbrev pub isTag : ℕ → Bool
 isTag c = leb 65 c && leb c 90
@@ -55,7 +59,7 @@ abbrev pub seek : ℕ → ℕ → ℕ
 seek p b = seekIn (left p) p b p
 
 -- ---- what a mark takes. Of it there may have come: 0 nothing; 1 digits of its first number, a path in pairs; 2 a colon
--- behind that; 3 digits of a value; 4 a comma behind that
+-- behind that; 3 digits of a value; 4 a comma behind that. Of single digits each is a number of its own
 abbrev pub inside : ℕ → Bool
 inside s = eqb s 1 || eqb s 3
 
@@ -67,7 +71,7 @@ abbrev pub parts : ℕ → ℕ → ℕ → ℕ
 parts c s b = cond (eqb c 37 && (eqb s 1 && eqb b 58)) 2 (cond (eqb c 37 && (eqb s 3 && eqb b 44)) 4 0)
 
 abbrev pub mayEnd : ℕ → ℕ → Bool
-mayEnd c s = eqb c 35 && eqb s 1 || eqb c 37 && (eqb s 0 || eqb s 3)
+mayEnd c s = eqb c 35 && eqb s 1 || eqb c 37 && (eqb s 0 || eqb s 3) || eqb c 38 && (eqb s 0 || eqb s 1)
 
 -- where a letter is looked for from the place p with the letter c: behind a mark that may end; nowhere before
 abbrev pub past : ℕ → ℕ → ℕ → ℕ
@@ -106,10 +110,10 @@ storedIf true r = record { at = r .at; sub = r .sub; value = r .value; used = r 
 storedIf false r = r
 
 abbrev pub stored : Reader → Reader
-stored r = storedIf (ltb (r .used) 19) r
+stored r = storedIf (ltb (r .used) 517) r
 
 abbrev pub storedIn : Reader → List ℕ → List ℕ
-storedIn r m = cond (ltb (r .used) 19) (set (set m (r .used) (low (r .value))) (r .used + 1) (high (r .value))) m
+storedIn r m = cond (ltb (r .used) 517) (set (set m (r .used) (low (r .value))) (r .used + 1) (high (r .value))) m
 
 abbrev pub kept : Reader → Reader
 kept r = cond (inside (r .sub)) (stored r) r
@@ -119,7 +123,9 @@ keptIn r m = cond (inside (r .sub)) (storedIn r m) m
 
 -- ---- one byte more
 abbrev pub withDigit : Reader → ℕ → Reader
-withDigit r d = cond (isMark (letterAt (r .at))) (cond (inside (r .sub)) (grown r d) (begun r (begins (r .sub)) d)) (placed r 0)
+withDigit r d =
+    cond (eqb (letterAt (r .at)) 38) (begun (kept r) 1 d)
+    (cond (isNumbered (letterAt (r .at))) (cond (inside (r .sub)) (grown r d) (begun r (begins (r .sub)) d)) (placed r 0))
 
 -- the letter b in a row's text from p on
 abbrev pub spelt : ℕ → ℕ → ℕ
@@ -134,8 +140,12 @@ withText r b =
 unfoldable pub pushed : Reader → ℕ → Reader
 pushed r b = cond (isDigit b) (withDigit r (b - 48)) (withText r b)
 
+-- a digit by itself ends the one before it
+abbrev pub digitIn : Reader → List ℕ → List ℕ
+digitIn r m = cond (eqb (letterAt (r .at)) 38) (keptIn r m) m
+
 abbrev pub pushedIn : Reader → ℕ → List ℕ → List ℕ
-pushedIn r b m = cond (isDigit b) m (keptIn r m)
+pushedIn r b m = cond (isDigit b) (digitIn r m) (keptIn r m)
 
 abbrev pub stepped : Reader × List ℕ → ℕ → Reader × List ℕ
 stepped x b = (pushed (x .0) b, pushedIn (x .0) b (x .1))
@@ -169,15 +179,15 @@ callOf t a b c d e =
     (cond (eqb t 87) (call.Work a b c d e)
     (cond (eqb t 70) (call.Fold a)
     (cond (eqb t 81) (call.Why a b c)
-    call.Unreadable))))))))))
+    (cond (eqb t 78) (call.Night a b)
+    call.Unreadable)))))))))))
 
--- the bytes of the room that are lent on: all there are, at most
-abbrev pub bytesOf : ℕ → ℕ
-bytesOf u = cond (ltb u 20) u 20
+abbrev pub atMost : ℕ → ℕ → ℕ
+atMost k u = cond (ltb u k) u k
 
--- the bytes that go with a call: those of an append's pairs
+-- the bytes of the room that go with a call: those of an append's pairs, five at most; of a night all that are used
 abbrev pub lengthOf : ℕ → ℕ → ℕ
-lengthOf t u = cond (eqb t 65) (bytesOf u) 0
+lengthOf t u = cond (eqb t 65) (atMost 20 u) (cond (eqb t 78) (atMost 518 u) 0)
 
 abbrev pub lineOf : ℕ → ℕ → List ℕ → Line
 lineOf t u m =

@@ -37,6 +37,10 @@ replyLine r =
 unfoldable pub whyLine : (answer reason named : ℕ) → List ℕ
 whyLine a r k = filled (text "answer=# reason=# named=#\n") (a ∷ r ∷ k ∷ [])
 
+-- the answer, the jobs done and why the night stopped (order 2)
+unfoldable pub nightLine : (answer jobs stopped : ℕ) → List ℕ
+nightLine a j s = filled (text "answer=# jobs=# stopped=#\n") (a ∷ j ∷ s ∷ [])
+
 -- at the end the committed and applied revision and ordinal
 unfoldable pub closingLine : (committed committedOrdinal applied appliedOrdinal : ℕ) → List ℕ
 closingLine c o a u = filled (text "committed=# committed_ordinal=# applied=# applied_ordinal=#\n") (c ∷ o ∷ a ∷ u ∷ [])

@@ -5,10 +5,10 @@ ghost use mathlib.Core.Path.{_≡_};
 ghost use Prim.Native.Nat.{_<_};
 ghost use lib.ListN.{getD};
 ghost use Rattle.lines.specs.Grammar.{isWord};
-ghost use Rattle.lines.specs.Reading.{letterAt, isMark, isTag, like, takes, goes, seek, inside, begins, parts, mayEnd, past, placed, begun, grown, stored, storedIn, kept, keptIn, withDigit, spelt, withText, tagBefore, numberIn, bytesOf, callOf, lineOf};
+ghost use Rattle.lines.specs.Reading.{letterAt, isNumbered, isMark, isTag, like, takes, goes, seek, inside, begins, parts, mayEnd, past, placed, begun, grown, stored, storedIn, kept, keptIn, withDigit, digitIn, spelt, withText, tagBefore, numberIn, atMost, lengthOf, callOf, lineOf};
 ghost use Rattle.lines.specs.Promises.{StartsFresh, Pushes, Finishes, ReadsLine};
 
-// The table of forms. A row is a newline, its text, in which `#` is a number and `%` are pairs, its tag, and dots; letters in
+// The table of forms. A row is a newline, its text, in which `#` is a number, `%` are pairs and `&` single digits, its tag, and dots; letters in
 // one column of two rows are `WIDTH` apart. The shortest lines come first: what a row shares with those before it is compared.
 const WIDTH: usize = 64;
 
@@ -33,6 +33,8 @@ const WORK: [u8; 64] = *b"\ncall=work node=# job=# number=# outcome=# cut=#W....
 const FOLD: [u8; 64] = *b"\ncall=fold number=#F............................................";
 
 const WHY: [u8; 64] = *b"\ncall=why node=# job=# number=#Q................................";
+
+const NIGHT: [u8; 64] = *b"\ncall=night node=# budget=# outcomes=&N.........................";
 
 // Where the line so far leads: a place of the table; how much has come of what a mark there takes; the number that is being
 // read; how many bytes of the room the numbers take that ended.
@@ -67,10 +69,15 @@ pub enum Call {
         job: u16,
         number: u16,
     },
+    Night {
+        node: u16,
+        budget: u16,
+    },
 }
 
-// A line that was read. The pairs of an append, the first five of them at most, are the first `length` bytes of the room, four
-// bytes each: path and value, low byte first. Five are refused as more are, so that no answer tells the difference.
+// A line that was read. The first `length` bytes of the room go with it, two a number, the low byte first: of an append the
+// pairs, the first five of them at most; of a night the node, the budget and its outcomes, 257 of them at most. Five pairs are
+// refused as more are, and 257 outcomes as more are, so that no answer tells the difference.
 pub struct Line {
     pub call: Call,
     pub length: usize,
@@ -101,14 +108,21 @@ fn letter(at: usize) -> u8
         8 => cell(WORK, column),
         9 => cell(FOLD, column),
         10 => cell(WHY, column),
+        11 => cell(NIGHT, column),
         _ => 0,
     }
+}
+
+fn is_numbered(c: u8) -> bool
+    ensures { λ r. ⌜ r ≡ isNumbered c ⌝ }
+{
+    (c == b'#') | (c == b'%')
 }
 
 fn is_mark(c: u8) -> bool
     ensures { λ r. ⌜ r ≡ isMark c ⌝ }
 {
-    (c == b'#') | (c == b'%')
+    is_numbered(c) | (c == b'&')
 }
 
 fn is_tag(c: u8) -> bool
@@ -218,7 +232,9 @@ fn parts(c: u8, s: u8, b: u8) -> u8
 fn may_end(c: u8, s: u8) -> bool
     ensures { λ r. ⌜ r ≡ mayEnd c s ⌝ }
 {
-    (c == b'#') & (s == 1) | (c == b'%') & ((s == 0) | (s == 3))
+    (c == b'#') & (s == 1)
+        | (c == b'%') & ((s == 0) | (s == 3))
+        | (c == b'&') & ((s == 0) | (s == 1))
 }
 
 // Where a letter is looked for from the place `p` with the letter `c`: behind a mark that may end.
@@ -267,11 +283,11 @@ fn grown(r: Reader, d: u8) -> Reader
 }
 
 // The number that was being read is put into the room, in two bytes, the low one first, if there are two.
-fn stored(r: Reader, room: &mut [u8; 20]) -> Reader
+fn stored(r: Reader, room: &mut [u8; 518]) -> Reader
     ensures { λ q. ⌜ (q ≡ stored r) × (now (room .exit) ≡ storedIn r (now (room .entry))) ⌝ }
 {
     let k = r.used;
-    if k < 19 {
+    if k < 517 {
         let v = r.value;
         room[k] = (v % 256) as u8;
         room[k + 1] = (v / 256 % 256) as u8;
@@ -283,7 +299,7 @@ fn stored(r: Reader, room: &mut [u8; 20]) -> Reader
 }
 
 // The number that was being read, if there is one, has ended.
-fn kept(r: Reader, room: &mut [u8; 20]) -> Reader
+fn kept(r: Reader, room: &mut [u8; 518]) -> Reader
     ensures { λ q. ⌜ (q ≡ kept r) × (now (room .exit) ≡ keptIn r (now (room .entry))) ⌝ }
 {
     if inside(r.sub) {
@@ -292,10 +308,15 @@ fn kept(r: Reader, room: &mut [u8; 20]) -> Reader
     r
 }
 
-fn with_digit(r: Reader, d: u8) -> Reader
-    ensures { λ q. ⌜ q ≡ withDigit r d ⌝ }
+fn with_digit(r: Reader, room: &mut [u8; 518], d: u8) -> Reader
+    ensures { λ q. ⌜ (q ≡ withDigit r d) × (now (room .exit) ≡ digitIn r (now (room .entry))) ⌝ }
 {
-    if is_mark(letter(r.at)) {
+    let c = letter(r.at);
+    if c == b'&' {
+        let next = kept(r, room);
+        return begun(next, 1, d as u16);
+    }
+    if is_numbered(c) {
         if inside(r.sub) {
             return grown(r, d);
         }
@@ -313,7 +334,7 @@ fn spelt(p: usize, b: u8) -> usize
     0
 }
 
-fn with_text(r: Reader, room: &mut [u8; 20], b: u8) -> Reader
+fn with_text(r: Reader, room: &mut [u8; 518], b: u8) -> Reader
     ensures { λ q. ⌜ (q ≡ withText r b) × (now (room .exit) ≡ keptIn r (now (room .entry))) ⌝ }
 {
     let c = letter(r.at);
@@ -339,7 +360,7 @@ pub fn fresh() -> Reader
 }
 
 // The reader after one byte more of the line.
-pub fn push(r: Reader, room: &mut [u8; 20], b: u8) -> Reader
+pub fn push(r: Reader, room: &mut [u8; 518], b: u8) -> Reader
     ensures { λ q. ⌜ Pushes r (now (room .entry)) b q (now (room .exit)) ⌝ }
 {
     if b < 48 {
@@ -348,7 +369,7 @@ pub fn push(r: Reader, room: &mut [u8; 20], b: u8) -> Reader
     if 57 < b {
         return with_text(r, room, b);
     }
-    with_digit(r, b - 48)
+    with_digit(r, room, b - 48)
 }
 
 // The tag at a place of the table; 0 where none stands there. Rows with the same text before it have the same tag there, or none
@@ -370,7 +391,7 @@ fn wide(x: u8) -> u16
 }
 
 // The number in the two bytes from `at` on, if they are among the `used`; else 0.
-fn number_in(room: &[u8; 20], used: usize, at: usize) -> u16
+fn number_in(room: &[u8; 518], used: usize, at: usize) -> u16
     requires { ⌜ at < 19 ⌝ }
     ensures { λ r. ⌜ r ≡ numberIn used (now (room .entry)) at ⌝ }
 {
@@ -382,13 +403,26 @@ fn number_in(room: &[u8; 20], used: usize, at: usize) -> u16
     0
 }
 
-fn bytes_of(n: usize) -> usize
-    ensures { λ r. ⌜ r ≡ bytesOf n ⌝ }
+fn at_most(most: usize, n: usize) -> usize
+    ensures { λ r. ⌜ r ≡ atMost most n ⌝ }
 {
-    if n < 20 {
+    if n < most {
         return n;
     }
-    20
+    most
+}
+
+// The bytes of the room that go with a call.
+fn length_of(tag: u8, used: usize) -> usize
+    ensures { λ r. ⌜ r ≡ lengthOf tag used ⌝ }
+{
+    if tag == b'A' {
+        return at_most(20, used);
+    }
+    if tag == b'N' {
+        return at_most(518, used);
+    }
+    0
 }
 
 // The call that a tag stands for, with its numbers.
@@ -417,11 +451,12 @@ fn call_of(tag: u8, a: u16, b: u16, c: u16, d: u16, e: u16) -> Call
             job: b,
             number: c,
         },
+        b'N' => Call::Night { node: a, budget: b },
         _ => Call::Unreadable,
     }
 }
 
-fn line_of(tag: u8, used: usize, room: &[u8; 20]) -> Line
+fn line_of(tag: u8, used: usize, room: &[u8; 518]) -> Line
     ensures { λ q. ⌜ q ≡ lineOf tag used (now (room .entry)) ⌝ }
 {
     let a = number_in(room, used, 0);
@@ -430,17 +465,14 @@ fn line_of(tag: u8, used: usize, room: &[u8; 20]) -> Line
     let d = number_in(room, used, 6);
     let e = number_in(room, used, 8);
     let call = call_of(tag, a, b, c, d, e);
-    if tag == b'A' {
-        return Line {
-            call,
-            length: bytes_of(used),
-        };
+    Line {
+        call,
+        length: length_of(tag, used),
     }
-    Line { call, length: 0 }
 }
 
 // What the line says that the reader was given.
-pub fn finish(r: Reader, room: &mut [u8; 20]) -> Line
+pub fn finish(r: Reader, room: &mut [u8; 518]) -> Line
     ensures { λ q. ⌜ Finishes r (now (room .entry)) q (now (room .exit)) ⌝ }
 {
     let c = letter(r.at);
@@ -450,7 +482,7 @@ pub fn finish(r: Reader, room: &mut [u8; 20]) -> Line
 }
 
 // What a whole line says.
-pub fn read(line: &[u8], room: &mut [u8; 20]) -> Line
+pub fn read(line: &[u8], room: &mut [u8; 518]) -> Line
     ensures { λ r. ⌜ ReadsLine (now (line .entry)) (now (room .entry)) r (now (room .exit)) ⌝ }
 {
     let mut r = fresh();

@@ -4,7 +4,7 @@ ghost use Prim.Native.Nat.{_+_, _≤_, _<_};
 ghost use lib.ListN.{length};
 ghost use mathlib.Core.List.{_++_};
 ghost use Rattle.lines.specs.Decimal.{decimal};
-ghost use Rattle.lines.specs.Replies.{replyLine, whyLine, closingLine, Put, Written};
+ghost use Rattle.lines.specs.Replies.{replyLine, whyLine, nightLine, closingLine, Put, Written};
 use kinds::Reply;
 
 // The decimal digits of `n` from `at` on; answers where they end.
@@ -73,6 +73,19 @@ pub fn write_why(out: &mut [u8], answer: u8, reason: u8, named: u32) -> usize
     let a = put_keyed(out, 0, b"answer=", answer as u32);
     let b = put_keyed(out, a, b" reason=", reason as u32);
     let c = put_keyed(out, b, b" named=", named);
+    put_text(out, c, b"\n")
+}
+
+// The same for a night.
+pub fn write_night(out: &mut [u8], answer: u8, jobs: u16, stopped: u8) -> usize
+    ensures { λ r. ⌜ Written (now (out .entry)) (nightLine answer jobs stopped) r (now (out .exit)) ⌝ }
+{
+    if out.len() < 96 {
+        return 0;
+    }
+    let a = put_keyed(out, 0, b"answer=", answer as u32);
+    let b = put_keyed(out, a, b" jobs=", jobs as u32);
+    let c = put_keyed(out, b, b" stopped=", stopped as u32);
     put_text(out, c, b"\n")
 }
 

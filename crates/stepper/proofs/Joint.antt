@@ -1,5 +1,5 @@
 -- The joint of the lines and the calls: a line is answered with what the machine decides for the call that it says, or with
--- the reason that it asks for; and a line that says nothing with 2. Assumes nothing.
+-- the reason or the night that it asks for; and a line that says nothing with 2. Assumes nothing.
 use Prim.Native.Nat.{ℕ, zero, suc, _+_, _*_, _%_, _≤_}
 use mathlib.Core.Path.{_≡_, refl, ap, ap₂, subst, _∙_}
 use mathlib.Core.Logic.{_⊎_, inl, inr}
@@ -12,15 +12,16 @@ use Rattle.machine.specs.Calls as machine
 use Rattle.machine.specs.Calls.{Pair}
 use Rattle.lines.specs.declared.reading.Call.{Call}
 use Rattle.lines.specs.declared.reading.Call.the-variants.{Unreadable}
-use Rattle.lines.specs.Forms.{Asked, calls, why}
+use Rattle.lines.specs.Forms.{Asked, calls, why, night}
 use Rattle.lines.specs.Grammar.{flat, pair, Says}
 use Rattle.lines.specs.Reading.{low, high, twoBytes, said, saidIn}
-use Rattle.lines.specs.Handed.{callFor, pairsIn, pairsFor, Small}
+use Rattle.lines.specs.Handed.{callFor, pairsIn, bytesFor, Small}
 use Rattle.lines.proofs.Readable.{complete, sound, decides-five}
 use Rattle.controller.specs.Bytes.{pairsOf, pairsIf, appendOf}
 use Rattle.controller.specs.Claims.{outcomeOf}
 use Rattle.stepper.specs.declared.Answer.{Answer}
-use Rattle.stepper.specs.Answers.{Replies, Explains, Refuses, AnswersCall, Answers}
+use Rattle.stepper.specs.Answers.{Replies, Explains, tableFor, Sleeps, Refuses, AnswersCall, Answers}
+use Rattle.stepper.proofs.Tables.{table-same}
 
 -- ---- the bytes handed on are the pairs
 back : (n : ℕ) → n ≤ 65535 → low n + 256 * high n ≡ n
@@ -53,7 +54,7 @@ replies-five : (l : List ℕ) (ps : List Pair) (r : Answer) (m : List ℕ) → R
 replies-five l ps r m p = rw (five l ps) at p
 
 -- ---- each call
-replied : (c : machine.Call) → Small (pairsIn (calls c)) → (l : List ℕ) (r : Answer) (m : List ℕ) → AnswersCall (callFor (calls c)) (pairsFor (calls c)) l r m
+replied : (c : machine.Call) → Small (pairsIn (calls c)) → (l : List ℕ) (r : Answer) (m : List ℕ) → AnswersCall (callFor (calls c)) (bytesFor (calls c)) l r m
     → Replies l c r m
 replied (machine.append ps) x l r m p =
     replies-five l ps r m (subst (λ (c : machine.Call). Replies l c r m) (handed (take 5 ps) (pairs-back ps x 5)) p)
@@ -70,19 +71,23 @@ replied (machine.foldTo n) x l r m p = p
 -- ---- each line
 module _ (t room l : List ℕ) (r : Answer) (m : List ℕ) (p : Answers l (said room t) (saidIn room t) r m) where
   -- what a line says is what is asked
-  asked : length room ≡ 20 → (x : Asked) → Says t x → AnswersCall (callFor x) (pairsFor x) l r m
+  asked : length room ≡ 518 → (x : Asked) → Says t x → AnswersCall (callFor x) (bytesFor x) l r m
   asked n x s =
       let h = complete room n s in
       subst (λ (b : List ℕ). AnswersCall (callFor x) b l r m) (h .bytes)
       (subst (λ (k : Call). AnswersCall k (take (said room t .length) (saidIn room t)) l r m) (h .calls) p)
 
   -- a line that says a call is answered with that call's outcome
-  pub answers-said : length room ≡ 20 → (c : machine.Call) → Says t (calls c) → Replies l c r m
+  pub answers-said : length room ≡ 518 → (c : machine.Call) → Says t (calls c) → Replies l c r m
   answers-said n c s = replied c (complete room n s .small) l r m (asked n (calls c) s)
 
   -- one that asks why, with the reason
-  pub explains-said : length room ≡ 20 → (n j i : ℕ) → Says t (why n j i) → Explains l n j i r m
+  pub explains-said : length room ≡ 518 → (n j i : ℕ) → Says t (why n j i) → Explains l n j i r m
   explains-said e n j i s = asked e (why n j i) s
+
+  -- one that asks for a night, with how it went
+  pub sleeps-said : length room ≡ 518 → (n b : ℕ) (os : List ℕ) → Says t (night n b os) → Sleeps l n b (tableFor os) r m
+  sleeps-said e n b os s = subst (λ (z : List ℕ). Sleeps l n b z r m) (table-same n b os (complete room e s .low)) (asked e (night n b os) s)
 
   -- a line that says nothing is refused with 2, and every byte is what it had been
   pub refuses-unsaid : ((x : Asked) → Says t x → ⊥) → Refuses l r m

@@ -10,9 +10,9 @@ use lib.ListN.{length, take, set, replicate, length-set}
 use Rattle.kinds.specs.Outcome.{both}
 use Rattle.lines.specs.declared.reading.Reader.{Reader}
 use Rattle.lines.specs.Decimal.{isDigit}
-use Rattle.lines.specs.Forms.{Asked, calls, why}
+use Rattle.lines.specs.Forms.{Asked, calls, why, night}
 use Rattle.lines.specs.Grammar.{Says}
-use Rattle.lines.specs.Reading.{fresh, pushed, pushedIn, stepped, inside, low, high, keptIn, finished, ran, said, saidIn}
+use Rattle.lines.specs.Reading.{letterAt, fresh, pushed, digitIn, pushedIn, stepped, inside, low, high, keptIn, finished, ran, said, saidIn}
 use Rattle.lines.proofs.Readable.{Readable, Unread, read-right}
 use Rattle.stepper.specs.declared.Session.{Session}
 use Rattle.stepper.specs.declared.Answer.{Answer}
@@ -23,11 +23,11 @@ use Rattle.stepper.specs.Closed.{closing, EndsInput}
 use Rattle.stepper.specs.Runs.{begins, Runs, start, block}
 use Rattle.stepper.specs.Transcript as transcript
 use Rattle.stepper.specs.Transcript.{linesFrom, restFrom, lastLine, Answered, Told, replyLines, Transcript}
-use Rattle.stepper.proofs.Joint.{answers-said, explains-said, refuses-unsaid}
+use Rattle.stepper.proofs.Joint.{answers-said, explains-said, sleeps-said, refuses-unsaid}
 
 -- ---- the room keeps its length
 kept-length : (r : Reader) (m : List ℕ) → length (keptIn r m) ≡ length m
-kept-length r m = by (inside (r .sub)) (ltb (r .used) 19)
+kept-length r m = by (inside (r .sub)) (ltb (r .used) 517)
   where
     by : (s t : Bool) → length (cond s (cond t (set (set m (r .used) (low (r .value))) (r .used + 1) (high (r .value))) m) m) ≡ length m
     by false t = refl
@@ -37,8 +37,12 @@ kept-length r m = by (inside (r .sub)) (ltb (r .used) 19)
 pushed-length : (r : Reader) (b : ℕ) (m : List ℕ) → length (pushedIn r b m) ≡ length m
 pushed-length r b m = by (isDigit b)
   where
-    by : (s : Bool) → length (cond s m (keptIn r m)) ≡ length m
-    by true = refl
+    by : (s : Bool) → length (cond s (digitIn r m) (keptIn r m)) ≡ length m
+    by true = single (eqb (letterAt (r .at)) 38)
+      where
+        single : (x : Bool) → length (cond x (keptIn r m) m) ≡ length m
+        single true = kept-length r m
+        single false = refl
     by false = kept-length r m
 
 -- ---- the line so far
@@ -46,16 +50,16 @@ abbrev some : List ℕ → Bool
 some [] = false
 some (b ∷ t) = true
 
--- the bytes t of a line have been read, from a room of twenty bytes on
+-- the bytes t of a line have been read, from a room of 518 bytes on
 record Stands (line : Reader) (begun : Bool) (room t : List ℕ) : Type 0 where
   from : List ℕ
-  before : length from ≡ 20
+  before : length from ≡ 518
   reads : line ≡ ran from t .0
   holds : room ≡ ran from t .1
-  twenty : length room ≡ 20
+  twenty : length room ≡ 518
   has : begun ≡ some t
 
-stands-fresh : (line : Reader) (begun : Bool) (room : List ℕ) → line ≡ fresh → begun ≡ false → length room ≡ 20 → Stands line begun room []
+stands-fresh : (line : Reader) (begun : Bool) (room : List ℕ) → line ≡ fresh → begun ≡ false → length room ≡ 518 → Stands line begun room []
 stands-fresh line begun room e f n = record { from = room; before = n; reads = e; holds = refl; twenty = n; has = f }
 
 one-more : (x : Reader × List ℕ) (t : List ℕ) (b : ℕ) → foldl stepped x (t ++ (b ∷ [])) ≡ stepped (foldl stepped x t) b
@@ -93,6 +97,7 @@ answered l line begun room t out used end m after s x =
     record {
       asks = λ c y. answers-said t (s .from) l r m q (s .before) c y;
       explains = λ n j i y. explains-said t (s .from) l r m q (s .before) n j i y;
+      sleeps = λ n b os y. sleeps-said t (s .from) l r m q (s .before) n b os y;
       refuses = λ y. refuses-unsaid t (s .from) l r m q y;
     }
 
@@ -180,7 +185,7 @@ record Went (l bytes text : List ℕ) (q : Session) (m kept : List ℕ) : Type 0
   stands : Stands (q .line) (q .begun) kept (restFrom [] bytes)
 
 went :
-    {l room bytes text : List ℕ} {q : Session} {m kept : List ℕ} → length room ≡ 20 → Runs l room begins bytes text q m kept → Went l bytes text q m kept
+    {l room bytes text : List ℕ} {q : Session} {m kept : List ℕ} → length room ≡ 518 → Runs l room begins bytes text q m kept → Went l bytes text q m kept
 unfolding linesFrom restFrom replyLines
 went {room = room} n start =
     record { replies = []; told = transcript.none; writes = refl; stands = stands-fresh fresh false room refl refl n }
@@ -220,7 +225,7 @@ last-if (b ∷ t) l out room s used m after kept y x =
 
 -- ---- the whole
 pub transcribed :
-    {l room bytes text k n out m after kept : List ℕ} {q : Session} {end : ℕ} → length room ≡ 20 → Runs l room begins bytes text q k n →
+    {l room bytes text k n out m after kept : List ℕ} {q : Session} {end : ℕ} → length room ≡ 518 → Runs l room begins bytes text q k n →
     EndsInput k out n (emptied q) end m after kept → Transcript l bytes (text ++ take end after) m
 transcribed {l = l} {bytes = bytes} {text = text} {k = k} {n = n} {out = out} {m = m} {after = after} {kept = kept} {q = q} {end = end} h x y =
     let w = went h x in
@@ -239,13 +244,14 @@ transcribed {l = l} {bytes = bytes} {text = text} {k = k} {n = n} {out = out} {m
 
 -- ---- no second transcript
 answered-only : (l t : List ℕ) (r q : Answer) (m n : List ℕ) → Answered l t r m → Answered l t q n → (r ≡ q) × (m ≡ n)
-answered-only l t r q m n x y = by (read-right (replicate 20 0) t refl)
+answered-only l t r q m n x y = by (read-right (replicate 518 0) t refl)
   where
     asked : (a : Asked) → Says t a → (r ≡ q) × (m ≡ n)
     asked (calls c) s = both (x .asks c s) (y .asks c s)
     asked (why k j i) s = both (x .explains k j i s) (y .explains k j i s)
+    asked (night k b os) s = both (x .sleeps k b os s) (y .sleeps k b os s)
 
-    by : Readable (replicate 20 0) t ⊎ Unread (replicate 20 0) t → (r ≡ q) × (m ≡ n)
+    by : Readable (replicate 518 0) t ⊎ Unread (replicate 518 0) t → (r ≡ q) × (m ≡ n)
     by (inl a) = asked (a .asked) (a .says)
     by (inr u) = both (x .refuses (u .says)) (y .refuses (u .says))
 

@@ -7,21 +7,26 @@ use Rattle.kinds.specs.Events.{refusal}
 use Rattle.machine.specs.State.{State}
 use Rattle.machine.specs.Calls.{Call}
 use Rattle.machine.specs.Step.{step}
-use Rattle.machine.specs.Why as machine
-use Rattle.lines.specs.Forms.{Asked, calls, why}
+use Rattle.machine.specs.Why as reasons
+use Rattle.machine.specs.Night as nights
+use Rattle.lines.specs.Forms.{Asked, calls, why, night}
 use Rattle.lines.specs.Grammar.{Says}
 use Rattle.controller.specs.Reads.{headsIn}
 use Rattle.controller.specs.Reasons.{given}
+use Rattle.controller.specs.Nights as nightly
 use Rattle.stepper.specs.declared.Answer.{Answer}
-use Rattle.stepper.specs.declared.Answer.the-variants.{Replied, Explained}
+use Rattle.stepper.specs.declared.Answer.the-variants.{Replied, Explained, Slept}
+use Rattle.stepper.specs.Answers.{tableFor}
 use Rattle.stepper.specs.Closed.{lineOfHeads}
 use Rattle.stepper.specs.Transcript.{linesOf, replyLines}
 
--- the line t in the state s: a line that says a call is a step; one that asks why is told it; one that says nothing is refused
--- with 2
+-- the line t in the state s: a line that says a call is a step; one that asks why is told it, one that asks for a night how it
+-- went; one that says nothing is refused with 2
 pub record Stepped (s : State) (t : List ℕ) (r : Answer) (q : State) : Type 0 where
   pub asks : (c : Call) → Says t (calls c) → (r ≡ Replied (step s c .reply)) × (q ≡ step s c .next)
-  pub explains : (n j i : ℕ) → Says t (why n j i) → (r ≡ Explained (given (machine.why s n j i))) × (q ≡ s)
+  pub explains : (n j i : ℕ) → Says t (why n j i) → (r ≡ Explained (given (reasons.why s n j i))) × (q ≡ s)
+  pub sleeps : (n b : ℕ) (os : List ℕ) → Says t (night n b os) →
+      (let w = nights.night s n b (tableFor os) in (r ≡ Slept (nightly.given w [])) × (q ≡ w .next))
   pub refuses : ((x : Asked) → Says t x → ⊥) → (r ≡ Replied (refusal 2)) × (q ≡ s)
 
 -- lines one after another

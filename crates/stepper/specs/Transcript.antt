@@ -6,10 +6,10 @@ use mathlib.Core.Bool.{cond}
 use mathlib.Core.List.{List, [], _∷_, _++_}
 use lib.Dec.{eqb}
 use Rattle.machine.specs.Calls.{Call}
-use Rattle.lines.specs.Forms.{Asked, calls, why}
+use Rattle.lines.specs.Forms.{Asked, calls, why, night}
 use Rattle.lines.specs.Grammar.{Says}
 use Rattle.stepper.specs.declared.Answer.{Answer}
-use Rattle.stepper.specs.Answers.{lineFor, Replies, Explains, Refuses}
+use Rattle.stepper.specs.Answers.{lineFor, Replies, Explains, tableFor, Sleeps, Refuses}
 use Rattle.stepper.specs.Closed.{closing}
 
 -- ---- the lines of some bytes
@@ -33,10 +33,11 @@ linesOf bs = linesFrom [] bs ++ lastLine (restFrom [] bs)
 
 -- ---- their answers
 -- the line t on the image l: a line that says a call is replied what is decided for it; one that asks why, the reason; one that
--- says nothing, 2; and but for the call every byte is what it had been
+-- asks for a night, how it went; one that says nothing, 2; and but for a call and a night every byte is what it had been
 pub record Answered (l t : List ℕ) (r : Answer) (m : List ℕ) : Type 0 where
   pub asks : (c : Call) → Says t (calls c) → Replies l c r m
   pub explains : (n j i : ℕ) → Says t (why n j i) → Explains l n j i r m
+  pub sleeps : (n b : ℕ) (os : List ℕ) → Says t (night n b os) → Sleeps l n b (tableFor os) r m
   pub refuses : ((x : Asked) → Says t x → ⊥) → Refuses l r m
 
 -- the lines on the image l were replied one after another, and m is left

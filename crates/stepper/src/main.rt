@@ -5,16 +5,18 @@
 // `read_once`, `put` and `tell` alone.
 ghost use Prim.Native.Nat.{_+_, _*_, _≤_};
 ghost use mathlib.Core.Path.{_≡_};
-ghost use lib.ListN.{length, take};
+ghost use lib.ListN.{length, take, getD};
 ghost use Rattle.lines.specs.Reading.{keptIn};
 ghost use Rattle.lines.specs.Replies.{Written};
 ghost use Rattle.controller.specs.Bytes.{appendOf};
 ghost use Rattle.controller.specs.Claims.{Claims};
-ghost use Rattle.stepper.specs.Answers.{Answers, lineFor};
+ghost use Rattle.stepper.specs.declared.Answer.the-variants.{Slept};
+ghost use Rattle.stepper.specs.Answers.{Answers, Sleeps, placesIn, tableIn, lineFor};
 ghost use Rattle.stepper.specs.Ended.{answerRoom};
 ghost use Rattle.stepper.specs.Fed.{emptied, EndsLine, Takes, Feeds, EndsLast};
 ghost use Rattle.stepper.specs.Closed.{Closes, EndsInput};
 ghost use Rattle.stepper.specs.Runs.{Reads, ReadsAll};
+use controller::Night;
 use controller::Why;
 use kinds::Reply;
 use libc::STDERR_FILENO;
@@ -47,10 +49,11 @@ struct Turn {
     whole: bool,
 }
 
-// What a line is answered: a call's reply, or why a job does not move.
+// What a line is answered: a call's reply, why a job does not move, or how a night went.
 enum Answer {
     Replied(Reply),
     Explained(Why),
+    Slept(Night),
 }
 
 fn append(image: &mut [u8], room: &[u8], n: usize) -> Reply
@@ -58,6 +61,44 @@ fn append(image: &mut [u8], room: &[u8], n: usize) -> Reply
     ensures { λ r. ⌜ Claims (now (image .entry)) (appendOf (take n (now (room .entry)))) r (now (image .exit)) ⌝ }
 {
     controller::append(image, &room[..n])
+}
+
+// The i-th outcome of a night's line, from 0, in the first n bytes of the room: behind node and budget, two bytes each. One that the
+// line does not have is 0.
+fn outcome_in(room: &[u8], n: usize, i: usize) -> u8
+    requires { ⌜ (n ≤ length (now room)) × (i ≤ 256) ⌝ }
+    ensures { λ r. ⌜ r ≡ getD (take n (now (room .entry))) (2 * i + 4) 0 ⌝ }
+{
+    let at = 2 * i + 4;
+    if at < n {
+        return room[at];
+    }
+    0
+}
+
+fn fill(table: &mut [u8], room: &[u8], n: usize)
+    requires { ⌜ (n ≤ length (now room)) × (length (now table) ≡ 257) ⌝ }
+    ensures { λ _. ⌜ now (table .exit) ≡ placesIn (take n (now (room .entry))) ⌝ }
+{
+    let mut i = 0;
+    while i < table.len() {
+        table[i] = outcome_in(room, n, i);
+        i += 1;
+    }
+}
+
+// A night, with the table of its outcomes; its events are not shown.
+fn night(image: &mut [u8], node: u16, budget: u16, room: &[u8], n: usize) -> Night
+    requires { ⌜ n ≤ length (now room) ⌝ }
+    ensures { λ r. ⌜ Sleeps (now (image .entry)) node budget (tableIn (take n (now (room .entry)))) (Slept r) (now (image .exit)) ⌝ }
+{
+    let mut table = [0u8; 257];
+    let mut none = [0u8; 1];
+    fill(&mut table, room, n);
+    if n < 518 {
+        return controller::night(image, node, budget, &table[..256], &mut none[..0]);
+    }
+    controller::night(image, node, budget, &table[..257], &mut none[..0])
 }
 
 // What a line asks for, asked of the image; an append's pairs stand in the room; an unreadable line is refused with 2.
@@ -90,6 +131,13 @@ fn ask(image: &mut [u8], line: Line, room: &[u8]) -> Answer
             job,
             number,
         )),
+        Call::Night { node, budget } => Answer::Slept(night(
+            image,
+            node,
+            budget,
+            room,
+            line.length,
+        )),
     }
 }
 
@@ -100,11 +148,12 @@ fn write(out: &mut [u8], a: Answer) -> usize
     match a {
         Answer::Replied(reply) => lines::write_reply(out, reply),
         Answer::Explained(w) => lines::write_why(out, w.answer, w.reason, w.named),
+        Answer::Slept(w) => lines::write_night(out, w.answer, w.jobs, w.stopped),
     }
 }
 
 // A line has ended: what it asks is asked, and its answer put behind those that wait; answers how many bytes wait.
-fn end_line(image: &mut [u8], out: &mut [u8], room: &mut [u8; 20], s: Session) -> usize
+fn end_line(image: &mut [u8], out: &mut [u8], room: &mut [u8; 518], s: Session) -> usize
     requires { ⌜ s .used + answerRoom ≤ length (now out) ⌝ }
     ensures { λ r. ⌜ EndsLine (now (image .entry)) (now (out .entry)) (now (room .entry)) s r (now (image .exit)) (now (out .exit)) × (now (room .exit) ≡ keptIn (s .line) (now (room .entry))) ⌝ }
 {
@@ -117,7 +166,7 @@ fn end_line(image: &mut [u8], out: &mut [u8], room: &mut [u8; 20], s: Session) -
 }
 
 // One byte: a newline ends the line, any other belongs to it.
-fn take_byte(image: &mut [u8], out: &mut [u8], room: &mut [u8; 20], s: Session, b: u8) -> Session
+fn take_byte(image: &mut [u8], out: &mut [u8], room: &mut [u8; 518], s: Session, b: u8) -> Session
     requires { ⌜ s .used + answerRoom ≤ length (now out) ⌝ }
     ensures { λ r. ⌜ Takes (now (image .entry)) (now (out .entry)) (now (room .entry)) s b r (now (image .exit)) (now (out .exit)) (now (room .exit)) ⌝ }
 {
@@ -139,7 +188,7 @@ fn take_byte(image: &mut [u8], out: &mut [u8], room: &mut [u8; 20], s: Session, 
 }
 
 // The bytes of one read.
-fn feed(image: &mut [u8], out: &mut [u8], room: &mut [u8; 20], s: Session, block: &[u8]) -> Session
+fn feed(image: &mut [u8], out: &mut [u8], room: &mut [u8; 518], s: Session, block: &[u8]) -> Session
     requires { ⌜ s .used + answerRoom * length (now block) ≤ length (now out) ⌝ }
     ensures { λ r. ⌜ Feeds (now (image .entry)) (now (out .entry)) (now (room .entry)) s (now (block .entry)) r (now (image .exit)) (now (out .exit)) (now (room .exit)) ⌝ }
 {
@@ -153,7 +202,7 @@ fn feed(image: &mut [u8], out: &mut [u8], room: &mut [u8; 20], s: Session, block
 }
 
 // The last line, if it has no newline; answers how many bytes wait.
-fn end_last(image: &mut [u8], out: &mut [u8], room: &mut [u8; 20], s: Session) -> usize
+fn end_last(image: &mut [u8], out: &mut [u8], room: &mut [u8; 518], s: Session) -> usize
     requires { ⌜ s .used + answerRoom ≤ length (now out) ⌝ }
     ensures { λ r. ⌜ EndsLast (now (image .entry)) (now (out .entry)) (now (room .entry)) s r (now (image .exit)) (now (out .exit)) (now (room .exit)) ⌝ }
 {
@@ -187,7 +236,7 @@ fn close(image: &[u8], out: &mut [u8], used: usize) -> usize
 }
 
 // The input's end: the last line and the closing line; answers how many bytes wait.
-fn end_input(image: &mut [u8], out: &mut [u8], room: &mut [u8; 20], s: Session) -> usize
+fn end_input(image: &mut [u8], out: &mut [u8], room: &mut [u8; 518], s: Session) -> usize
     requires { ⌜ s .used + answerRoom * 2 ≤ length (now out) ⌝ }
     ensures { λ r. ⌜ EndsInput (now (image .entry)) (now (out .entry)) (now (room .entry)) s r (now (image .exit)) (now (out .exit)) (now (room .exit)) ⌝ }
 {
@@ -233,7 +282,7 @@ fn readable(got: isize) -> bool {
 }
 
 // Reads once and writes the answer to every line that ended: who types a line sees its answer.
-fn read_once(image: &mut [u8], out: &mut [u8; ANSWERS], room: &mut [u8; 20], s: Session) -> Turn
+fn read_once(image: &mut [u8], out: &mut [u8; ANSWERS], room: &mut [u8; 518], s: Session) -> Turn
     ensures { λ r. ⌜ Reads (now (image .entry)) (now (room .entry)) s r (now (image .exit)) (now (room .exit)) ⌝ }
 {
     let mut block = io::buffer();
@@ -250,7 +299,7 @@ fn read_once(image: &mut [u8], out: &mut [u8; ANSWERS], room: &mut [u8; 20], s: 
 }
 
 // Nothing says that the input ends, so the reads are counted down, from a number that no run uses up.
-fn read_all(image: &mut [u8], out: &mut [u8; ANSWERS], room: &mut [u8; 20]) -> Turn
+fn read_all(image: &mut [u8], out: &mut [u8; ANSWERS], room: &mut [u8; 518]) -> Turn
     ensures { λ r. ⌜ ReadsAll (now (image .entry)) (now (room .entry)) (r .session) (now (image .exit)) (now (room .exit)) ⌝ }
 {
     let line = lines::fresh();
@@ -276,7 +325,7 @@ fn read_all(image: &mut [u8], out: &mut [u8; ANSWERS], room: &mut [u8; 20]) -> T
 }
 
 // Writes what the input's end is answered: the last line, if it has no newline, and the closing line.
-fn write_end(image: &mut [u8], out: &mut [u8; ANSWERS], room: &mut [u8; 20], s: Session) {
+fn write_end(image: &mut [u8], out: &mut [u8; ANSWERS], room: &mut [u8; 518], s: Session) {
     let used = end_input(image, out, room, written(s));
     put(out, used);
 }
@@ -286,7 +335,7 @@ fn main() {
     let mut image = [0u8; controller::IMAGE_LENGTH];
     controller::fresh(&mut image);
     let mut out = [0u8; ANSWERS];
-    let mut room = [0u8; 20];
+    let mut room = [0u8; 518];
     let turn = read_all(&mut image, &mut out, &mut room);
     if turn.whole {
         write_end(&mut image, &mut out, &mut room, turn.session);

@@ -1,4 +1,4 @@
--- `ask` makes the call that the line asks for, or asks why. Assumes nothing.
+-- `ask` makes the call that the line asks for, asks why, or makes a night. Assumes nothing.
 use mathlib.Core.Path.{refl, ap}
 use Rattle.stepper.specs.declared.Answer.the-variants.{Replied, Explained}
 use Rattle.stepper.proofs.Answered.{asked, replied}
@@ -77,6 +77,12 @@ enum-known-call-8 c = search needs
 
 why-requires : tie.Need-why-requires
 why-requires c κs = search needs
+
+enum-known-call-9 : tie.Need-enum-known-call-9
+enum-known-call-9 c = search needs
+
+night-requires : tie.Need-night-requires
+night-requires c κs = search needs
 
 returns : tie.Need-returns
 returns c = asked (c .before .before .before .before .before .args .line) _ _ _ _ _ (c .before .enum-told .given .1) (ap Replied (c .of .ensures), refl)
@@ -158,6 +164,12 @@ returns-12 : tie.Need-returns-12
 returns-12 c = asked (c .before .before .before .before .before .before .before .args .line) _ _ _ _ _
     (c .before .before .before .call8 .given .1) (ap Explained (c .why .ensures), refl)
 
+same-length-12 : tie.Need-same-length-12
+same-length-12 c = search needs
+
+returns-13 : tie.Need-returns-13
+returns-13 c = asked (c .before .before .before .before .before .before .before .before .before .args .line) _ _ _ _ _ (c .before .before .before .before .before .call9 .given .1) (c .before .before .night .ensures)
+
 pub ask-spec : {M : Type 1} → statement M
 ask-spec =
     tie.close
@@ -186,6 +198,8 @@ ask-spec =
     fold-requires
     enum-known-call-8
     why-requires
+    enum-known-call-9
+    night-requires
     returns
     same-length
     returns-2
@@ -208,4 +222,6 @@ ask-spec =
     same-length-10
     returns-11
     same-length-11
-    returns-12)
+    returns-12
+    same-length-12
+    returns-13)

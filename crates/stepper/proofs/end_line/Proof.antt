@@ -12,7 +12,7 @@ finish-requires : tie.Need-finish-requires
 finish-requires c κs = search needs
 
 ask-requires : tie.Need-ask-requires
-ask-requires c κs = let h : c .before .before .before .finish .result .length ≤ 20 = rw (c .before .before .before .finish .ensures .0)
+ask-requires c κs = let h : c .before .before .before .finish .result .length ≤ 518 = rw (c .before .before .before .finish .ensures .0)
     (within (c .before .before .before .before .before .before .before .args .s .line) (now
     (c .before .before .before .before .before .before .before .args .room))) in omega (arith, c .ask-arg3 .given .0)
 

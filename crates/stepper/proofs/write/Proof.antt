@@ -16,6 +16,12 @@ enum-known-a-2 c = search needs
 write-why-requires : tie.Need-write-why-requires
 write-why-requires c κs = search needs
 
+enum-known-a-3 : tie.Need-enum-known-a-3
+enum-known-a-3 c = search needs
+
+write-night-requires : tie.Need-write-night-requires
+write-night-requires c κs = search needs
+
 same-length : tie.Need-same-length
 same-length c = search needs
 
@@ -28,6 +34,12 @@ same-length-2 c = search needs
 returns-2 : tie.Need-returns-2
 returns-2 c = written-for _ _ _ _ _ (c .before .before .before .before .before .a2 .given .1) (c .before .before .write-why .ensures)
 
+same-length-3 : tie.Need-same-length-3
+same-length-3 c = search needs
+
+returns-3 : tie.Need-returns-3
+returns-3 c = written-for _ _ _ _ _ (c .before .before .before .before .before .a3 .given .1) (c .before .before .write-night .ensures)
+
 pub write-spec : {M : Type 1} → statement M
 write-spec =
     tie.close
@@ -36,7 +48,11 @@ write-spec =
     write-reply-requires
     enum-known-a-2
     write-why-requires
+    enum-known-a-3
+    write-night-requires
     same-length
     returns
     same-length-2
-    returns-2)
+    returns-2
+    same-length-3
+    returns-3)

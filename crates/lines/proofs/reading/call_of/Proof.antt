@@ -50,7 +50,11 @@ returns-11 c = rw (c .match .keys11)
 
 returns-12 : tie.Need-returns-12
 unfolding callOf
-returns-12 c = simp (
+returns-12 c = rw (c .match .keys12)
+
+returns-13 : tie.Need-returns-13
+unfolding callOf
+returns-13 c = simp (
   ne-eqb _ _ (c .match .rest .1),
   ne-eqb _ _ (c .match .rest .0 .1),
   ne-eqb _ _ (c .match .rest .0 .0 .1),
@@ -62,6 +66,7 @@ returns-12 c = simp (
   ne-eqb _ _ (c .match .rest .0 .0 .0 .0 .0 .0 .0 .0 .1),
   ne-eqb _ _ (c .match .rest .0 .0 .0 .0 .0 .0 .0 .0 .0 .1),
   ne-eqb _ _ (c .match .rest .0 .0 .0 .0 .0 .0 .0 .0 .0 .0 .1),
+  ne-eqb _ _ (c .match .rest .0 .0 .0 .0 .0 .0 .0 .0 .0 .0 .0 .1),
 )
 
 pub call-of-spec : {M : Type 1} → statement M
@@ -79,4 +84,5 @@ call-of-spec =
     returns-9
     returns-10
     returns-11
-    returns-12)
+    returns-12
+    returns-13)

@@ -1,5 +1,4 @@
 -- `line_of` meets its contract. Assumes nothing.
-use borrow.Author.Tests.{eq-eqb, ne-eqb}
 use borrow.Author.Needs.{needs}
 use Rattle.lines.proofs.reading.line_of.Statement.{statement}
 use Rattle.lines.proofs.reading.line_of.Tie as tie
@@ -22,30 +21,19 @@ number-in-requires-5 c κs = search needs
 call-of-requires : tie.Need-call-of-requires
 call-of-requires c κs = search needs
 
-bytes-of-requires : tie.Need-bytes-of-requires
-bytes-of-requires c κs = search needs
+length-of-requires : tie.Need-length-of-requires
+length-of-requires c κs = search needs
 
 returns : tie.Need-returns
 returns c = rw (
-  c .bytes-of .ensures,
-  c .before .before .call-of .ensures,
-  c .before .before .before .number-in5 .ensures,
-  c .before .before .before .before .number-in4 .ensures,
-  c .before .before .before .before .before .number-in3 .ensures,
-  c .before .before .before .before .before .before .number-in2 .ensures,
-  c .before .before .before .before .before .before .before .number-in .ensures,
-)
-    (simp (eq-eqb _ _ (c .before .if1 .taken)))
-
-returns-2 : tie.Need-returns-2
-returns-2 c = rw (
+  c .length-of .ensures,
   c .before .call-of .ensures,
   c .before .before .number-in5 .ensures,
   c .before .before .before .number-in4 .ensures,
   c .before .before .before .before .number-in3 .ensures,
   c .before .before .before .before .before .number-in2 .ensures,
   c .before .before .before .before .before .before .number-in .ensures,
-) (simp (ne-eqb _ _ (c .if1 .left)))
+)
 
 pub line-of-spec : {M : Type 1} → statement M
 line-of-spec =
@@ -57,6 +45,5 @@ line-of-spec =
     number-in-requires-4
     number-in-requires-5
     call-of-requires
-    bytes-of-requires
-    returns
-    returns-2)
+    length-of-requires
+    returns)

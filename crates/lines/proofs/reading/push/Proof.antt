@@ -33,9 +33,8 @@ with-digit-requires c κs = search needs
 returns-3 : tie.Need-returns-3
 unfolding pushed
 returns-3 c = (
-  rw (c .with-digit .ensures) (simp (le-leb _ _ (c .before .before .if1 .left), le-leb _ _ (c .before .if2 .left))),
-  simp
-      (le-leb _ _ (c .before .before .if1 .left), le-leb _ _ (c .before .if2 .left)),
+  rw (c .with-digit .ensures .0) (simp (le-leb _ _ (c .before .before .before .if1 .left), le-leb _ _ (c .before .before .if2 .left))),
+  rw (c .with-digit .ensures .1) (simp (le-leb _ _ (c .before .before .before .if1 .left), le-leb _ _ (c .before .before .if2 .left))),
 )
 
 pub push-spec : {M : Type 1} → statement M
