@@ -120,16 +120,16 @@ fn load_scene(s: &[u8], node: u8) -> Scene
 {
     let committed = load_head(s, COMMITTED_AT);
     let change = load_change(s);
-    let quiet = rest(s);
+    let at_rest = rest(s);
     let applied = load_head(s, APPLIED_AT);
-    let calm = settled(s);
+    let is_settled = settled(s);
     let open = line(s, node);
     Scene {
         committed,
         change,
-        rest: quiet,
+        rest: at_rest,
         applied,
-        settled: calm,
+        settled: is_settled,
         line: open,
     }
 }

@@ -27,7 +27,7 @@ use Rattle.machine.proofs.Cases.{and-left, or-cases, commit-change, commit-roll
 use Rattle.machine.proofs.Kept.{reached-well-formed}
 use Rattle.machine.proofs.Waits.{eleven-same, open-2, open-4}
 use Rattle.machine.specs.Why.{holds}
-use Rattle.machine.specs.Night.{outcomeAt, bits, trial, trials, firstDone, all, turn, turns, needsLine, stoppedBy, whyStopped, Night, night}
+use Rattle.machine.specs.Night.{outcomeAt, bits, trial, trials, firstDone, all, turn, turns, needsLine, stoppedBy, whyStopped, Night, night, nightOk}
 use Rattle.machine.proofs.Worked.{Worked, worked, Leaves, worked-leaves}
 use Rattle.machine.proofs.Turns.{plan-answers, night-made, Woken, woken}
 use Rattle.history.specs.Demand3.{Demand3}
@@ -395,6 +395,12 @@ pub night-demand-3 : (cs : List Call) (n b : ℕ) (os : List ℕ) → (let w = n
 night-demand-3 cs n b os =
     let k = night-is-jobs cs n b os in rw (k .next, k .events) (demand-3 (night (run cs .state) n b os .calls ++ cs))
 
+-- with the line open, node, budget and table in range are all that it asks
+pub night-accepted : (cs : List Call) (n b : ℕ) (os : List ℕ) → nightOk n b os ≡ true → lineOpenFor (run cs .state .net) n ≡ true
+    → night (run cs .state) n b os .answer ≡ 0
+unfolding night
+night-accepted cs n b os k line = rw (reached-well-formed cs, k, and-left (isMaster (run cs .state .net) n) _ line) refl
+
 module _ (cs : List Call) (n b : ℕ) (os : List ℕ) (e : night (run cs .state) n b os .answer ≡ 0) where
   abbrev w : Night
   w = night (run cs .state) n b os
@@ -414,6 +420,10 @@ module _ (cs : List Call) (n b : ℕ) (os : List ℕ) (e : night (run cs .state)
 
   after-it : w .next ≡ run (made-by ++ cs) .state
   after-it = night-is-jobs cs n b os .next ∙ ap (λ ds. run (ds ++ cs) .state) night-turns
+
+  -- it does at most 6 jobs for each transaction kept, with the line or without
+  pub at-most-6 : w .jobs ≤ 6 * length (run cs .state .log .entries)
+  at-most-6 = rw count (omega (arith, spent cs os n b, most cs))
 
   -- it does no more than the budget allows, and 2 is answered only where the budget is spent
   pub within : w .jobs ≤ b

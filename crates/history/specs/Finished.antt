@@ -28,7 +28,7 @@ pub record Ended (s : State) (live : List ℕ) (k : ℕ) : Type 0 where
   pub apply : holds s 2 k 1 ≡ true
   pub rollback : Rollback s live k
 
--- ---- a night w of a node that its line is open for, of enough jobs: it stops with 0, no job of any node is possible, with any
+-- ---- a night w of a node that the line is open for, of enough jobs: it stops with 0, no job of any node is possible, with any
 -- outcome and cut, and each transaction kept has ended
 pub record Slept (w : Night) : Type 0 where
   pub stopped : w .stopped ≡ 0

@@ -62,7 +62,7 @@ fn pack_night(r: Night) -> u64
 
 // ---- a number of C's, of 64 bits: one that is no 16-bit number is refused, or handed on as another that is refused as it is
 
-// In the range of no node, job, outcome, cut, table, path or field.
+// In the range of no node, job, outcome, cut, budget, table, path or field.
 const OUTSIDE: u16 = 65535;
 
 // The number of no transaction: no log has 0, as none has one past 65,535.

@@ -1,5 +1,5 @@
--- What the program writes for an input, said of the machine: its lines are replied as `step` decides from the fresh state on, and
--- the closing line has the heads of the state that is reached. Assumes nothing.
+-- What the program writes for an input, said of the machine: its lines are replied as `step` decides from the fresh state on,
+-- questions and nights answered from where it stands, and the closing line has the heads of the state that is reached. Assumes nothing.
 use Prim.Native.Nat.{ℕ}
 use mathlib.Core.Path.{_≡_}
 use mathlib.Core.List.{List, [], _∷_, _++_}
