@@ -4,10 +4,11 @@
 //! `northbound` is the plain way to the same bytes.
 
 use crate::controller::{
-    counted, Change, Connection, ConfigurationState, Node, Number, Ordinal, Phase, Refusal, Status, Term, LOG_LIMIT,
+    self, counted, Change, Connection, ConfigurationState, Event, Node, Number, Ordinal, Phase, Refusal, State, Status, Term,
+    Transaction, LOG_LIMIT,
 };
 use crate::image::{self, at, entry, put_u16, put_u32, u16_at, u32_at, ENTRY, LENGTH};
-use crate::jobs::{ranged, Job, Work};
+use crate::jobs::{ranged, Job, Outcome, Work};
 use crate::northbound::{Answer, Request, Served};
 use crate::reads::{Query, CONNECTION_FIELDS, RECORD_FIELDS, TRANSACTION_FIELDS};
 use crate::why::{Question, Reason};
@@ -706,4 +707,121 @@ impl Stuck<'_> {
         let named = place.map_or(revision.into(), |place| u32::from(self.kept.folded) + 1 + place as u32);
         (Reason::CommitInFlight, named)
     }
+}
+
+/// What the validation and the push of each kept change are answered.
+pub type Outcomes = [[Outcome; 2]; LOG_LIMIT];
+
+/// Works through the night (order 2) on a state in memory, which is neither checked nor decoded: as the order reads, each turn
+/// tries every kept number from the lowest. The events go into the room as the C interface lays them.
+#[inline(never)]
+pub fn night_as_read(state: &mut State, node: u64, budget: u64, outcomes: &Outcomes, events: &mut [u8]) -> u64 {
+    night(state, node, budget, outcomes, events, |_, _| 0)
+}
+
+/// The same, but that numbers from the lowest of which nothing is left are not asked again.
+#[inline(never)]
+pub fn night_skipping(state: &mut State, node: u64, budget: u64, outcomes: &Outcomes, events: &mut [u8]) -> u64 {
+    night(state, node, budget, outcomes, events, skip)
+}
+
+/// The turns, each from the place in the log that `begins` answers, given the last one's.
+#[inline(always)]
+fn night(
+    state: &mut State,
+    node: u64,
+    budget: u64,
+    outcomes: &Outcomes,
+    events: &mut [u8],
+    begins: impl Fn(&State, usize) -> usize,
+) -> u64 {
+    let Some(node) = Node::new(node).filter(|_| budget <= 4096) else {
+        return Refusal::OutOfRange.number().into();
+    };
+    if state.mastership.master != Some(node) {
+        return Refusal::NotMaster.number().into();
+    }
+    // No job opens the line or closes it.
+    let line_open = state.line_open(node);
+    let (mut jobs, mut low, mut refused) = (0, 0, None);
+    while jobs < budget as usize && refused.is_none() {
+        low = begins(state, low);
+        match turn(state, low, line_open, outcomes) {
+            Ok(event) => {
+                put_event(events, jobs, event);
+                jobs += 1;
+            }
+            Err(lacks_line) => refused = Some(lacks_line),
+        }
+    }
+    let refused = refused.or_else(|| turn(&mut state.clone(), low, line_open, outcomes).err());
+    let stopped = refused.map_or(2, u64::from);
+    stopped << 8 | (jobs as u64) << 16 | (jobs.min(events.len() / EVENT) as u64) << 32
+}
+
+/// The length of an event in a night's room.
+pub const EVENT: usize = 16;
+
+fn put_event(events: &mut [u8], place: usize, event: Option<Event>) {
+    if let Some(bytes) = events.chunks_exact_mut(EVENT).nth(place) {
+        let told = event.map_or([0; 4], |it| [it.phase as u32, it.stage as u32, it.number.0.into(), it.status as u32]);
+        bytes.chunks_exact_mut(4).zip(told).for_each(|(four, part)| four.copy_from_slice(&part.to_le_bytes()));
+    }
+}
+
+/// Does the first job that is not refused and answers its event; where each is, whether one is refused with 12.
+fn turn(state: &mut State, low: usize, line_open: bool, outcomes: &Outcomes) -> Result<Option<Event>, bool> {
+    let at_rest = state.at_rest();
+    let mut lacks_line = false;
+    for place in low..state.log.len() {
+        for job in Job::ALL {
+            match tried(state, place, job, at_rest, line_open, &outcomes[place]) {
+                Ok(event) => return Ok(event),
+                Err(refusal) => lacks_line |= refusal == Refusal::LineNotOpen,
+            }
+        }
+    }
+    Err(lacks_line)
+}
+
+/// Does a job of the transaction at that place, or leaves the state as it was.
+#[inline(always)]
+fn tried(
+    state: &mut State,
+    place: usize,
+    job: Job,
+    at_rest: bool,
+    line_open: bool,
+    outcomes: &[Outcome; 2],
+) -> Result<Option<Event>, Refusal> {
+    let mut transaction = state.log[place];
+    let worked = Work {
+        job,
+        number: Number(state.folded.0 + 1 + place as u16),
+        outcome: match job {
+            Job::CommitChange => outcomes[0],
+            Job::ApplyChange => outcomes[1],
+            Job::CommitRollback | Job::ApplyRollback => Outcome::Accepted,
+        },
+        cut: false,
+        transaction: &mut transaction,
+        committed: &mut state.committed,
+        applied: &mut state.applied,
+        target_values: &mut state.target.values,
+    };
+    let event = worked.done(at_rest, line_open, |ordinal| controller::settled(&state.log, ordinal)).reply?;
+    state.log[place] = transaction;
+    Ok(event)
+}
+
+/// The first place from `low` on whose transaction may move again in this night.
+fn skip(state: &State, low: usize) -> usize {
+    let stands = |status: Status| !matches!(status, Status::Pending | Status::InProgress);
+    let passed = |ordinal: Ordinal| ordinal <= state.applied.ordinal;
+    let through = usize::from(state.committed.change.0.saturating_sub(state.folded.0));
+    let over = |it: &Transaction| {
+        [it.c, it.r].iter().all(|side| stands(side.commit) && stands(side.apply) && passed(side.ordinal))
+    };
+    let moves = |place: &usize| *place >= through || !over(&state.log[*place]);
+    (low..state.log.len()).find(moves).unwrap_or(state.log.len())
 }

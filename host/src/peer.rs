@@ -32,6 +32,16 @@ mod exported {
         pub fn makowist_record(image: *const u8, length: usize, field: u64) -> u64;
         pub fn makowist_connection(image: *const u8, length: usize, node: u64, field: u64) -> u64;
         pub fn makowist_why(image: *const u8, length: usize, node: u64, job: u64, number: u64) -> u64;
+        pub fn makowist_night(
+            image: *mut u8,
+            length: usize,
+            node: u64,
+            budget: u64,
+            outcomes: *const u8,
+            outcomes_length: usize,
+            events: *mut u8,
+            events_length: usize,
+        ) -> u64;
     }
 }
 
@@ -60,6 +70,24 @@ pub fn serve(image: &mut [u8], request: &Request, pairs: &[u8]) -> u64 {
             }
             Request::Fold(number) => exported::makowist_fold(bytes, length, number),
         }
+    }
+}
+
+/// Works through the night on a lent image, with the outcomes and the room for its events lent.
+#[inline]
+pub fn night(image: &mut [u8], node: u64, budget: u64, outcomes: &[u8], events: &mut [u8]) -> u64 {
+    // SAFETY: as in `serve`.
+    unsafe {
+        exported::makowist_night(
+            image.as_mut_ptr(),
+            image.len(),
+            node,
+            budget,
+            outcomes.as_ptr(),
+            outcomes.len(),
+            events.as_mut_ptr(),
+            events.len(),
+        )
     }
 }
 

@@ -4,18 +4,28 @@
 //! - `bench marks`: makes each call once between marks, under an instruction counter that notes its count at each
 //! - `bench counts NOTES`: the figures from the counter's notes
 //! - `bench table UNIT FIGURES`, `bench plot UNIT FIGURES`: what is shown of such lines
+//!
+//! The same of nights: `bench nights times ROUNDS` and so on.
 
 mod measure;
+mod night_report;
+mod nights;
 mod report;
 mod scenes;
 
 use measure::Figure;
+use night_report::NightReport;
+use nights::{nights, Night};
 use report::Report;
 use scenes::{scenes, Scene, LENGTHS};
 use std::fs;
 
 fn every_scene() -> impl Iterator<Item = Scene> {
     LENGTHS.into_iter().flat_map(scenes)
+}
+
+fn every_night() -> impl Iterator<Item = Night> {
+    nights::LENGTHS.into_iter().flat_map(nights)
 }
 
 fn print_lines(figures: &[Figure]) {
@@ -29,26 +39,31 @@ fn read_figures(file: &str) -> Vec<Figure> {
     text.lines().map(|line| Figure::read(line).expect(line)).collect()
 }
 
-fn main() {
-    let arguments: Vec<String> = std::env::args().skip(1).collect();
-    match arguments.iter().map(String::as_str).collect::<Vec<_>>()[..] {
-        ["times", rounds] => {
-            let rounds = rounds.parse().expect("a number of rounds");
-            for scene in every_scene() {
-                scene.check();
-                print_lines(&measure::times(&scene, rounds));
-            }
-        }
+fn read_notes(file: &str) -> impl Iterator<Item = u64> {
+    let text = fs::read_to_string(file).expect(file);
+    text.lines().map(|line| line.parse().expect(line)).collect::<Vec<_>>().into_iter()
+}
+
+fn number(rounds: &str) -> usize {
+    rounds.parse().expect("a number of rounds")
+}
+
+const TWO_NOTES: &str = "two notes for each side of each call";
+
+/// Answers whether the arguments are some of these.
+fn of_calls(arguments: &[&str]) -> bool {
+    match *arguments {
+        ["times", rounds] => every_scene().for_each(|scene| {
+            scene.check();
+            print_lines(&measure::times(&scene, number(rounds)));
+        }),
         ["marks"] => every_scene().for_each(|scene| {
             scene.check();
             measure::marked(&scene);
         }),
-        ["counts", notes] => {
-            let text = fs::read_to_string(notes).expect(notes);
-            let mut notes = text.lines().map(|line| line.parse().expect(line));
-            for scene in every_scene() {
-                print_lines(&measure::counted(&scene, &mut notes).expect("two notes for each side of each call"));
-            }
+        ["counts", file] => {
+            let mut notes = read_notes(file);
+            every_scene().for_each(|scene| print_lines(&measure::counted(&scene, &mut notes).expect(TWO_NOTES)));
             assert!(notes.next().is_none(), "more notes than calls");
         }
         ["table", unit, file] => {
@@ -60,9 +75,39 @@ fn main() {
             }
         }
         ["plot", unit, file] => print!("{}", Report { unit, figures: &read_figures(file) }.plot()),
-        _ => {
-            eprintln!("usage: bench times ROUNDS | marks | counts NOTES | table UNIT FIGURES | plot UNIT FIGURES");
-            std::process::exit(2);
+        _ => return false,
+    }
+    true
+}
+
+/// The same of nights.
+fn of_nights(arguments: &[&str]) -> bool {
+    match *arguments {
+        ["nights", "times", rounds] => every_night().for_each(|night| {
+            print_lines(&[night.check()]);
+            print_lines(&measure::times(&night, number(rounds)));
+        }),
+        ["nights", "marks"] => every_night().for_each(|night| measure::marked(&night)),
+        ["nights", "counts", file] => {
+            let mut notes = read_notes(file);
+            every_night().for_each(|night| {
+                print_lines(&[night.check()]);
+                print_lines(&measure::counted(&night, &mut notes).expect(TWO_NOTES));
+            });
+            assert!(notes.next().is_none(), "more notes than nights");
         }
+        ["nights", "table", unit, file] => print!("{}", NightReport { unit, figures: &read_figures(file) }.table()),
+        ["nights", "plot", unit, file] => print!("{}", NightReport { unit, figures: &read_figures(file) }.plot()),
+        _ => return false,
+    }
+    true
+}
+
+fn main() {
+    let arguments: Vec<String> = std::env::args().skip(1).collect();
+    let arguments: Vec<&str> = arguments.iter().map(String::as_str).collect();
+    if !of_calls(&arguments) && !of_nights(&arguments) {
+        eprintln!("usage: bench [nights] times ROUNDS | marks | counts NOTES | table UNIT FIGURES | plot UNIT FIGURES");
+        std::process::exit(2);
     }
 }

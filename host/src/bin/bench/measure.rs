@@ -1,9 +1,24 @@
 //! Times, and marks for an instruction counter.
 
-use crate::scenes::{Scene, Side};
-use makowist_host::controller::LOG_LIMIT;
 use std::ffi::{c_int, c_long};
+use std::fmt::Debug;
 use std::hint::black_box;
+
+/// A call that every side makes from the same beginning.
+pub trait Measured {
+    type Side: Copy + Debug + 'static;
+    /// What the call is made on.
+    type Ground;
+    /// The last does nothing: what the measuring itself costs.
+    const SIDES: &'static [Self::Side];
+
+    fn name(&self) -> &str;
+    fn length(&self) -> usize;
+    fn ground(&self) -> Self::Ground;
+    fn run(&self, side: Self::Side, ground: &mut Self::Ground) -> u64;
+    /// Puts back what the call may have changed.
+    fn restore(&self, ground: &mut Self::Ground);
+}
 
 /// What one call by one side cost.
 pub struct Figure {
@@ -52,62 +67,61 @@ fn mark() {
 }
 
 /// Nanoseconds for one call by each side: the least of alternating rounds, less what the measuring itself takes.
-pub fn times(scene: &Scene, rounds: usize) -> Vec<Figure> {
-    let mut image = scene.image.clone();
-    let mut room = [0; 2 * LOG_LIMIT];
-    let mut calls = |side: Side, count: usize| {
+pub fn times<M: Measured>(scene: &M, rounds: usize) -> Vec<Figure> {
+    let mut ground = scene.ground();
+    let mut calls = |side: M::Side, count: usize| {
         let began = clock();
         for _ in 0..count {
-            black_box(scene.run(side, black_box(&mut image), &mut room));
-            scene.restore(&mut image);
+            black_box(scene.run(side, black_box(&mut ground)));
+            scene.restore(&mut ground);
         }
         (clock() - began) / count as f64
     };
-    let counts = Side::ALL.map(|side| (2e6 / calls(side, 50).max(1.0)).clamp(50.0, 200_000.0) as usize);
-    let mut least = [f64::INFINITY; Side::ALL.len()];
+    let mut count = |side: &M::Side| (2e6 / calls(*side, 20).max(1.0)).clamp(5.0, 200_000.0) as usize;
+    let counts: Vec<usize> = M::SIDES.iter().map(&mut count).collect();
+    let mut least = vec![f64::INFINITY; M::SIDES.len()];
     for _ in 0..rounds {
-        for (place, side) in Side::ALL.into_iter().enumerate() {
-            least[place] = least[place].min(calls(side, counts[place]));
+        for (place, side) in M::SIDES.iter().enumerate() {
+            least[place] = least[place].min(calls(*side, counts[place]));
         }
     }
-    figures(scene, least)
+    figures(scene, &least)
 }
 
 /// Makes each side's call once between two marks. The counter's notes, two for each side, are read by `counted`.
-pub fn marked(scene: &Scene) {
-    let mut image = scene.image.clone();
-    let mut room = [0; 2 * LOG_LIMIT];
-    for side in Side::ALL {
+pub fn marked<M: Measured>(scene: &M) {
+    let mut ground = scene.ground();
+    for side in M::SIDES {
         for marks in [false, true] {
             if marks {
                 mark();
             }
-            black_box(scene.run(side, black_box(&mut image), &mut room));
+            black_box(scene.run(*side, black_box(&mut ground)));
             if marks {
                 mark();
             }
-            scene.restore(&mut image);
+            scene.restore(&mut ground);
         }
     }
 }
 
 /// The instructions of each side's call, from the counter's next notes.
-pub fn counted(scene: &Scene, notes: &mut impl Iterator<Item = u64>) -> Option<Vec<Figure>> {
-    let mut counts = [0.0; Side::ALL.len()];
-    for count in &mut counts {
+pub fn counted<M: Measured>(scene: &M, notes: &mut impl Iterator<Item = u64>) -> Option<Vec<Figure>> {
+    let mut count = |_: &M::Side| {
         let (before, after) = (notes.next()?, notes.next()?);
-        *count = (after - before) as f64;
-    }
-    Some(figures(scene, counts))
+        Some((after - before) as f64)
+    };
+    let counts: Vec<f64> = M::SIDES.iter().map(&mut count).collect::<Option<_>>()?;
+    Some(figures(scene, &counts))
 }
 
-fn figures(scene: &Scene, costs: [f64; Side::ALL.len()]) -> Vec<Figure> {
-    let nothing = costs[Side::Nothing as usize];
-    let figure = |(side, cost): (Side, f64)| Figure {
-        name: scene.name.to_string(),
-        length: scene.length,
+fn figures<M: Measured>(scene: &M, costs: &[f64]) -> Vec<Figure> {
+    let (nothing, costs) = costs.split_last().expect("a side that does nothing");
+    let figure = |(side, cost): (&M::Side, &f64)| Figure {
+        name: scene.name().to_string(),
+        length: scene.length(),
         side: format!("{side:?}"),
         cost: (cost - nothing).max(0.0),
     };
-    Side::ALL.into_iter().zip(costs).filter(|(side, _)| *side != Side::Nothing).map(figure).collect()
+    M::SIDES.iter().zip(costs).map(figure).collect()
 }

@@ -131,11 +131,11 @@ impl Report<'_> {
     }
 }
 
-fn text(svg: &mut String, x: f64, y: f64, anchor: &str, colour: &str, shown: &str) {
+pub fn text(svg: &mut String, x: f64, y: f64, anchor: &str, colour: &str, shown: &str) {
     let _ = writeln!(svg, "<text x=\"{x:.1}\" y=\"{y:.1}\" text-anchor=\"{anchor}\" fill=\"{colour}\">{shown}</text>");
 }
 
-fn line(svg: &mut String, from: (f64, f64), to: (f64, f64), colour: &str) {
+pub fn line(svg: &mut String, from: (f64, f64), to: (f64, f64), colour: &str) {
     let _ = writeln!(
         svg,
         "<path d=\"M{:.1} {:.1}L{:.1} {:.1}\" stroke=\"{colour}\" stroke-width=\"1.5\"/>",

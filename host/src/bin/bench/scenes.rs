@@ -1,5 +1,6 @@
 //! The calls that are measured, each with the image that it is made on.
 
+use crate::measure::Measured;
 use makowist_host::controller::{Refusal, State, LOG_LIMIT};
 use makowist_host::image::{self, at, ENTRY, LENGTH};
 use makowist_host::lean;
@@ -46,9 +47,33 @@ pub enum Side {
     Nothing,
 }
 
-impl Side {
-    pub const ALL: [Side; 6] =
-        [Side::Proved, Side::Independent, Side::Typed, Side::Floor, Side::Words, Side::Nothing];
+impl Measured for Scene {
+    type Side = Side;
+    /// An image, and room for a live list.
+    type Ground = (Vec<u8>, [u8; 2 * LOG_LIMIT]);
+    const SIDES: &'static [Side] =
+        &[Side::Proved, Side::Independent, Side::Typed, Side::Floor, Side::Words, Side::Nothing];
+
+    fn name(&self) -> &str {
+        self.name
+    }
+
+    fn length(&self) -> usize {
+        self.length
+    }
+
+    fn ground(&self) -> Self::Ground {
+        (self.image.clone(), [0; 2 * LOG_LIMIT])
+    }
+
+    fn run(&self, side: Side, (image, room): &mut Self::Ground) -> u64 {
+        self.call(side, image, room)
+    }
+
+    fn restore(&self, (image, _): &mut Self::Ground) {
+        image[at::HIGHEST..].copy_from_slice(&self.image[at::HIGHEST..]);
+        image[self.written.clone()].copy_from_slice(&self.image[self.written.clone()]);
+    }
 }
 
 impl Scene {
@@ -57,7 +82,7 @@ impl Scene {
         image::encode(state, &mut image);
         let mut scene = Scene { name, length, image, call, written: 0..0 };
         let mut after = scene.image.clone();
-        scene.run(Side::Typed, &mut after, &mut [0; 2 * LOG_LIMIT]);
+        scene.call(Side::Typed, &mut after, &mut [0; 2 * LOG_LIMIT]);
         let differs: Vec<usize> = (0..at::HIGHEST).filter(|place| after[*place] != scene.image[*place]).collect();
         if let (Some(first), Some(last)) = (differs.first(), differs.last()) {
             scene.written = first / ENTRY * ENTRY..(last / ENTRY + 1) * ENTRY;
@@ -66,7 +91,7 @@ impl Scene {
     }
 
     /// Makes the call on the image and answers its reply.
-    pub fn run(&self, side: Side, image: &mut [u8], room: &mut [u8]) -> u64 {
+    fn call(&self, side: Side, image: &mut [u8], room: &mut [u8]) -> u64 {
         let pairs = match &self.call {
             Call::Request(Request::Append(pairs)) => pairs.as_slice(),
             _ => &[],
@@ -91,17 +116,11 @@ impl Scene {
         }
     }
 
-    /// Puts back what the call may have changed.
-    pub fn restore(&self, image: &mut [u8]) {
-        image[at::HIGHEST..].copy_from_slice(&self.image[at::HIGHEST..]);
-        image[self.written.clone()].copy_from_slice(&self.image[self.written.clone()]);
-    }
-
     /// The three that do the work must agree on it before they are measured.
     pub fn check(&self) -> u64 {
         let answers = [Side::Proved, Side::Independent, Side::Typed].map(|side| {
             let (mut image, mut room) = (self.image.clone(), vec![0; 2 * LOG_LIMIT]);
-            (self.run(side, &mut image, &mut room), image, room)
+            (self.call(side, &mut image, &mut room), image, room)
         });
         assert!(answers[0] == answers[2] && answers[1] == answers[2], "{} at {}: the sides differ", self.name, self.length);
         answers[0].0 & 0xff
@@ -123,7 +142,7 @@ fn sum_of_words(bytes: &[u8]) -> u64 {
     bytes.chunks_exact(8).map(word).fold(0, u64::wrapping_add)
 }
 
-fn work(job: u64, number: usize) -> Request {
+pub fn work(job: u64, number: usize) -> Request {
     Request::Work { node: 1, job, number: number as u64, outcome: 0, cut: 0 }
 }
 
@@ -133,7 +152,7 @@ fn append(number: usize) -> Request {
 }
 
 /// Carries the requests out, all of which are accepted.
-fn led(mut state: State, requests: &[Request]) -> State {
+pub fn led(mut state: State, requests: &[Request]) -> State {
     for request in requests {
         let served = act(&mut state, request);
         assert!(served.reply.is_ok(), "{request:?}: {served:?}");
@@ -142,7 +161,7 @@ fn led(mut state: State, requests: &[Request]) -> State {
 }
 
 /// A log of that length, all of it committed and applied, after a fold of so many, with the line open for node 1.
-fn applied_after(folded: usize, length: usize) -> State {
+pub fn applied_after(folded: usize, length: usize) -> State {
     let line = [Request::Start, Request::Connect(1), Request::Master(1), Request::Sync(1), Request::Sync(1)];
     let mut state = led(State::fresh(), &line);
     for number in 1..=folded + length {
