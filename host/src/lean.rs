@@ -774,9 +774,23 @@ fn turn(state: &mut State, low: usize, line_open: bool, outcomes: &Outcomes) -> 
     let at_rest = state.at_rest();
     let mut lacks_line = false;
     for place in low..state.log.len() {
-        for job in Job::ALL {
-            match tried(state, place, job, at_rest, line_open, &outcomes[place]) {
-                Ok(event) => return Ok(event),
+        let mut transaction = state.log[place];
+        for job in Job::ALL.into_iter().filter(|job| has_rules(*job, &state.log[place])) {
+            let work = Work {
+                job,
+                number: Number(state.folded.0 + 1 + place as u16),
+                outcome: outcome_of(job, &outcomes[place]),
+                cut: false,
+                transaction: &mut transaction,
+                committed: &mut state.committed,
+                applied: &mut state.applied,
+                target_values: &mut state.target.values,
+            };
+            match work.done(at_rest, line_open, |ordinal| controller::settled(&state.log, ordinal)).reply {
+                Ok(event) => {
+                    state.log[place] = transaction;
+                    return Ok(event);
+                }
                 Err(refusal) => lacks_line |= refusal == Refusal::LineNotOpen,
             }
         }
@@ -784,34 +798,23 @@ fn turn(state: &mut State, low: usize, line_open: bool, outcomes: &Outcomes) -> 
     Err(lacks_line)
 }
 
-/// Does a job of the transaction at that place, or leaves the state as it was.
-#[inline(always)]
-fn tried(
-    state: &mut State,
-    place: usize,
-    job: Job,
-    at_rest: bool,
-    line_open: bool,
-    outcomes: &[Outcome; 2],
-) -> Result<Option<Event>, Refusal> {
-    let mut transaction = state.log[place];
-    let worked = Work {
-        job,
-        number: Number(state.folded.0 + 1 + place as u16),
-        outcome: match job {
-            Job::CommitChange => outcomes[0],
-            Job::ApplyChange => outcomes[1],
-            Job::CommitRollback | Job::ApplyRollback => Outcome::Accepted,
-        },
-        cut: false,
-        transaction: &mut transaction,
-        committed: &mut state.committed,
-        applied: &mut state.applied,
-        target_values: &mut state.target.values,
+/// No rule of any job holds for a stage that is None or Complete.
+fn has_rules(job: Job, it: &Transaction) -> bool {
+    let stage = match job {
+        Job::CommitChange => it.c.commit,
+        Job::ApplyChange => it.c.apply,
+        Job::CommitRollback => it.r.commit,
+        Job::ApplyRollback => it.r.apply,
     };
-    let event = worked.done(at_rest, line_open, |ordinal| controller::settled(&state.log, ordinal)).reply?;
-    state.log[place] = transaction;
-    Ok(event)
+    !matches!(stage, Status::None | Status::Complete)
+}
+
+fn outcome_of(job: Job, [validation, push]: &[Outcome; 2]) -> Outcome {
+    match job {
+        Job::CommitChange => *validation,
+        Job::ApplyChange => *push,
+        Job::CommitRollback | Job::ApplyRollback => Outcome::Accepted,
+    }
 }
 
 /// The first place from `low` on whose transaction may move again in this night.

@@ -128,16 +128,15 @@ fn waiting(folded: usize, length: usize, pairs: u16) -> State {
     led(applied_after(folded, 0), &appends)
 }
 
-/// The same, all committed and asked to be rolled back.
-fn undoing(length: usize) -> State {
-    let commit = |number: usize| [work(1, number), work(1, number), Request::Rollback(number as u64)];
+/// The same, all committed.
+fn committed(length: usize) -> State {
+    let commit = |number: usize| [work(1, number), work(1, number)];
     led(waiting(0, length, 4), &(1..=length).flat_map(commit).collect::<Vec<_>>())
 }
 
-/// The same, all applied before they are asked to be rolled back.
-fn undoing_applied(length: usize) -> State {
-    let asked: Vec<Request> = (1..=length).map(|number| Request::Rollback(number as u64)).collect();
-    led(applied_after(0, length), &asked)
+/// The same, all asked to be rolled back.
+fn undoing(state: State, length: usize) -> State {
+    led(state, &(1..=length).map(|number| Request::Rollback(number as u64)).collect::<Vec<_>>())
 }
 
 /// Every night over so many.
@@ -151,8 +150,9 @@ pub fn nights(length: usize) -> Vec<Night> {
         Night::new("waiting, from slot 64", length, waiting(64, length, 4), never),
         Night::new("waiting, every second validation rejected", length, waiting(0, length, 4), |place| place % 4 == 2),
         Night::new("waiting, every second push rejected", length, waiting(0, length, 4), |place| place % 4 == 3),
-        Night::new("committed, all asked to be rolled back", length, undoing(length), never),
-        Night::new("applied, all asked to be rolled back", length, undoing_applied(length), never),
+        Night::new("committed", length, committed(length), never),
+        Night::new("committed, all asked to be rolled back", length, undoing(committed(length), length), never),
+        Night::new("applied, all asked to be rolled back", length, undoing(applied_after(0, length), length), never),
         no_budget,
         Night::new("nothing to do", length, applied_after(0, length), never),
     ]
