@@ -9,6 +9,7 @@ pub mod LiveEnds
 pub mod Unreached
 pub mod FoldWitnesses
 pub mod WhyWitnesses
+pub mod NightWitnesses
 pub mod Traps
 pub mod Reconnected
 pub mod Retried
