@@ -3,27 +3,27 @@
 use Prim.Native.Nat.{ℕ, zero, suc, _+_, _-_, _*_, _≤_, _<_}
 use native.Mathlib.Omega.{arith}
 use mathlib.Core.List.{List, [], _∷_, _++_}
-use mathlib.Core.Bool.{Bool, true, false, _||_, cond}
+use mathlib.Core.Bool.{Bool, true, false, _&&_, _||_, cond}
 use mathlib.Core.Path.{_≡_, refl, sym, ap, _∙_, subst}
 use lib.Dec.{eqb, leb}
 use lib.ListN.{length}
-use borrow.Author.Tests.{eqb-true, eqb-false, eq-eqb, leb-true, leb-false}
+use borrow.Author.Tests.{eqb-true, eqb-false, eq-eqb, leb-true, leb-false, ltb-true}
 use Rattle.kinds.specs.declared.Event.{Event}
 use Rattle.kinds.specs.declared.Status.{Status}
 use Rattle.kinds.specs.declared.Status.the-variants.{None, Complete, Aborted, Canceled, Failed}
 use Rattle.kinds.specs.Statuses.{codeOf}
 use Rattle.rules.specs.ApplyRollback.{wasTried}
 use Rattle.rules.specs.declared.Plan.{Plan}
-use Rattle.machine.specs.State.{State, entryOf, last, isNode, isMaster, lineOpenFor}
+use Rattle.machine.specs.State.{State, entryOf, last, inLog, isKept, isNode, isMaster, lineOpenFor}
 use Rattle.machine.specs.Stores.{afters}
 use Rattle.machine.specs.WellFormed.{wellFormed}
 use Rattle.machine.specs.Settled.{settled}
 use Rattle.machine.specs.LiveList as list
 use Rattle.machine.specs.Rest.{restOf}
-use Rattle.machine.specs.Calls.{Call, work, planOf, present, commits}
-use Rattle.machine.specs.Step.{step, Past, run, stateFrom, eventsFrom}
+use Rattle.machine.specs.Calls.{Call, work, unless, planOf, planned, present, commits, workOk, decide}
+use Rattle.machine.specs.Step.{outcome, step, Past, run, stateFrom, eventsFrom}
 use Rattle.machine.proofs.Next.{performed, rows-performed}
-use Rattle.machine.proofs.Cases.{and-left, or-cases, commit-change, commit-rollback}
+use Rattle.machine.proofs.Cases.{and-left, and-right, or-cases, commit-change, commit-rollback}
 use Rattle.machine.proofs.Kept.{reached-well-formed}
 use Rattle.machine.proofs.Waits.{eleven-same, open-2, open-4}
 use Rattle.machine.specs.Why.{holds}
@@ -84,32 +84,46 @@ first-cases {R} P s (c ∷ cs) h f g = go (eqb (step s c .reply .answer) 0) refl
     go false e f g k = k f g
 
 -- where none is, all are refused
-none-first : (s : State) (c : Call) (cs : List Call) → firstDone s (c ∷ cs) ≡ [] → (step s c .reply .answer ≡ 0 → ⊥) × (firstDone s cs ≡ [])
-unfolding firstDone
-none-first s c cs = go (eqb (step s c .reply .answer) 0) refl
+none-every : (s : State) (cs : List Call) → firstDone s cs ≡ [] → Every (λ c. step s c .reply .answer ≡ 0 → ⊥) cs
+unfolding firstDone Every
+none-every s [] e = tt
+none-every s (c ∷ cs) e = go (eqb (step s c .reply .answer) 0) refl e (none-every s cs)
   where
-    go : (b : Bool) → eqb (step s c .reply .answer) 0 ≡ b → cond b (c ∷ []) (firstDone s cs) ≡ [] → (step s c .reply .answer ≡ 0 → ⊥) × (firstDone s cs ≡ [])
-    go true e f = let z : _≡_ {A = ℕ} 0 1 = cc in absurd (omega arith)
-    go false e f = (eqb-false _ 0 e, f)
+    go : (b : Bool) → eqb (step s c .reply .answer) 0 ≡ b → cond b (c ∷ []) (firstDone s cs) ≡ []
+        → (firstDone s cs ≡ [] → Every (λ c. step s c .reply .answer ≡ 0 → ⊥) cs)
+        → (step s c .reply .answer ≡ 0 → ⊥) × Every (λ c. step s c .reply .answer ≡ 0 → ⊥) cs
+    go true e f k = let z : _≡_ {A = ℕ} 0 1 = cc in absurd (omega arith)
+    go false e f k = (eqb-false _ 0 e, k f)
 
-none-trials : (s : State) (os : List ℕ) (d n k m : ℕ) → firstDone s (trials os d n k m) ≡ [] → (j i : ℕ) → 1 ≤ j → j ≤ 4 → k ≤ i → i < k + m
-    → step s (trial os d n j i) .reply .answer ≡ 0
-    → ⊥
-unfolding trials
-none-trials s os d n k zero e j i p q x y = absurd (omega arith)
-none-trials s os d n k (suc m) e j i p q x y =
-    let a = none-first s (trial os d n 1 k) (trial os d n 2 k ∷ trial os d n 3 k ∷ trial os d n 4 k ∷ trials os d n (suc k) m) e in
-    let b = none-first s (trial os d n 2 k) (trial os d n 3 k ∷ trial os d n 4 k ∷ trials os d n (suc k) m) (a .1) in
-    let c = none-first s (trial os d n 3 k) (trial os d n 4 k ∷ trials os d n (suc k) m) (b .1) in
-    let g = none-first s (trial os d n 4 k) (trials os d n (suc k) m) (c .1) in
-    by-eq i k (λ z. subst (λ u. step s (trial os d n j u) .reply .answer ≡ 0 → ⊥) (sym z) (here j p q (a .0) (b .0) (c .0) (g .0)))
-    (λ z. none-trials s os d n (suc k) m (g .1) j i p q (omega arith) (omega arith))
+-- where the line is not lacked, none is refused with 12; where it is, one is
+line-every : (s : State) (cs : List Call) → needsLine s cs ≡ false → Every (λ c. step s c .reply .answer ≡ 12 → ⊥) cs
+unfolding needsLine Every
+line-every s [] e = tt
+line-every s (c ∷ cs) e = go (eqb (step s c .reply .answer) 12) refl e (line-every s cs)
   where
-    here : (j : ℕ) → 1 ≤ j → j ≤ 4 → (step s (trial os d n 1 k) .reply .answer ≡ 0 → ⊥) → (step s (trial os d n 2 k) .reply .answer ≡ 0 → ⊥)
-        → (step s (trial os d n 3 k) .reply .answer ≡ 0 → ⊥)
-        → (step s (trial os d n 4 k) .reply .answer ≡ 0 → ⊥)
-        → step s (trial os d n j k) .reply .answer ≡ 0
-        → ⊥
+    go : (b : Bool) → eqb (step s c .reply .answer) 12 ≡ b → (b || needsLine s cs) ≡ false
+        → (needsLine s cs ≡ false → Every (λ c. step s c .reply .answer ≡ 12 → ⊥) cs)
+        → (step s c .reply .answer ≡ 12 → ⊥) × Every (λ c. step s c .reply .answer ≡ 12 → ⊥) cs
+    go true e f k = crash (sym f)
+    go false e f k = (eqb-false _ 12 e, k f)
+
+line-some : {R : Type 0} (P : Call → Type 0) (s : State) (cs : List Call) → Every P cs → needsLine s cs ≡ true
+    → ((c : Call) → P c → step s c .reply .answer ≡ 12 → R)
+    → R
+unfolding needsLine Every
+line-some P s [] h e g = crash e
+line-some P s (c ∷ cs) h e g =
+    or-cases (eqb (step s c .reply .answer) 12) (needsLine s cs) e (λ x. g c (h .0) (eqb-true _ 12 x)) (λ x. line-some P s cs (h .1) x g)
+
+-- what holds of all trials holds of each
+at-trials : (P : Call → Type 0) (os : List ℕ) (d n k m : ℕ) → Every P (trials os d n k m) → (j i : ℕ) → 1 ≤ j → j ≤ 4 → k ≤ i → i < k + m → P (trial os d n j i)
+unfolding trials Every
+at-trials P os d n k zero h j i p q x y = absurd (omega arith)
+at-trials P os d n k (suc m) h j i p q x y =
+    by-eq i k (λ z. subst (λ u. P (trial os d n j u)) (sym z) (here j p q (h .0) (h .1 .0) (h .1 .1 .0) (h .1 .1 .1 .0)))
+    (λ z. at-trials P os d n (suc k) m (h .1 .1 .1 .1) j i p q (omega arith) (omega arith))
+  where
+    here : (j : ℕ) → 1 ≤ j → j ≤ 4 → P (trial os d n 1 k) → P (trial os d n 2 k) → P (trial os d n 3 k) → P (trial os d n 4 k) → P (trial os d n j k)
     here zero p q a b c e = absurd (omega arith)
     here (suc zero) p q a b c e = a
     here (suc (suc zero)) p q a b c e = b
@@ -117,12 +131,128 @@ none-trials s os d n k (suc m) e j i p q x y =
     here (suc (suc (suc (suc zero)))) p q a b c e = e
     here (suc (suc (suc (suc (suc j))))) p q a b c e = absurd (omega arith)
 
--- ---- the turns from a reached state
+none-trials : (s : State) (os : List ℕ) (d n k m : ℕ) → firstDone s (trials os d n k m) ≡ [] → (j i : ℕ) → 1 ≤ j → j ≤ 4 → k ≤ i → i < k + m
+    → step s (trial os d n j i) .reply .answer ≡ 0
+    → ⊥
+none-trials s os d n k m e = at-trials (λ c. step s c .reply .answer ≡ 0 → ⊥) os d n k m (none-every s (trials os d n k m) e)
+
+-- a job that is refused with 12 is one of the four, on a number that is kept
+twelve-kept : (s : State) (n j i r c : ℕ) → step s (work n j i r c) .reply .answer ≡ 12 → ((1 ≤ j) × (j ≤ 4)) × ((s .log .folded .0 < i) × (i ≤ last (s .log)))
+unfolding step outcome decide
+twelve-kept s n j i r c e =
+    let k = go (wellFormed s) (workOk n j r c) (inLog s i) (isKept s i) e in
+    let v : (leb 1 j && leb j 4) ≡ true = and-right (isNode n) _ (and-left (isNode n && (leb 1 j && leb j 4)) _ (k .0)) in (
+      (leb-true 1 j (and-left (leb 1 j) _ v), leb-true j 4 (and-right (leb 1 j) _ v)),
+      (ltb-true _ i (k .2), leb-true i _ (and-right (leb 1 i) _ (k .1))),
+    )
+  where
+    go : (w v l z : Bool)
+        → (let o = unless 10 (isMaster (s .net) n) (planned j (planOf s n j i (eqb r 0)) i c) in
+        unless 1 w (unless 2 v (unless 5 l (unless 18 z o))) .reply .answer ≡ 12
+        → (v ≡ true) × (l ≡ true) × (z ≡ true))
+    go false v l z e = absurd (omega arith)
+    go true false l z e = absurd (omega arith)
+    go true true false z e = absurd (omega arith)
+    go true true true false e = absurd (omega arith)
+    go true true true true e = (refl, refl, refl)
+
+-- ---- a turn of any state
 record Tried (os : List ℕ) (b n : ℕ) (c : Call) : Type 0 where
   job : ℕ
   place : ℕ
   is : c ≡ trial os b n job place
 
+all-tried : (os : List ℕ) (b n k m : ℕ) → Every (Tried os b n) (trials os b n k m)
+all-tried os b n = every-trials (Tried os b n) os b n (λ j i. record { job = j; place = i; is = refl })
+
+module _ (s : State) (os : List ℕ) (n : ℕ) where
+  -- job j of the k-th that is kept
+  abbrev answer : ℕ → ℕ → ℕ
+  answer j k = step s (trial os (s .log .folded .0) n j k) .reply .answer
+
+  -- by the jobs that it tries
+  pub none-goes : turn s os n ≡ [] → (j k : ℕ) → answer j k ≡ 0 → ⊥
+  none-goes e j k a =
+      let w = worked s n j (s .log .folded .0 + k) (outcomeAt os j k) 0 a in
+      none-trials s os (s .log .folded .0) n 1 (length (s .log .entries)) e j k (w .job .0) (w .job .1) (omega (arith, w .number .0)) (omega (arith, w .number .1)) a
+
+  pub some-goes : {R : Type 0} → (turn s os n ≡ [] → ⊥) → ((j k : ℕ) → answer j k ≡ 0 → R) → R
+  some-goes f g =
+      first-cases (Tried os (s .log .folded .0) n) s (all s os n) (all-tried os (s .log .folded .0) n 1 (length (s .log .entries))) (λ e. absurd (f e))
+      (λ c t e a. g (t .job) (t .place) (subst (λ d. step s d .reply .answer ≡ 0) (t .is) a))
+
+  pub none-lineless : needsLine s (all s os n) ≡ false → (j k : ℕ) → answer j k ≡ 12 → ⊥
+  none-lineless e j k a =
+      let w = twelve-kept s n j (s .log .folded .0 + k) (outcomeAt os j k) 0 a in
+      at-trials (λ c. step s c .reply .answer ≡ 12 → ⊥) os (s .log .folded .0) n 1 (length (s .log .entries)) (line-every s (all s os n) e) j k (w .0 .0) (w .0 .1) (omega (arith, w .1 .0)) (omega (arith, w .1 .1)) a
+
+  pub some-lineless : {R : Type 0} → needsLine s (all s os n) ≡ true → ((j k : ℕ) → answer j k ≡ 12 → R) → R
+  some-lineless e g =
+      line-some (Tried os (s .log .folded .0) n) s (all s os n) (all-tried os (s .log .folded .0) n 1 (length (s .log .entries))) e
+      (λ c t a. g (t .job) (t .place) (subst (λ d. step s d .reply .answer ≡ 12) (t .is) a))
+
+  -- why it stopped is one of three
+  pub stopped-cases : {R : Type 0} → (whyStopped s os n ≡ 0 → turn s os n ≡ [] → needsLine s (all s os n) ≡ false → R)
+      → (whyStopped s os n ≡ 1 → turn s os n ≡ [] → needsLine s (all s os n) ≡ true → R)
+      → (whyStopped s os n ≡ 2 → (turn s os n ≡ [] → ⊥) → R)
+      → R
+  stopped-cases {R} f g h = go (turn s os n) refl (needsLine s (all s os n)) refl
+    where
+      go : (cs : List Call) → turn s os n ≡ cs → (b : Bool) → needsLine s (all s os n) ≡ b → R
+      go [] e true x = g (ap (λ cs. stoppedBy cs (needsLine s (all s os n))) e ∙ ap (stoppedBy []) x) e x
+      go [] e false x = f (ap (λ cs. stoppedBy cs (needsLine s (all s os n))) e ∙ ap (stoppedBy []) x) e x
+      go (c ∷ cs) e b x = h (ap (λ cs. stoppedBy cs (needsLine s (all s os n))) e) (λ z. let y : _≡_ {A = ℕ} 0 (suc (length cs)) = ap length (sym z ∙ e) in omega arith)
+
+-- ---- the turns of any state
+-- a job of node n without cut, accepted
+pub record Goes (s : State) (n : ℕ) (c : Call) : Type 0 where
+  pub job : ℕ
+  pub number : ℕ
+  pub outcome : ℕ
+  pub is : c ≡ work n job number outcome 0
+  pub accepted : step s c .reply .answer ≡ 0
+
+-- each of the calls, made from s one after another
+unfoldable pub AllGo : State → ℕ → List Call → Type 0
+AllGo s n [] = Unit {0}
+AllGo s n (c ∷ cs) = Goes (stateFrom s cs) n c × AllGo s n cs
+
+module _ (s : State) (os : List ℕ) (n : ℕ) where
+  abbrev reached : ℕ → State
+  reached b = stateFrom s (turns s os n b)
+
+  -- a turn does nothing, or one job
+  turn-grows : {R : Type 0} (b : ℕ) → (turn (reached b) os n ≡ [] → turns s os n (suc b) ≡ turns s os n b → R)
+      → ((c : Call) → (turn (reached b) os n ≡ [] → ⊥) → Goes (reached b) n c → turns s os n (suc b) ≡ c ∷ turns s os n b → R)
+      → R
+  unfolding turns
+  turn-grows b f g =
+      let d = reached b .log .folded .0 in
+      first-cases (Tried os d n) (reached b) (all (reached b) os n) (all-tried os d n 1 (length (reached b .log .entries)))
+      (λ e. f e (ap (λ ds. ds ++ turns s os n b) e))
+      (λ c t e a. g c (λ x. let z : _≡_ {A = ℕ} 0 1 = ap length (sym x ∙ e) in omega arith)
+      (record { job = t .job; number = d + t .place; outcome = outcomeAt os (t .job) (t .place); is = t .is; accepted = a }) (ap (λ ds. ds ++ turns s os n b) e))
+
+  -- each does one job or none
+  pub turns-low : (b : ℕ) → length (turns s os n b) ≤ b
+  unfolding turns
+  turns-low zero = omega arith
+  turns-low (suc b) = turn-grows b (λ e f. omega (arith, ap length f, turns-low b)) (λ c t h f. omega (arith, ap length f, turns-low b))
+
+  -- a turn that could be made has all before it made
+  pub turns-full : (b : ℕ) → (turn (reached b) os n ≡ [] → ⊥) → length (turns s os n b) ≡ b
+  unfolding turns
+  turns-full zero f = refl
+  turns-full (suc b) f =
+      turn-grows b (λ e g. absurd (f (subst (λ cs. turn (stateFrom s cs) os n ≡ []) (sym g) e))) (λ c t h g. ap length g ∙ ap suc (turns-full b t))
+
+  pub turns-go : (b : ℕ) → AllGo s n (turns s os n b)
+  unfolding turns AllGo
+  turns-go zero = tt
+  turns-go (suc b) =
+      turn-grows b (λ e g. subst (AllGo s n) (sym g) (turns-go b)) (λ c t h g. subst (AllGo s n) (sym g) (h, turns-go b))
+
+-- ---- the turns from a reached state
 module _ (cs : List Call) (os : List ℕ) (n : ℕ) where
   abbrev s : State
   s = run cs .state
@@ -146,7 +276,7 @@ module _ (cs : List Call) (os : List ℕ) (n : ℕ) where
       → R
   unfolding turns
   grows {R} b f g =
-      first-cases (Tried os (fold b) n) (after b) (all (after b) os n) (every-trials (Tried os (fold b) n) os (fold b) n (λ j i. record { job = j; place = i; is = refl }) 1 (length (after b .log .entries)))
+      first-cases (Tried os (fold b) n) (after b) (all (after b) os n) (all-tried os (fold b) n 1 (length (after b .log .entries)))
       (λ e. f e (ap (λ ds. ds ++ made b) (ap (λ x. turn x os n) (from-state cs (made b)) ∙ e)))
       (λ c t e a. g (t .job) (t .place) (λ x. let z : _≡_ {A = ℕ} 0 1 = ap length (sym x ∙ e) in omega arith) (subst (λ d. step (after b) d .reply .answer ≡ 0) (t .is) a)
       (ap (λ ds. ds ++ made b) (ap (λ x. turn x os n) (from-state cs (made b)) ∙ e) ∙ ap (λ d. d ∷ made b) (t .is)))
@@ -190,17 +320,10 @@ module _ (cs : List Call) (os : List ℕ) (n : ℕ) where
       (λ j i t a f. subst (λ x. rest (x ++ cs) + length x ≤ rest cs) (sym f) (omega (arith, spent b, less (history b) j (fold b + i) (outcomeAt os j i) a)))
 
   made-low : (b : ℕ) → length (made b) ≤ b
-  unfolding turns
-  made-low zero = omega arith
-  made-low (suc b) = grows b (λ e f. omega (arith, ap length f, made-low b)) (λ j i t a f. omega (arith, ap length f, made-low b))
+  made-low = turns-low s os n
 
-  -- a turn that could be made has all before it made
   full : (b : ℕ) → (turn (after b) os n ≡ [] → ⊥) → length (made b) ≡ b
-  unfolding turns
-  full zero f = refl
-  full (suc b) f =
-      grows b (λ e g. absurd (f (subst (λ x. turn (run (x ++ cs) .state) os n ≡ []) (sym g) e)))
-      (λ j i t a g. ap length g ∙ ap suc (full b t))
+  full b f = turns-full s os n b (λ e. f (ap (λ x. turn x os n) (sym (from-state cs (made b))) ∙ e))
 
   -- as many turns as is left are enough
   enough : (b : ℕ) → rest cs ≤ b → turn (after b) os n ≡ []
