@@ -2,3 +2,5 @@
 pub mod Promise
 pub mod Retried
 pub mod Explained
+pub mod EventRoom
+pub mod Nights

@@ -102,35 +102,35 @@ same : (m : List ℕ) (p : ℕ) → view m .net .values ≡ view m .applied .val
 unfolding readOf read
 same m p e = ap (λ (vs : List ℕ). shown.given (shown.unless (formed m) (reads.unless 2 (ltb p 32) (reads.shows (getD vs p 0))))) (sym e)
 
-module _ (l k : List ℕ) (u : ℕ) (z : length l ≡ imageLength) (f : north.Freshens l u k) {cs : List Call} {xs m : List ℕ} (d : Serving k cs xs m) where
-  abbrev es : List Event
-  es = map eventIn xs
-
-  shows-run : (view m ≡ run cs .state) × ((run cs .events ≡ es) × (formed m ≡ true))
-  shows-run = let h = shows-run-freshened l k (unpacked u) z (f .0 .1, f .1) (calling d) in (h .0, (sym (h .1 .0) ∙ events xs, h .1 .1))
-
-  demand-3-shown : Demand3 (view m) es
-  demand-3-shown = subst (λ (e : List Event). Demand3 (view m) e) (events xs) (demand-3 l k (unpacked u) z (f .0 .1, f .1) (calling d))
+-- what is read in an image that the calls cs reached, with the events es
+module _ (cs : List Call) (es : List Event) (m : List ℕ) (h : view m ≡ run cs .state) (g : run cs .events ≡ es) (f : formed m ≡ true) where
+  pub reached-3 : Demand3 (view m) es
+  reached-3 = subst (λ (s : State). Demand3 s es) (sym h) (subst (λ (e : List Event). Demand3 (run cs .state) e) g (history.demand-3 cs))
 
   -- the value of the highest-numbered change, by the calls and what C was answered
   abbrev byGiven : (stage path : ℕ) → List Event → ℕ
-  byGiven g p e = highest (unfolded (given cs)) (live e g) (length (given cs)) p
+  byGiven b p e = highest (unfolded (given cs)) (live e b) (length (given cs)) p
 
-  pub demand-3-c : Demand3C cs es m
+  pub reached-3-c : Demand3C cs es m
   unfolding listingOf
-  demand-3-c =
-      let h = shows-run in
-      let g = by-given cs in
+  reached-3-c =
+      let b = by-given cs in
       record {
         committed = λ p x i s.
-            s .1 ∙ value m 1 p (h .1 .1) (lt-ltb p 32 i) ∙ ap (λ (v : State). found (getD (v .committed .values) p 0)) (h .0)
-            ∙ ap found (g .committed p i ∙ ap (byGiven 1 p) (h .1 .0));
+            s .1 ∙ value m 1 p f (lt-ltb p 32 i) ∙ ap (λ (v : State). found (getD (v .committed .values) p 0)) h
+            ∙ ap found (b .committed p i ∙ ap (byGiven 1 p) g);
         applied = λ p x i s.
-            s .1 ∙ value m 2 p (h .1 .1) (lt-ltb p 32 i) ∙ ap (λ (v : State). found (getD (v .applied .values) p 0)) (h .0)
-            ∙ ap found (g .applied p i ∙ ap (byGiven 2 p) (h .1 .0));
-        line = λ n p x v o s t. s .0 ∙ ap packedRead (same m p (demand-3-shown .line n o)) ∙ sym (t .0);
+            s .1 ∙ value m 2 p f (lt-ltb p 32 i) ∙ ap (λ (v : State). found (getD (v .applied .values) p 0)) h
+            ∙ ap found (b .applied p i ∙ ap (byGiven 2 p) g);
+        line = λ n p x v o s t. s .0 ∙ ap packedRead (same m p (reached-3 .line n o)) ∙ sym (t .0);
         list = λ room room′ x s.
-            let w : listingOf m room ≡ listingIn (list.live (view m)) room = rw (h .1 .1) in
-            let v = w ∙ ap (λ (ks : List ℕ). listingIn ks room) (demand-3-shown .live) in
+            let w : listingOf m room ≡ listingIn (list.live (view m)) room = rw f in
+            let v = w ∙ ap (λ (ks : List ℕ). listingIn ks room) (reached-3 .live) in
             (s .0 .1 ∙ ap (λ (a : Listing). a .listed) v, s .1 ∙ ap (λ (a : Listing). a .room) v);
       }
+
+module _ (l k : List ℕ) (u : ℕ) (z : length l ≡ imageLength) (f : north.Freshens l u k) {cs : List Call} {xs m : List ℕ} (d : Serving k cs xs m) where
+  pub demand-3-c : Demand3C cs (map eventIn xs) m
+  demand-3-c =
+      let h = shows-run-freshened l k (unpacked u) z (f .0 .1, f .1) (calling d) in
+      reached-3-c cs (map eventIn xs) m (h .0) (sym (h .1 .0) ∙ events xs) (h .1 .1)

@@ -2,3 +2,4 @@
 pub mod Demands
 pub mod Retry
 pub mod Reasons
+pub mod Nights
