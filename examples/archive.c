@@ -11,7 +11,6 @@
 #include "fail.h"
 #include "makowist.h"
 
-#define SUM_OF_NOTHING UINT64_C(0xcbf29ce484222325)
 #define SUM_STEP UINT64_C(0x100000001b3)
 #define SUM_FORM " sum=%016" PRIx64 "\n"
 enum { SUM_LENGTH = sizeof " sum=0123456789abcdef\n" - 1 };
@@ -33,9 +32,9 @@ static void add(struct line *line, const char *form, ...) {
     va_end(words);
 }
 
-static uint64_t summed(uint64_t sum, const char *text, size_t length) {
-    for (size_t at = 0; at < length; ++at)
-        sum = (sum ^ (uint8_t)text[at]) * SUM_STEP;
+uint64_t sum_of(uint64_t sum, const void *bytes, size_t length) {
+    for (const uint8_t *byte = bytes, *end = byte + length; byte < end; ++byte)
+        sum = (sum ^ *byte) * SUM_STEP;
     return sum;
 }
 
@@ -75,8 +74,8 @@ static void add_entry(struct line *line, const uint8_t *image, unsigned number) 
 static struct line line_of(const uint8_t *image, unsigned number, uint64_t *sum) {
     struct line line = {{0}, 0};
     add_entry(&line, image, number);
-    add(&line, SUM_FORM, summed(*sum, line.text, line.length));
-    *sum = summed(*sum, line.text, line.length);
+    add(&line, SUM_FORM, sum_of(*sum, line.text, line.length));
+    *sum = sum_of(*sum, line.text, line.length);
     return line;
 }
 
@@ -88,8 +87,8 @@ static int is_line(const char *text, size_t length, unsigned number, uint64_t *s
     size_t started = (size_t)snprintf(start, sizeof start, "number=%u ", number);
     if (length < started + SUM_LENGTH)
         return 0;
-    snprintf(end, sizeof end, SUM_FORM, summed(*sum, text, length - SUM_LENGTH));
-    *sum = summed(*sum, text, length);
+    snprintf(end, sizeof end, SUM_FORM, sum_of(*sum, text, length - SUM_LENGTH));
+    *sum = sum_of(*sum, text, length);
     return memcmp(text, start, started) == 0 && memcmp(text + length - SUM_LENGTH, end, SUM_LENGTH) == 0;
 }
 

@@ -15,6 +15,7 @@
 #ifndef ARCHIVE_H
 #define ARCHIVE_H
 
+#include <stddef.h>
 #include <stdint.h>
 #include <stdio.h>
 
@@ -23,6 +24,10 @@ struct archive {
     FILE *file;
     uint64_t sum; /* over all that is in it */
 };
+
+/* The sum over more bytes behind those of a sum. */
+#define SUM_OF_NOTHING UINT64_C(0xcbf29ce484222325)
+uint64_t sum_of(uint64_t sum, const void *bytes, size_t length);
 
 /* Opens the archive of a well-formed image, and makes an empty one where nothing was folded and there is none. Lines of a
  * fold that the image does not show are cut off, with a word on standard error. An archive that lacks an entry, or has

@@ -54,6 +54,14 @@
  * the switch. Accepted where it is, have the switch first take all MAKOWIST_PATHS applied values (MAKOWIST_TABLE_APPLIED; 0
  * is absent), then call. It has no outcome: where the switch does not take them, do not call.
  *
+ * A night. makowist_night makes work calls by itself, with outcomes lent in advance; its events say what was validated and
+ * pushed, and on a copy what would be. Lend room for all of them, MAKOWIST_EVENT_LENGTH bytes for each job of the budget.
+ * Where many jobs wait, make slices of it (examples/server.c): a small budget, then image and events kept, and again while
+ * it stops with MAKOWIST_STOPPED_BUDGET_SPENT. Slices with nothing else called between them do, show and leave what one
+ * night of all their jobs does, with the same table: its places are those of the kept transactions, and a night folds none.
+ * With the line open, 6 jobs for each kept transaction are enough in an image that began with makowist_fresh (the theorem
+ * is night-enough).
+ *
  * After a crash. Keep an image whole before its answer is used: a call writes into the lent bytes where they lie, so keep
  * the old ones until the new ones are safe (examples/server.c). Lend the last image kept and go on as above: the try on a
  * copy shows what is left of a step that was cut, and a push that the image does not show is a push again. What was lost
