@@ -5,15 +5,18 @@
 //! The calls that were answered, and at most the one that was being made, must be what the file shows, byte by byte. The
 //! archive beside it must hold each folded transaction once, as it stood when it was folded, and behind them at most a part
 //! of what the fold that was being made would archive, which the next start must cut off. A job that was cut after the first
-//! of its two stores is called again, by the server that is started next where the kill came first; and in the end both
-//! files must be those of a server that was never killed and made each of these jobs whole. Ends with 1 where this is not so.
+//! of its two stores is called again, by the server that is started next where the kill came first. Of a night whole slices
+//! must be kept, and what is left of it is asked of the server that is started next. The record of events must have each of
+//! those that led to the image, once and in order, and behind them at most a part of those of the step that was being made,
+//! which the next start must take back. In the end all three files must be those of a server that was never killed, made each
+//! cut job whole, and was asked each night once. Ends with 1 where this is not so.
 
-use makowist_host::controller::{Number, State, Status, Transaction, LOG_LIMIT};
+use makowist_host::controller::{Number, Refusal, State, Status, Transaction, LOG_LIMIT, NODES};
 use makowist_host::image::{self, LENGTH};
 use makowist_host::lines;
 use makowist_host::northbound::{self, act, Answer, Request, Served};
 use makowist_host::random::Random;
-use makowist_host::requests::{sensible, wild};
+use makowist_host::requests::{change, sensible, wild};
 use makowist_host::retry::CutJob;
 use std::fmt;
 use std::fs;
@@ -27,16 +30,30 @@ use std::time::{Duration, Instant};
 const KILLS_TO_A_FILE: u64 = 10;
 /// How many calls a server is fed: on most machines more than it answers before it is killed.
 const CALLS: usize = 1000;
+/// The first of them, into which most kills fall; and one in how many is a night among them, for half of the servers, and else:
+/// nights leave few jobs to be cut.
+const EARLY: usize = 30;
+const EARLY_EVENINGS: usize = 4;
+const LATE_EVENINGS: usize = 60;
 /// The longest wait for the kill, from the first answer.
 const LONGEST: Duration = Duration::from_millis(25);
 /// The same from the start, for the kills that fall into it.
 const LONGEST_START: Duration = Duration::from_millis(40);
-/// The longest wait for the archive to grow, for the kills that wait for it, and by how many bytes it grows at most: some
-/// lines, so that folds are kept before the one that is cut short.
-const LONGEST_FOLD: Duration = Duration::from_millis(500);
+/// The longest wait for a file to grow, for the kills that wait for it, and by how many bytes it grows at most: some lines, so
+/// that folds are kept before the one that is cut short, and slices.
+const LONGEST_GROWING: Duration = Duration::from_millis(500);
 const LONGEST_GROWTH: usize = 1000;
-/// What the server says where it cuts lines of a fold that was not kept off the archive.
+/// What the server says where it cuts lines of a fold that was not kept off the archive, and where it takes events back.
 const MENDED: &str = "cut off";
+const TAKEN_BACK: &str = "taken back";
+/// The files beside an image.
+const ARCHIVE: &str = ".archive";
+const RECORD: &str = ".events";
+/// How many jobs of a night the server does before it keeps them.
+const SLICE: usize = 8;
+/// The paper's limits of a night.
+const BUDGET_LIMIT: usize = 4096;
+const OUTCOMES: usize = 256;
 
 type Checked<T> = Result<T, String>;
 
@@ -54,12 +71,46 @@ struct Seen {
     retried: usize,
     cut_by_kill: usize,
     made_whole: usize,
+    nights: usize,
+    night_jobs: usize,
+    in_night: usize,
+    resumed: usize,
+    events_ahead: usize,
+    taken_back: usize,
     idle: u64,
 }
 
 impl Seen {
+    /// Makes what the server has made, to its end.
+    fn made(&mut self, asked: &Asked, kept: &mut Kept) -> bool {
+        match asked {
+            Asked::Call(request) => self.called(request, kept),
+            Asked::Night(night) => self.slept(night, kept, None),
+        }
+    }
+
+    /// Does a night, slice after slice, to its end, or until the image is the one that was found.
+    fn slept(&mut self, night: &Night, kept: &mut Kept, found: Option<&[u8]>) -> bool {
+        let slept = night_by_jobs(&kept.state, night);
+        self.nights += usize::from(kept.rest.is_none());
+        self.resumed += usize::from(kept.rest.is_some());
+        kept.asked_for(night, &slept);
+        let mut done = 0;
+        for slice in slept.jobs.chunks(SLICE) {
+            kept.sleep(slice);
+            done += slice.len();
+            if found.is_some_and(|found| found == kept.bytes) {
+                break;
+            }
+        }
+        kept.rest = (done < slept.jobs.len()).then(|| night.after(done));
+        self.night_jobs += done;
+        self.in_night += usize::from(kept.rest.is_some());
+        slept.is_accepted()
+    }
+
     /// Makes a call that the server has made.
-    fn made(&mut self, request: &Request, kept: &mut Kept) -> bool {
+    fn called(&mut self, request: &Request, kept: &mut Kept) -> bool {
         let (folded, was_cut) = (kept.state.folded.0, kept.cut.is_some());
         let accepted = kept.make(request);
         self.retried += usize::from(was_cut && kept.cut.is_none());
@@ -70,13 +121,14 @@ impl Seen {
 
     /// Whether so many kills have shown what they must.
     fn enough(&self, kills: u64) -> Checked<()> {
-        let Seen { idle, folds, mended, cut_by_kill, .. } = self;
+        let Seen { idle, folds, mended, cut_by_kill, in_night, resumed, taken_back, .. } = self;
         if 2 * idle > kills {
             return Err(format!("{idle} of {kills} kills fell when every call had been answered: feed more"));
         }
-        if [folds, mended, cut_by_kill].contains(&&0) {
+        if [folds, mended, cut_by_kill, in_night, resumed, taken_back].contains(&&0) {
             let seen = format!("{folds} folds, {mended} archives mended, {cut_by_kill} jobs cut");
-            return Err(format!("{seen}: too few kills to see what they must"));
+            let nights = format!("killed in {in_night} nights, {resumed} of them gone on with, events taken back {taken_back}");
+            return Err(format!("{seen}, {nights}: too few kills to see what they must"));
         }
         Ok(())
     }
@@ -86,14 +138,17 @@ impl fmt::Display for Seen {
     fn fmt(&self, to: &mut fmt::Formatter) -> fmt::Result {
         let Seen { answered, accepted, before_any_answer, in_flight_kept, left_aside, .. } = self;
         let Seen { folds, dropped, left_ahead, mended, retried, cut_by_kill, made_whole, .. } = self;
+        let Seen { nights, night_jobs, in_night, resumed, events_ahead, taken_back, .. } = self;
         write!(
             to,
             "{answered} calls answered, {accepted} of them accepted; killed before any answer {before_any_answer}, with a call \
              kept that was not answered {in_flight_kept}, with a file left aside {left_aside}\n\
              kill: {folds} folds kept, each of the {dropped} transactions that they dropped archived once; killed with lines \
              archived whose fold was not kept {left_ahead}, archives mended at a start {mended}\n\
-             kill: {retried} cut jobs called again; killed before that {cut_by_kill}; {made_whole} images and archives in the \
-             end as those of a server that was never killed and made each job whole"
+             kill: {nights} nights of {night_jobs} jobs; killed between two slices {in_night}, gone on with {resumed}; killed \
+             with events recorded whose image was not kept {events_ahead}, events taken back at a start {taken_back}\n\
+             kill: {retried} cut jobs called again; killed before that {cut_by_kill}; {made_whole} images, archives and records \
+             in the end as those of a server that was never killed and made each job and each night whole"
         )
     }
 }
@@ -107,7 +162,7 @@ struct Archive {
 
 impl Archive {
     fn empty() -> Archive {
-        Archive { text: String::new(), sum: 0xcbf2_9ce4_8422_2325 }
+        Archive { text: String::new(), sum: SUM_OF_NOTHING }
     }
 
     fn add(&mut self, number: Number, transaction: &Transaction) {
@@ -115,11 +170,17 @@ impl Archive {
         self.put(&format!(" sum={:016x}\n", self.sum));
     }
 
-    /// FNV-1a.
     fn put(&mut self, text: &str) {
         self.text.push_str(text);
-        self.sum = text.bytes().fold(self.sum, |sum, byte| (sum ^ u64::from(byte)).wrapping_mul(0x100_0000_01b3));
+        self.sum = sum_of(self.sum, text.as_bytes());
     }
+}
+
+const SUM_OF_NOTHING: u64 = 0xcbf2_9ce4_8422_2325;
+
+/// FNV-1a.
+fn sum_of(sum: u64, bytes: &[u8]) -> u64 {
+    bytes.iter().fold(sum, |sum, byte| (sum ^ u64::from(*byte)).wrapping_mul(0x100_0000_01b3))
 }
 
 /// A transaction's line in the archive, as far as the sum.
@@ -146,26 +207,136 @@ fn archived(number: Number, transaction: &Transaction) -> String {
     )
 }
 
-/// A server's image and archive as they must be on the disk.
+/// A night, as it is asked.
+#[derive(Clone, Debug)]
+struct Night {
+    node: u64,
+    budget: usize,
+    /// The digits; the places behind them are 0.
+    outcomes: Vec<u8>,
+}
+
+impl Night {
+    /// A night that the master can make, now and then one that is refused.
+    fn any(state: &State, random: &mut Random) -> Night {
+        let node = state.mastership.master.map_or(1, |master| master.number().into());
+        let budget = if random.once_in(4) { random.below(3 * SLICE) } else { random.between(SLICE, BUDGET_LIMIT) };
+        let outcomes = (0..random.below(OUTCOMES + 1)).map(|_| random.once_in(12).into()).collect();
+        let mut night = Night { node, budget, outcomes };
+        match random.below(60) {
+            0 => night.node = random.below(NODES + 2) as u64,
+            1 => night.budget = random.one_of(&[BUDGET_LIMIT, BUDGET_LIMIT + 1, 65535]),
+            2 => night.outcomes.resize(random.between(OUTCOMES, OUTCOMES + 2), 0),
+            3 => night.outcomes.push(random.between(2, 9) as u8),
+            _ => {}
+        }
+        night
+    }
+
+    fn asking(&self) -> String {
+        let digits: String = self.outcomes.iter().map(u8::to_string).collect();
+        format!("call=night node={} budget={} outcomes={digits}\n", self.node, self.budget)
+    }
+
+    /// The same night, so many jobs later.
+    fn after(&self, jobs: usize) -> Night {
+        Night { budget: self.budget - jobs, ..self.clone() }
+    }
+
+    fn outcome(&self, place: usize) -> u64 {
+        self.outcomes.get(place).copied().unwrap_or(0).into()
+    }
+
+    fn refusal(&self, state: &State) -> Option<Refusal> {
+        let in_range = (1..=NODES as u64).contains(&self.node) && self.budget <= BUDGET_LIMIT;
+        if !in_range || self.outcomes.len() > OUTCOMES || self.outcomes.iter().any(|outcome| *outcome > 1) {
+            return Some(Refusal::OutOfRange);
+        }
+        let master = state.mastership.master.map(|master| u64::from(master.number()));
+        (master != Some(self.node)).then_some(Refusal::NotMaster)
+    }
+}
+
+/// What a night does, and how it is answered.
+struct Slept {
+    jobs: Vec<Request>,
+    answer: String,
+}
+
+impl Slept {
+    fn is_accepted(&self) -> bool {
+        self.answer.starts_with("answer=0 ")
+    }
+}
+
+fn night_by_jobs(state: &State, night: &Night) -> Slept {
+    if let Some(refusal) = night.refusal(state) {
+        return Slept { jobs: Vec::new(), answer: format!("answer={} jobs=0 stopped=0\n", refusal.number()) };
+    }
+    let (mut state, mut jobs) = (state.clone(), Vec::new());
+    let stopped = loop {
+        match turn(&mut state, night) {
+            Ok(_) if jobs.len() == night.budget => break 2,
+            Ok(job) => jobs.push(job),
+            Err(no_line) => break u8::from(no_line),
+        }
+    };
+    let answer = format!("answer=0 jobs={} stopped={stopped}\n", jobs.len());
+    Slept { jobs, answer }
+}
+
+/// Does the first job that is not refused, or answers whether one is refused for the line.
+fn turn(state: &mut State, night: &Night) -> Result<Request, bool> {
+    let mut no_line = false;
+    let first = u64::from(state.folded.0) + 1;
+    for place in 0..state.log.len() {
+        for job in 1..=4 {
+            let outcome = if job <= 2 { night.outcome(2 * place + job as usize - 1) } else { 0 };
+            let request = Request::Work { node: night.node, job, number: first + place as u64, outcome, cut: 0 };
+            match act(state, &request).reply {
+                Ok(_) => return Ok(request),
+                Err(refusal) => no_line |= refusal == Refusal::LineNotOpen,
+            }
+        }
+    }
+    Err(no_line)
+}
+
+/// What a line asks for.
+#[derive(Clone, Debug)]
+enum Asked {
+    Call(Request),
+    Night(Night),
+}
+
+/// A server's image, archive and record as they must be on the disk.
+#[derive(Clone)]
 struct Kept {
     state: State,
     bytes: Vec<u8>,
     archive: Archive,
     /// What a fold that was not kept may have left behind the archive, until the next start.
     ahead: String,
+    /// The record of events.
+    record: String,
+    /// What a step that was not kept may have left behind the record, until the next start.
+    events_ahead: String,
     /// How many transactions the calls let it keep: where they are few, more of them get finished and folded.
     limit: usize,
     /// The job that was cut and is still to be called again.
     cut: Option<CutJob>,
+    /// What is left of a night that was killed between two slices, and is still to be asked for.
+    rest: Option<Night>,
     /// What was made, without the cuts.
     whole: Whole,
 }
 
-/// The calls of a run in which no job is cut and none called again, and its events, each as its answer's line.
-#[derive(Default)]
+/// The calls of a run in which no job is cut and none called again, and each night is one; and the answers that show an event or
+/// are a night's.
+#[derive(Clone, Default)]
 struct Whole {
     asked: String,
-    events: Vec<String>,
+    answers: Vec<String>,
 }
 
 impl Kept {
@@ -173,7 +344,8 @@ impl Kept {
         let mut bytes = vec![0; LENGTH];
         northbound::serve(&mut bytes, &Request::Fresh);
         let (archive, ahead, whole) = (Archive::empty(), String::new(), Whole::default());
-        Kept { state: State::fresh(), bytes, archive, ahead, limit, cut: None, whole }
+        let (record, events_ahead) = (String::new(), String::new());
+        Kept { state: State::fresh(), bytes, archive, ahead, record, events_ahead, limit, cut: None, rest: None, whole }
     }
 
     /// An image that sensible calls have led to.
@@ -200,16 +372,75 @@ impl Kept {
 
     /// Makes a call, and takes it into the run without cuts: a cut job whole, and a retry not at all.
     fn make(&mut self, request: &Request) -> bool {
+        let recorded = self.recorded_by(std::slice::from_ref(request));
         let served = self.serve(request);
+        self.record.push_str(&recorded);
         if !is_retry(self.cut, request) {
             let asked = CutJob::of(request, &served).map_or(request.clone(), CutJob::uncut);
             self.whole.asked.extend(lines::asking(&asked));
         }
         if matches!(served.reply, Ok(Answer::Told(_))) {
-            self.whole.events.push(lines::written(&served));
+            self.whole.answers.push(lines::written(&served));
         }
         self.cut = cut_after(self.cut, request, &served);
         served.reply.is_ok()
+    }
+
+    /// Takes a night into the run in which each is one; what is left of one is in it already.
+    fn asked_for(&mut self, night: &Night, slept: &Slept) {
+        if self.rest.is_none() {
+            self.whole.asked.push_str(&night.asking());
+            self.whole.answers.push(slept.answer.clone());
+        }
+    }
+
+    /// Does a slice of a night.
+    fn sleep(&mut self, slice: &[Request]) {
+        let recorded = self.recorded_by(slice);
+        self.record.push_str(&recorded);
+        for job in slice {
+            self.serve(job);
+        }
+    }
+
+    /// A server that has begun must have said what it cut off the archive, and what it took back of the record.
+    fn is_mended(&mut self, begun: bool, aside: &str, seen: &mut Seen) -> Checked<()> {
+        let (mended, taken_back) = (aside.contains(MENDED), aside.contains(TAKEN_BACK));
+        seen.mended += usize::from(mended);
+        seen.taken_back += usize::from(taken_back);
+        if !begun {
+            return Ok(());
+        }
+        if mended == self.ahead.is_empty() || taken_back == self.events_ahead.is_empty() {
+            let (ahead, events_ahead) = (&self.ahead, &self.events_ahead);
+            return Err(format!("{ahead:?} lay behind the archive, {events_ahead:?} the record, and the server said {aside:?}"));
+        }
+        self.ahead.clear();
+        self.events_ahead.clear();
+        Ok(())
+    }
+
+    /// What calls that are kept together have to record.
+    fn recorded_by(&self, calls: &[Request]) -> String {
+        let mut state = self.state.clone();
+        let served = calls.iter().map(|call| act(&mut state, call));
+        let events = served.filter(|served| matches!(served.reply, Ok(Answer::Told(_))));
+        let mut text: String = events.map(|served| lines::written(&served).replacen("answer=0 ", "", 1)).collect();
+        if !text.is_empty() {
+            text += &format!("from={:016x}\n", sum_of(SUM_OF_NOTHING, &self.bytes));
+        }
+        text
+    }
+
+    /// What the step that is kept next has to record: a call, or the first slice of a night.
+    fn recorded_next(&self, asked: &Asked) -> String {
+        match asked {
+            Asked::Call(request) => self.recorded_by(std::slice::from_ref(request)),
+            Asked::Night(night) => {
+                let slept = night_by_jobs(&self.state, night);
+                slept.jobs.chunks(SLICE).next().map_or(String::new(), |slice| self.recorded_by(slice))
+            }
+        }
     }
 
     /// The archive that an accepted fold leads to.
@@ -224,11 +455,22 @@ impl Kept {
     }
 }
 
-/// A call, as it is asked and as it must be answered.
+/// A call or a night, as it is asked and as it must be answered.
 struct Call {
-    request: Request,
-    asked: String,
+    asked: Asked,
+    line: String,
     answer: String,
+}
+
+impl Call {
+    /// A night, made on the state.
+    fn night(night: Night, state: &mut State) -> Call {
+        let Slept { jobs, answer } = night_by_jobs(state, &night);
+        for job in &jobs {
+            act(state, job);
+        }
+        Call { line: night.asking(), asked: Asked::Night(night), answer }
+    }
 }
 
 /// Whether a call is the retry of a job that was cut: no other job comes before it.
@@ -242,25 +484,47 @@ fn cut_after(cut: Option<CutJob>, request: &Request, served: &Served) -> Option<
 }
 
 /// Calls from a state on, most of them accepted. A job that was cut is called again before anything else is done but on other
-/// nodes' connections.
+/// nodes' connections, and what is left of a night comes first of all.
 fn calls(kept: &Kept, random: &mut Random) -> Vec<Call> {
     let (mut state, mut cut) = (kept.state.clone(), kept.cut);
-    let mut calls = Vec::new();
+    let early_evenings = random.one_of(&[EARLY_EVENINGS, LATE_EVENINGS]);
+    let mut calls: Vec<Call> = kept.rest.iter().map(|night| Call::night(night.clone(), &mut state)).collect();
     while calls.len() < CALLS {
+        let evenings = if calls.len() < EARLY { early_evenings } else { LATE_EVENINGS };
+        if cut.is_none() && state.mastership.master.is_some() && random.once_in(evenings) {
+            calls.extend(evening(&mut state, kept.limit, random));
+            continue;
+        }
         let request = match cut {
             Some(cut) if random.once_in(3) => cut.elsewhere(random),
             Some(cut) => cut.again(random.once_in(2), random.once_in(2)),
             None if random.once_in(12) => wild(&state, random),
             None => onward(&state, kept.limit, random),
         };
-        if let Some(asked) = lines::asking(&request) {
+        if let Some(line) = lines::asking(&request) {
             let served = act(&mut state, &request);
             if served.reply.is_ok() || random.once_in(4) {
                 cut = cut_after(cut, &request, &served);
-                calls.push(Call { request, asked, answer: lines::written(&served) });
+                calls.push(Call { asked: Asked::Call(request), line, answer: lines::written(&served) });
             }
         }
     }
+    calls
+}
+
+/// Changes, as far as there is room, and then a night.
+fn evening(state: &mut State, limit: usize, random: &mut Random) -> Vec<Call> {
+    let room = limit.saturating_sub(state.log.len());
+    let mut calls = Vec::new();
+    for _ in 0..random.below(room.min(SLICE) + 1) {
+        let request = Request::Append(change(random));
+        if let Some(line) = lines::asking(&request) {
+            let answer = lines::written(&act(state, &request));
+            calls.push(Call { asked: Asked::Call(request), line, answer });
+        }
+    }
+    let night = Night::any(state, random);
+    calls.push(Call::night(night, state));
     calls
 }
 
@@ -278,21 +542,55 @@ fn onward(state: &State, limit: usize, random: &mut Random) -> Request {
 enum Moment {
     /// So long after it was started.
     FromStart(Duration),
-    /// So long after its first answer.
-    FromAnswer(Duration),
+    /// So long after so many answers.
+    FromAnswer(usize, Duration),
     /// As soon as the archive is longer than this, after its first answer.
     AtArchive(usize),
+    /// As soon as the record is longer than this: an answer may be that of a whole night.
+    AtRecord(usize),
 }
 
 impl Moment {
-    fn any(kept: &Kept, random: &mut Random) -> Moment {
+    fn any(kept: &Kept, calls: &[Call], random: &mut Random) -> Moment {
         let mut within = |longest: Duration| Duration::from_micros(random.below(longest.as_micros() as usize) as u64);
         let (from_start, from_answer) = (within(LONGEST_START), within(LONGEST));
-        match random.below(8) {
-            0 => Moment::FromStart(from_start),
-            1 | 2 => Moment::AtArchive(kept.archive.text.len() + random.below(LONGEST_GROWTH)),
-            _ => Moment::FromAnswer(from_answer),
+        let early = &calls[..EARLY];
+        let chosen = match random.below(10) {
+            0 => Some(Moment::FromStart(from_start)),
+            1 | 2 => Some(Moment::AtArchive(kept.archive.text.len() + random.below(LONGEST_GROWTH))),
+            3 => Some(Moment::AtRecord(kept.record.len() + random.below(LONGEST_GROWTH))),
+            4 | 5 => Moment::in_night(kept, early, random),
+            6 => Moment::at_cut(kept, early),
+            _ => None,
+        };
+        chosen.unwrap_or(Moment::FromAnswer(1, from_answer))
+    }
+
+    /// As soon as the first job that is cut is answered.
+    fn at_cut(kept: &Kept, calls: &[Call]) -> Option<Moment> {
+        let mut kept = kept.clone();
+        let is_cut = |Call { asked, .. }: &Call| {
+            Seen::default().made(asked, &mut kept);
+            kept.cut.is_some()
+        };
+        calls.iter().position(is_cut).map(|before| Moment::FromAnswer(before + 1, Duration::ZERO))
+    }
+
+    /// As soon as a slice that is not the first one is recorded, of the first night that has any.
+    fn in_night(kept: &Kept, calls: &[Call], random: &mut Random) -> Option<Moment> {
+        let mut kept = kept.clone();
+        for Call { asked, .. } in calls {
+            if let Asked::Night(night) = asked {
+                let jobs = night_by_jobs(&kept.state, night).jobs;
+                if jobs.len() > SLICE {
+                    let slices = jobs.chunks(SLICE).take(random.between(1, (jobs.len() - 1) / SLICE));
+                    slices.for_each(|slice| kept.sleep(slice));
+                    return Some(Moment::AtRecord(kept.record.len()));
+                }
+            }
+            Seen::default().made(asked, &mut kept);
         }
+        None
     }
 }
 
@@ -331,31 +629,41 @@ impl Server<'_> {
         }
     }
 
-    /// What the archive holds; nothing where there is none.
-    fn archive(&self) -> Checked<String> {
-        match fs::read_to_string(self.beside(".archive")) {
+    /// What the file beside the image holds; nothing where there is none.
+    fn text(&self, ending: &str) -> Checked<String> {
+        match fs::read_to_string(self.beside(ending)) {
             Ok(text) => Ok(text),
             Err(error) if error.kind() == ErrorKind::NotFound => Ok(String::new()),
             Err(error) => Err(error.to_string()),
         }
     }
 
-    /// Waits for the moment, and hands on the first answer where it had to be awaited.
-    fn wait_for(&self, moment: Moment, output: &mut impl BufRead) -> Checked<Option<String>> {
-        let answer = match moment {
-            Moment::FromStart(_) => None,
-            Moment::FromAnswer(_) | Moment::AtArchive(_) => whole_line(output)?,
+    /// The image, the archive and the record.
+    fn files(&self) -> Checked<(Option<Vec<u8>>, String, String)> {
+        Ok((self.kept()?, self.text(ARCHIVE)?, self.text(RECORD)?))
+    }
+
+    /// Waits for the moment, and hands on the answers that had to be awaited.
+    fn wait_for(&self, moment: Moment, output: &mut impl BufRead) -> Checked<Vec<String>> {
+        let awaited = match moment {
+            Moment::FromStart(_) | Moment::AtRecord(_) => 0,
+            Moment::AtArchive(_) => 1,
+            Moment::FromAnswer(answers, _) => answers,
         };
+        let answers = (0..awaited).map_while(|_| whole_line(output).transpose()).collect();
         match moment {
-            Moment::FromStart(wait) | Moment::FromAnswer(wait) => thread::sleep(wait),
-            Moment::AtArchive(length) => {
-                // Without a pause: the lines of a fold soon have their image.
-                let (archive, began) = (self.beside(".archive"), Instant::now());
-                let grown = || fs::metadata(&archive).is_ok_and(|found| found.len() > length as u64);
-                while !grown() && began.elapsed() < LONGEST_FOLD {}
-            }
+            Moment::FromStart(wait) | Moment::FromAnswer(_, wait) => thread::sleep(wait),
+            Moment::AtArchive(length) => self.wait_for_growth(ARCHIVE, length),
+            Moment::AtRecord(length) => self.wait_for_growth(RECORD, length),
         }
-        Ok(answer)
+        answers
+    }
+
+    /// Waits for a file beside the image to be longer than that; without a pause, since its lines soon have their image.
+    fn wait_for_growth(&self, ending: &str, length: usize) {
+        let (file, began) = (self.beside(ending), Instant::now());
+        let grown = || fs::metadata(&file).is_ok_and(|found| found.len() > length as u64);
+        while !grown() && began.elapsed() < LONGEST_GROWING {}
     }
 
     /// Starts it, feeds it the calls, and kills it.
@@ -365,7 +673,7 @@ impl Server<'_> {
         else {
             return Err("no pipes".to_string());
         };
-        let asked: String = calls.iter().map(|call| call.asked.as_str()).collect();
+        let asked: String = calls.iter().map(|call| call.line.as_str()).collect();
         // The input stays open until the kill: a server that sees its end would leave by itself.
         let feeder = thread::spawn(move || {
             let _ = input.write_all(asked.as_bytes());
@@ -406,33 +714,43 @@ impl Server<'_> {
         if kept.state == State::fresh() {
             return Ok(());
         }
-        let laid = fs::write(&self.file, &kept.bytes).and_then(|()| fs::write(self.beside(".archive"), &kept.archive.text));
+        let laid = fs::write(&self.file, &kept.bytes).and_then(|()| fs::write(self.beside(ARCHIVE), &kept.archive.text));
         laid.map_err(|error| error.to_string())
     }
 
-    /// A job that is still cut is called again. Then the files must be those of a server that was never killed and made each
-    /// cut job whole, and that server's events must be those of the killed one.
-    fn ends_as(&self, whole: &Server, kept: &mut Kept, seen: &mut Seen) -> Checked<()> {
-        self.closes_with(kept, seen)?;
+    /// What is left is asked for: a job that is still cut, or the rest of a night.
+    fn goes_on_with(&self, kept: &mut Kept, seen: &mut Seen) -> Checked<()> {
         if let Some(retry) = kept.cut.map(|cut| cut.again(false, false)) {
             self.fed(&lines::asking(&retry).ok_or("a job that no line asks for")?)?;
-            seen.made(&retry, kept);
+            seen.called(&retry, kept);
         }
+        if let Some(night) = kept.rest.clone() {
+            self.fed(&night.asking())?;
+            seen.made(&Asked::Night(night), kept);
+        }
+        Ok(())
+    }
+
+    /// What is left is asked for. Then the files must be those of a server that was never killed, made each cut job whole and
+    /// was asked each night once, and that server's answers must show the events of the killed one, and its nights.
+    fn ends_as(&self, whole: &Server, kept: &mut Kept, seen: &mut Seen) -> Checked<()> {
+        self.closes_with(kept, seen)?;
+        self.goes_on_with(kept, seen)?;
         let output = whole.fed(&kept.whole.asked)?;
         let shown = String::from_utf8_lossy(&output.stdout);
-        let is_event = |line: &&str| line.starts_with("answer=") && !line.contains(" phase=0 ");
-        if !shown.split_inclusive('\n').filter(is_event).eq(&kept.whole.events) {
-            return Err("a server that was never killed and made each job whole gave other events".to_string());
+        let is_shown = |line: &&str| line.starts_with("answer=") && !line.contains(" phase=0 ");
+        if !shown.split_inclusive('\n').filter(is_shown).eq(&kept.whole.answers) {
+            return Err("a server that was never killed and made all whole gave other events or nights".to_string());
         }
-        let image = self.kept()?;
-        if image != whole.kept()? || image != Some(kept.bytes.clone()) || self.archive()? != whole.archive()? {
-            return Err("the files are not those of a server that was never killed and made each job whole".to_string());
+        let files = self.files()?;
+        if files != whole.files()? || files != (Some(kept.bytes.clone()), kept.archive.text.clone(), kept.record.clone()) {
+            return Err("the files are not those of a server that was never killed and made all whole".to_string());
         }
         seen.made_whole += 1;
         Ok(())
     }
 
-    /// Starts it without a call: it must mend the archive, show the heads, leave by itself and change nothing else.
+    /// Starts it without a call: it must mend archive and record, show the heads, leave by itself and change nothing else.
     fn closes_with(&self, kept: &mut Kept, seen: &mut Seen) -> Checked<()> {
         let output = self.start()?.wait_with_output().map_err(|error| error.to_string())?;
         let shown = String::from_utf8_lossy(&output.stdout);
@@ -440,12 +758,10 @@ impl Server<'_> {
         if !output.status.success() || shown != lines::closing(&kept.state) || self.kept()? != Some(kept.bytes.clone()) {
             return Err(format!("started without a call it ended with {} and showed {shown:?}, {aside:?}", output.status));
         }
-        if self.archive()? != kept.archive.text || aside.contains(MENDED) == kept.ahead.is_empty() {
-            return Err(format!("started without a call it left another archive, or said otherwise: {aside:?}"));
+        if self.text(ARCHIVE)? != kept.archive.text || self.text(RECORD)? != kept.record {
+            return Err(format!("started without a call it left another archive or record: {aside:?}"));
         }
-        seen.mended += usize::from(aside.contains(MENDED));
-        kept.ahead.clear();
-        Ok(())
+        kept.is_mended(true, &aside, seen)
     }
 }
 
@@ -456,74 +772,93 @@ fn whole_line(output: &mut impl BufRead) -> Checked<Option<String>> {
     Ok(line.ends_with('\n').then_some(line))
 }
 
-/// One kill. Brings `kept` to what the server kept, which must be what was answered, or one call more.
+/// One kill. Brings `kept` to what the server kept, which must be what was answered, or one call more, or slices of a night.
 fn kill_once(server: &Server, kept: &mut Kept, seen: &mut Seen, random: &mut Random) -> Checked<()> {
     let existed = server.kept()?.is_some();
     let calls = calls(kept, random);
-    let Said { answers, aside } = server.killed(&calls, Moment::any(kept, random))?;
-    let mended = aside.contains(MENDED);
-    if !answers.is_empty() && mended == kept.ahead.is_empty() {
-        return Err(format!("{:?} lay behind the archive, and the server said {aside:?}", kept.ahead));
-    }
+    let Said { answers, aside } = server.killed(&calls, Moment::any(kept, &calls, random))?;
     for (call, answer) in calls.iter().zip(&answers) {
         if *answer != call.answer {
-            return Err(format!("{:?} was answered {answer:?}, not {:?}", call.asked, call.answer));
+            return Err(format!("{:?} was answered {answer:?}, not {:?}", call.line, call.answer));
         }
-        seen.accepted += usize::from(seen.made(&call.request, kept));
+        seen.accepted += usize::from(seen.made(&call.asked, kept));
     }
     seen.answered += answers.len();
     seen.before_any_answer += usize::from(answers.is_empty());
     seen.left_aside += usize::from(server.beside(".new").exists());
     seen.idle += u64::from(answers.len() == calls.len());
-    seen.mended += usize::from(mended);
-    let next = calls.get(answers.len());
+    let next = calls.get(answers.len()).map(|call| &call.asked);
+    let answered = kept.bytes.clone();
     let not_kept = match server.kept()? {
         Some(found) => holds_image(&found, next, kept, seen).map_err(|why| format!("after {} answers {why}", answers.len()))?,
-        None if !existed && answers.is_empty() => next,
+        None if !existed && answers.is_empty() => next.cloned(),
         None => return Err("the file is gone".to_string()),
     };
-    if !answers.is_empty() || not_kept.is_none() {
-        kept.ahead.clear();
-    }
+    kept.is_mended(!answers.is_empty() || kept.bytes != answered, &aside, seen)?;
     seen.cut_by_kill += usize::from(kept.cut.is_some());
-    holds_archive(&server.archive()?, not_kept, kept, seen)
+    holds_archive(&server.text(ARCHIVE)?, not_kept.as_ref(), kept, seen)?;
+    holds_record(&server.text(RECORD)?, not_kept.as_ref(), kept, seen)
 }
 
-/// The image must be what the answered calls lead to, or those and the next, which is answered where it was not kept.
-fn holds_image<'a>(found: &[u8], next: Option<&'a Call>, kept: &mut Kept, seen: &mut Seen) -> Checked<Option<&'a Call>> {
+/// The image must be what the answered calls lead to, or those and the next, or slices of that. Answers what was not kept.
+fn holds_image(found: &[u8], next: Option<&Asked>, kept: &mut Kept, seen: &mut Seen) -> Checked<Option<Asked>> {
     if found == kept.bytes {
-        return Ok(next);
+        return Ok(next.cloned());
     }
     let answered = format!("{:?}", kept.state);
-    if next.is_some_and(|next| seen.made(&next.request, kept)) && found == kept.bytes {
-        seen.in_flight_kept += 1;
-        return Ok(None);
+    let accepted = match next {
+        Some(Asked::Night(night)) => seen.slept(night, kept, Some(found)),
+        Some(Asked::Call(request)) => seen.called(request, kept),
+        None => false,
+    };
+    if accepted && found == kept.bytes {
+        seen.in_flight_kept += usize::from(kept.rest.is_none());
+        return Ok(kept.rest.clone().map(Asked::Night));
     }
     Err(format!(
-        "the file shows neither the answered calls nor one more ({:?})\n  answered: {answered}\n  kept: {}",
-        next.map(|next| &next.asked),
+        "the file shows neither the answered calls nor one more ({next:?})\n  answered: {answered}\n  kept: {}",
         image::decode(found).map_or(format!("{} bytes that are no image", found.len()), |state| format!("{state:?}"))
     ))
 }
 
+/// What lies in a file beside the image behind the text that goes with it.
+fn behind<'a>(what: &str, found: &'a str, text: &str) -> Checked<&'a str> {
+    found.strip_prefix(text).ok_or_else(|| {
+        let same = found.lines().zip(text.lines()).take_while(|(found, kept)| found == kept).count();
+        let line = |text: &str| text.lines().nth(same).map(str::to_string);
+        format!("line {} of the {what} is {:?}\n  and not {:?}", same + 1, line(found), line(text))
+    })
+}
+
 /// The archive must hold what the kept image has folded. Behind that may lie what was there before the server was started,
 /// or the beginning of what the call that was not kept, if it is a fold, has to archive.
-fn holds_archive(found: &str, not_kept: Option<&Call>, kept: &mut Kept, seen: &mut Seen) -> Checked<()> {
-    let Some(ahead) = found.strip_prefix(&kept.archive.text) else {
-        let same = found.lines().zip(kept.archive.text.lines()).take_while(|(found, kept)| found == kept).count();
-        let line = |text: &str| text.lines().nth(same).map(str::to_string);
-        return Err(format!("line {} of the archive is {:?}\n  and not {:?}", same + 1, line(found), line(&kept.archive.text)));
+fn holds_archive(found: &str, not_kept: Option<&Asked>, kept: &mut Kept, seen: &mut Seen) -> Checked<()> {
+    let ahead = behind("archive", found, &kept.archive.text)?;
+    let begun = match not_kept {
+        Some(Asked::Call(call)) if act(&mut kept.state.clone(), call).reply.is_ok() => kept.archive_after(call),
+        _ => None,
     };
-    let fold = not_kept.filter(|call| act(&mut kept.state.clone(), &call.request).reply.is_ok());
-    let begun = fold.and_then(|fold| kept.archive_after(&fold.request));
     if ahead != kept.ahead && !ahead.is_empty() {
         if !begun.is_some_and(|begun| begun.text.starts_with(found)) {
-            let asked = not_kept.map(|call| &call.asked);
-            return Err(format!("the archive goes on with {ahead:?}, and the call that was not kept is {asked:?}"));
+            return Err(format!("the archive goes on with {ahead:?}, and what was not kept is {not_kept:?}"));
         }
         seen.left_ahead += 1;
     }
     kept.ahead = ahead.to_string();
+    Ok(())
+}
+
+/// The record must hold the events that led to the kept image. Behind them may lie what was there before the server was started,
+/// or the beginning of what the step that was not kept has to record.
+fn holds_record(found: &str, not_kept: Option<&Asked>, kept: &mut Kept, seen: &mut Seen) -> Checked<()> {
+    let ahead = behind("record", found, &kept.record)?;
+    if ahead != kept.events_ahead && !ahead.is_empty() {
+        if !not_kept.is_some_and(|asked| kept.recorded_next(asked).starts_with(ahead)) {
+            return Err(format!("the record goes on with {ahead:?}, and what was not kept is {not_kept:?}"));
+        }
+        seen.events_ahead += 1;
+    }
+    kept.events_ahead = ahead.to_string();
     Ok(())
 }
 
