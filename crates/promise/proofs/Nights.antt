@@ -312,6 +312,9 @@ acting-in-c nothing = none
 acting-in-c (further {k = k} d c x m p) = call (acting-in-c d) c (unpacked x) m (in-c k c x m p)
 acting-in-c (overnight {k = k} d n b os x p m y q) = nightly (acting-in-c d) n b os x (unpackedNight p) m y (night-in-c k n b os x p m y q)
 
+pub acting-calls-c : {l : List ℕ} {cs : List Call} {es : List Event} {m : List ℕ} → ActingC l cs es m → Bytes l → formed l ≡ true → AreCalls l cs es m
+acting-calls-c d = acting-calls (acting-in-c d)
+
 module _ (l : List ℕ) (n b : ℕ) (os x : List ℕ) (p : ℕ) (m y : List ℕ) (q : north.Nights l n b os x p m y) (bytes : Bytes l) where
   pub any-night-c : AnyNight l n b os x (unpackedNight p) m y
   any-night-c = any-night l n b os x (unpackedNight p) m y (night-in-c l n b os x p m y q) bytes

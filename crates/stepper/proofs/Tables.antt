@@ -7,7 +7,7 @@ use native.Mathlib.Numerals.{add-one}
 use native.Mathlib.Omega.{arith}
 use borrow.Author.Tests.{ltb-true, ltb-false, lt-ltb, le-ltb}
 use lib.Dec.{ltb}
-use lib.ListN.{length, take, set, getD, length-append, length-take, List·getD-eq-default}
+use lib.ListN.{length, take, set, getD, replicate, length-append, length-take, List·getD-eq-default}
 use lib.Seq.{take-all, getD-take, take-suc-set}
 use Rattle.lines.specs.Reading.{low, twoBytes}
 use Rattle.lines.specs.Handed.{Low, nightBytes}
@@ -93,3 +93,16 @@ module _ (l : List ℕ) (n b : ℕ) (room : List ℕ) (k : ℕ) (ts : List ℕ) 
   sleeps-many i p =
       sleeps-with false (le-ltb (length (take k room)) 518 (omega (arith, length-take k room)))
       (subst (λ (os : List ℕ). Nights l n b os [] r m x) (sym (take-all 257 ts (omega (arith, ap length e, tab-length (λ i. getD (take k room) (2 * i + 4) 0) 257)))) p)
+
+-- ---- by computing: three digits and 0 behind them; none; and a 257th, which is no table
+pub padded : tableFor (1 ∷ 0 ∷ 1 ∷ []) ≡ 1 ∷ 0 ∷ 1 ∷ replicate 253 0
+unfolding tab
+padded = refl
+
+pub all-accepted : tableFor [] ≡ replicate 256 0
+unfolding tab
+all-accepted = refl
+
+pub too-long : length (tableFor (replicate 257 0)) ≡ 257
+unfolding tab
+too-long = refl
