@@ -238,11 +238,10 @@ pub fn encode(state: &State, image: &mut [u8]) {
 
 /// Writes a transaction over its entry's bytes.
 ///
-/// A change that begins to commit gets r.values anew, and with them the places past its pairs, which become 0; every
-/// other store keeps those places. The paper does not look at them, the image's definition does.
+/// A change that begins to commit, however far it then comes, gets r.values anew, and with them the places past its pairs,
+/// which become 0; every other store keeps those places. The paper does not look at them, the image's definition does.
 pub fn encode_entry(transaction: &Transaction, bytes: &mut [u8]) {
-    let begins =
-        bytes[entry::C_COMMIT] == Status::Pending.code() && transaction.c.commit == Status::InProgress;
+    let begins = bytes[entry::C_COMMIT] == Status::Pending.code() && transaction.c.commit != Status::Pending;
     if begins {
         bytes[entry::R_VALUES..ENTRY].fill(0);
     }

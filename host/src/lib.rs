@@ -13,6 +13,7 @@ pub mod image;
 pub mod jobs;
 pub mod lean;
 pub mod lines;
+pub mod night;
 pub mod northbound;
 #[cfg(feature = "archive")]
 pub mod peer;

@@ -1,6 +1,7 @@
 //! The stepper's lines over the independent controller: one call a line in, one answer a line out, the heads at the end.
 
 use crate::controller::{Refusal, State};
+use crate::night::{Night, Passed, OUTCOMES};
 use crate::northbound::{act, bytes_of, pairs_of, Answer, Request, Served};
 use crate::why::{Question, Why};
 
@@ -9,6 +10,7 @@ use crate::why::{Question, Why};
 pub enum Line {
     Call(Request),
     Why(Question),
+    Night(Night),
 }
 
 /// What a line asks for, where it is readable.
@@ -19,11 +21,24 @@ pub fn read(line: &[u8]) -> Option<Line> {
         None => (line, None),
     };
     let call = call.strip_prefix("call=")?;
-    if call == "why" {
-        let [node, job, number] = numbers(operands?, ["node", "job", "number"])?;
-        return Some(Line::Why(Question { node, job, number }));
+    match call {
+        "why" => {
+            let [node, job, number] = numbers(operands?, ["node", "job", "number"])?;
+            Some(Line::Why(Question { node, job, number }))
+        }
+        "night" => read_night(operands?).map(Line::Night),
+        _ => read_call(call, operands).map(Line::Call),
     }
-    read_call(call, operands).map(Line::Call)
+}
+
+/// A night whose table is digits; those that are not there are 0, and those too many stay, to be refused.
+fn read_night(operands: &str) -> Option<Night> {
+    let (operands, digits) = operands.split_once(" outcomes=")?;
+    let [node, budget] = numbers(operands, ["node", "budget"])?;
+    let digit = |digit: u8| digit.is_ascii_digit().then(|| digit - b'0');
+    let mut outcomes = digits.bytes().map(digit).collect::<Option<Vec<u8>>>()?;
+    outcomes.resize(outcomes.len().max(OUTCOMES), 0);
+    Some(Night { node, budget, outcomes })
 }
 
 fn read_call(call: &str, operands: Option<&str>) -> Option<Request> {
@@ -126,6 +141,24 @@ pub fn explained(why: Result<Why, Refusal>) -> String {
     format!("answer={answer} reason={reason} named={named}\n")
 }
 
+/// The line that asks for a night. None asks with a number past 65,535, for a table that is too short, or with an outcome that is no
+/// digit.
+pub fn nightly(night: &Night) -> Option<String> {
+    let Night { node, budget, outcomes } = night;
+    let written = [node, budget].iter().all(|number| **number <= u16::MAX.into()) && outcomes.len() >= OUTCOMES;
+    let digits = outcomes.iter().map(|outcome| char::from_digit((*outcome).into(), 10)).collect::<Option<String>>()?;
+    written.then(|| format!("call=night node={node} budget={budget} outcomes={digits}\n"))
+}
+
+/// The line that a night, or the refusal of one, is printed as.
+pub fn passed(passed: Result<Passed, Refusal>) -> String {
+    let (answer, jobs, stopped) = match passed {
+        Ok(passed) => (0, passed.jobs.len(), passed.stopped.number()),
+        Err(refusal) => (refusal.number(), 0, 0),
+    };
+    format!("answer={answer} jobs={jobs} stopped={stopped}\n")
+}
+
 /// The closing line: both heads' revision and ordinal.
 pub fn closing(state: &State) -> String {
     format!(
@@ -144,6 +177,7 @@ pub fn stepped(input: &[u8]) -> String {
         output.push_str(&match read(line) {
             Some(Line::Call(request)) => written(&act(&mut state, &request)),
             Some(Line::Why(question)) => explained(state.why(question)),
+            Some(Line::Night(night)) => passed(state.night(&night)),
             None => written(&Served { reply: Err(Refusal::OutOfRange), rule: None }),
         });
     }

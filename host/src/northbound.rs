@@ -3,6 +3,7 @@
 use crate::controller::{Event, Node, Number, Refusal, State};
 use crate::image;
 use crate::jobs::Rule;
+use crate::night::{Night, Passed};
 
 /// A call of the C interface that changes an image, its numbers as wide as they are there.
 #[derive(Clone, PartialEq, Eq, Hash, Debug)]
@@ -123,6 +124,26 @@ pub fn serve(image: &mut [u8], request: &Request) -> Served {
         store(&state, request, image);
     }
     served
+}
+
+/// Carries a night out on an image, with room for its events, and answers the packed reply.
+pub fn night(image: &mut [u8], night: &Night, room: &mut [u8]) -> u64 {
+    let Some(mut state) = image::decode(image) else {
+        return Refusal::NotWellFormed.number().into();
+    };
+    let passed = state.night(night);
+    store_night(&state, &passed, image, room)
+}
+
+/// Writes the state that a night led to over the image before it, and its events into the room. A refused one writes nothing.
+pub fn store_night(state: &State, passed: &Result<Passed, Refusal>, image: &mut [u8], room: &mut [u8]) -> u64 {
+    match passed {
+        Ok(passed) => {
+            image::encode(state, image);
+            passed.packed(passed.show(room))
+        }
+        Err(refusal) => refusal.number().into(),
+    }
 }
 
 /// Writes an image's live list into the room and answers its length, packed; room past the list stays.
