@@ -1,5 +1,6 @@
 //! The numbers that the C interface's functions take: what each means, and how one that is too great is made.
 
+use crate::night::Night;
 use crate::northbound::Request;
 use crate::reads::Query;
 use crate::why::Question;
@@ -15,10 +16,11 @@ pub enum Argument {
     Table,
     Path,
     Field,
+    Budget,
 }
 
 impl Argument {
-    pub const ALL: [Argument; 8] = [
+    pub const ALL: [Argument; 9] = [
         Argument::Node,
         Argument::Job,
         Argument::Number,
@@ -27,6 +29,7 @@ impl Argument {
         Argument::Table,
         Argument::Path,
         Argument::Field,
+        Argument::Budget,
     ];
 }
 
@@ -63,6 +66,12 @@ impl Query {
                 vec![(Argument::Node, node), (Argument::Job, job), (Argument::Number, number)]
             }
         }
+    }
+}
+
+impl Night {
+    pub fn numbers(&mut self) -> Numbers<'_> {
+        vec![(Argument::Node, &mut self.node), (Argument::Budget, &mut self.budget)]
     }
 }
 

@@ -1,6 +1,7 @@
 //! Wrong copies of one rule, to show that the comparison finds them. Only the comparison asks for one.
-//! Those of the calls from outside, of the order of refusals and of reasons are in the modules below.
+//! Those of the calls from outside, of nights, of the order of refusals and of reasons are in the modules below.
 
+pub mod night;
 pub mod order;
 pub mod outside;
 pub mod why;
@@ -11,8 +12,10 @@ use crate::controller::{
 };
 use crate::image::{self, at, entry, entry_at, entry_at_mut, ENTRY};
 use crate::jobs::Rule;
+use crate::night::{Night, Passed};
 use crate::northbound::{self, act, Answer, Request, Served};
 use crate::reads::Query;
+use self::night::Lapse;
 use order::{Call, Swapped};
 use outside::Slip;
 use why::Guess;
@@ -85,6 +88,8 @@ pub enum Fault {
     Swapped(Call, u8, u8),
     /// A reason is given where it is not the one (order 4).
     Why(Guess),
+    /// A night passes otherwise (order 2).
+    Night(Lapse),
     /// Nothing is wrong. None of those that must be found: it shows that one which is not found is told.
     Harmless,
 }
@@ -109,6 +114,7 @@ impl Fault {
         all.extend(Slip::ALL.iter().copied().map(Fault::Outside));
         all.extend(Swapped::all().map(|Swapped(call, first, then)| Fault::Swapped(call, first, then)));
         all.extend(Guess::all().into_iter().map(Fault::Why));
+        all.extend(Lapse::all().into_iter().map(Fault::Night));
         all
     }
 
@@ -138,6 +144,51 @@ impl Fault {
             _ => None,
         };
         other.map_or(served, |refusal| Served { reply: Err(refusal), ..served })
+    }
+
+    /// Whether it is one of nights alone: no call or read shows it.
+    pub fn is_of_nights(self) -> bool {
+        matches!(self, Fault::Night(_) | Fault::Narrowed(Argument::Budget, _) | Fault::Swapped(Call::Night, ..))
+    }
+
+    /// As `State::night`, with this fault in it; where there is no state, of bytes that are no image.
+    pub fn night(self, state: Option<&mut State>, night: &Night) -> Result<Passed, Refusal> {
+        let Some(state) = state else {
+            return Err(self.refused_night(None, night, Refusal::NotWellFormed));
+        };
+        let before = state.clone();
+        let passed = match self {
+            Fault::Night(lapse) => lapse.night(state, night),
+            Fault::Narrowed(argument, bits) => {
+                let mut narrowed = night.clone();
+                narrow(narrowed.numbers(), argument, bits);
+                state.night(&narrowed)
+            }
+            _ => state.night(night),
+        };
+        passed.map_err(|refusal| self.refused_night(Some(&before), night, refusal))
+    }
+
+    fn refused_night(self, before: Option<&State>, night: &Night, refusal: Refusal) -> Refusal {
+        match self {
+            Fault::Swapped(call, first, then) => Swapped(call, first, then).night(before, night, refusal),
+            _ => refusal,
+        }
+    }
+
+    /// As `northbound::store_night`, with this fault in it.
+    pub fn store_night(self, state: &State, passed: &Passed, image: &mut [u8], room: &mut [u8]) -> u64 {
+        match self {
+            Fault::Night(lapse) => lapse.store(state, passed, image, room),
+            _ => northbound::store_night(state, passed, image, room),
+        }
+    }
+
+    /// What a refused night does to the room, with this fault in it.
+    pub fn refuse_night(self, room: &mut [u8]) {
+        if let Fault::Night(lapse) = self {
+            lapse.refused(room);
+        }
     }
 
     /// The faults of single rules.

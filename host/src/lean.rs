@@ -9,6 +9,7 @@ use crate::controller::{
 };
 use crate::image::{self, at, entry, put_u16, put_u32, u16_at, u32_at, ENTRY, LENGTH};
 use crate::jobs::{ranged, Job, Outcome, Work};
+use crate::night::EVENT;
 use crate::northbound::{Answer, Request, Served};
 use crate::reads::{Query, CONNECTION_FIELDS, RECORD_FIELDS, TRANSACTION_FIELDS};
 use crate::why::{Question, Reason};
@@ -758,9 +759,6 @@ fn night(
     let stopped = refused.map_or(2, u64::from);
     stopped << 8 | (jobs as u64) << 16 | (jobs.min(events.len() / EVENT) as u64) << 32
 }
-
-/// The length of an event in a night's room.
-pub const EVENT: usize = 16;
 
 fn put_event(events: &mut [u8], place: usize, event: Option<Event>) {
     if let Some(bytes) = events.chunks_exact_mut(EVENT).nth(place) {

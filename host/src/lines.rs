@@ -141,7 +141,7 @@ pub fn explained(why: Result<Why, Refusal>) -> String {
     format!("answer={answer} reason={reason} named={named}\n")
 }
 
-/// The line that asks for a night. None asks with a number past 65,535, for a table that is too short, or with an outcome that is no
+/// The line that asks for a night. None asks with a number past 65,535, or with a table that is too short or holds what is no
 /// digit.
 pub fn nightly(night: &Night) -> Option<String> {
     let Night { node, budget, outcomes } = night;

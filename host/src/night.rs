@@ -80,7 +80,7 @@ impl Passed {
         records.map(|(record, done)| record.copy_from_slice(&recorded(done.event))).count()
     }
 
-    /// The reply as one number: the answer, which is 0, why it stopped, the jobs, and in the upper half how many events are shown.
+    /// The reply as one number: the answer, which is 0, why it stopped, the jobs, and in the upper half the events shown.
     pub fn packed(&self, shown: usize) -> u64 {
         u64::from(self.stopped.number()) << 8 | (self.jobs.len() as u64) << 16 | (shown as u64) << 32
     }

@@ -131,19 +131,16 @@ pub fn night(image: &mut [u8], night: &Night, room: &mut [u8]) -> u64 {
     let Some(mut state) = image::decode(image) else {
         return Refusal::NotWellFormed.number().into();
     };
-    let passed = state.night(night);
-    store_night(&state, &passed, image, room)
-}
-
-/// Writes the state that a night led to over the image before it, and its events into the room. A refused one writes nothing.
-pub fn store_night(state: &State, passed: &Result<Passed, Refusal>, image: &mut [u8], room: &mut [u8]) -> u64 {
-    match passed {
-        Ok(passed) => {
-            image::encode(state, image);
-            passed.packed(passed.show(room))
-        }
+    match state.night(night) {
+        Ok(passed) => store_night(&state, &passed, image, room),
         Err(refusal) => refusal.number().into(),
     }
+}
+
+/// Writes the state that a night led to over the image before it, shows its events in the room, and answers the packed reply.
+pub fn store_night(state: &State, passed: &Passed, image: &mut [u8], room: &mut [u8]) -> u64 {
+    image::encode(state, image);
+    passed.packed(passed.show(room))
 }
 
 /// Writes an image's live list into the room and answers its length, packed; room past the list stays.

@@ -1,7 +1,8 @@
-//! Random calls: those that a host would make from a state, and any whatever; and jobs to ask after.
+//! Random calls: those that a host would make from a state, and any whatever; jobs to ask after, and nights.
 
 use crate::arguments::{Numbers, Wide};
 use crate::controller::{Number, Ordinal, State, Status, Term};
+use crate::night::{Night, BUDGET_LIMIT, OUTCOMES};
 use crate::northbound::{bytes_of, Request};
 use crate::random::Random;
 use crate::why::Question;
@@ -224,6 +225,37 @@ pub fn any_question(state: &State, random: &mut Random) -> Question {
     };
     let job = if random.once_in(12) { random.one_of(&[0, 5, 256, 257, 65535]) } else { random.between(1, 4) as u64 };
     Question { node, job, number: any_number(state, random) }
+}
+
+/// A table for a night: all accepted, or some rejected, or all.
+pub fn table(random: &mut Random) -> Vec<u8> {
+    let rejected_one_in = random.one_of(&[1, 2, 4, 16]);
+    match random.below(3) {
+        0 => vec![0; OUTCOMES],
+        _ => (0..OUTCOMES).map(|_| random.once_in(rejected_one_in).into()).collect(),
+    }
+}
+
+/// A night, mostly one of the master's; now and then by no node, past the budget's limit, or with a table that is none.
+pub fn any_night(state: &State, random: &mut Random) -> Night {
+    let node = any_question(state, random).node;
+    let enough = 6 * state.log.len();
+    let budget = match random.below(8) {
+        0 => 0,
+        1 => BUDGET_LIMIT,
+        2 => enough as u64,
+        3 if random.once_in(3) => random.one_of(&[BUDGET_LIMIT - 1, BUDGET_LIMIT + 1, 65_535]),
+        4 => random.below(enough + 1) as u64,
+        _ => random.below(9) as u64,
+    };
+    let mut night = Night { node, budget, outcomes: table(random) };
+    match random.below(24) {
+        0 => night.outcomes.resize(random.one_of(&[0, 1, OUTCOMES - 1, OUTCOMES + 1, 2 * OUTCOMES]), 0),
+        1 => night.outcomes[random.one_of(&[0, OUTCOMES / 2, OUTCOMES - 1])] = random.one_of(&[2, 255]),
+        2 => widen(night.numbers(), random),
+        _ => {}
+    }
+    night
 }
 
 /// Bytes for an append that are seldom a valid change.

@@ -4,6 +4,7 @@ use crate::arguments::Argument;
 use crate::controller::{ConfigurationState, Number, Ordinal, Refusal, State, Term};
 use crate::controller::Node;
 use crate::image::{self, at};
+use crate::night::Night;
 use crate::northbound::{self, act, bytes_of, Request};
 use crate::reads::Query;
 use crate::why::Question;
@@ -27,10 +28,11 @@ pub enum Call {
     Record,
     Connection,
     Why,
+    Night,
 }
 
 /// The refusals of each call in their order: the paper's, with 9 in append, 17 and 18 as order 10 puts them, 15 as order 4.
-pub const ORDERS: [(Call, &[u8]); 16] = [
+pub const ORDERS: [(Call, &[u8]); 17] = [
     (Call::Append, &[1, 3, 4, 9]),
     (Call::Rollback, &[1, 5, 18, 6]),
     (Call::Start, &[1, 7, 9]),
@@ -47,6 +49,7 @@ pub const ORDERS: [(Call, &[u8]); 16] = [
     (Call::Record, &[1, 2]),
     (Call::Connection, &[1, 2]),
     (Call::Why, &[1, 2, 5, 18, 10, 15]),
+    (Call::Night, &[1, 2, 10]),
 ];
 
 /// A neighbouring pair of a call's refusals: where both hold, the later one is answered.
@@ -88,6 +91,17 @@ impl Swapped {
         let Swapped(call, first, then) = self;
         let mut state = repaired(bytes).filter(|_| call_of(request) == Some(call) && first == 1)?;
         act(&mut state, request).reply.err().filter(|refusal| refusal.number() == then)
+    }
+
+    /// The refusal of a night, with this order; where there is no state, of bytes that are no image.
+    pub fn night(self, before: Option<&State>, night: &Night, refusal: Refusal) -> Refusal {
+        let Swapped(call, first, _) = self;
+        let is_master = |state: &State| state.mastership.master.is_some_and(|master| u64::from(master.number()) == night.node);
+        match (call, first, before) {
+            (Call::Night, 1, None) if night.ranged().is_none() => Refusal::OutOfRange,
+            (Call::Night, 2, Some(state)) if !is_master(state) => Refusal::NotMaster,
+            _ => refusal,
+        }
     }
 
     /// As a live list is answered, with this order.

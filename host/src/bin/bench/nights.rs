@@ -2,10 +2,11 @@
 
 use crate::measure::{Figure, Measured};
 use crate::scenes::{applied_after, led, work};
-use makowist_host::controller::{State, LOG_LIMIT};
+use makowist_host::controller::State;
 use makowist_host::image::{self, LENGTH};
 use makowist_host::jobs::Outcome;
-use makowist_host::lean::{self, Outcomes, EVENT};
+use makowist_host::lean::{self, Outcomes};
+use makowist_host::night::{self, EVENT, OUTCOMES};
 use makowist_host::northbound::{bytes_of, Request};
 use makowist_host::peer;
 
@@ -35,8 +36,7 @@ pub struct Night {
     length: usize,
     state: State,
     image: Vec<u8>,
-    budget: u64,
-    outcomes: [u8; 2 * LOG_LIMIT],
+    asked: night::Night,
     typed: Outcomes,
 }
 
@@ -67,9 +67,9 @@ impl Measured for Night {
     fn run(&self, side: Side, ground: &mut Ground) -> u64 {
         let Ground { image, state, events } = ground;
         match side {
-            Side::Proved => peer::night(image, 1, self.budget, &self.outcomes, events),
-            Side::AsRead => lean::night_as_read(state, 1, self.budget, &self.typed, events),
-            Side::Skipping => lean::night_skipping(state, 1, self.budget, &self.typed, events),
+            Side::Proved => peer::night(image, &self.asked, &self.asked.outcomes, events),
+            Side::AsRead => lean::night_as_read(state, 1, self.asked.budget, &self.typed, events),
+            Side::Skipping => lean::night_skipping(state, 1, self.asked.budget, &self.typed, events),
             Side::Decoded => self.decoded(image, events),
             Side::Nothing => 0,
         }
@@ -85,16 +85,17 @@ impl Night {
     fn new(name: &'static str, length: usize, state: State, rejects: impl Fn(usize) -> bool) -> Night {
         let mut image = vec![0; LENGTH];
         image::encode(&state, &mut image);
-        let outcomes = std::array::from_fn(|place| rejects(place).into());
+        let outcomes = (0..OUTCOMES).map(|place| rejects(place).into()).collect();
+        let asked = night::Night { node: 1, budget: BUDGET, outcomes };
         let outcome = |place: usize| if rejects(place) { Outcome::Rejected } else { Outcome::Accepted };
         let typed = std::array::from_fn(|place| [outcome(2 * place), outcome(2 * place + 1)]);
-        Night { name, length, state, image, budget: BUDGET, outcomes, typed }
+        Night { name, length, state, image, asked, typed }
     }
 
     #[inline(never)]
     fn decoded(&self, image: &mut [u8], events: &mut [u8]) -> u64 {
         let mut state = image::decode(image).expect("a well-formed image");
-        let reply = lean::night_skipping(&mut state, 1, self.budget, &self.typed, events);
+        let reply = lean::night_skipping(&mut state, 1, self.asked.budget, &self.typed, events);
         image::encode(&state, image);
         reply
     }
@@ -143,7 +144,7 @@ fn undoing(state: State, length: usize) -> State {
 pub fn nights(length: usize) -> Vec<Night> {
     let never = |_: usize| false;
     let mut no_budget = Night::new("waiting, a budget of 0", length, waiting(0, length, 4), never);
-    no_budget.budget = 0;
+    no_budget.asked.budget = 0;
     vec![
         Night::new("waiting, 1 pair", length, waiting(0, length, 1), never),
         Night::new("waiting, 4 pairs", length, waiting(0, length, 4), never),

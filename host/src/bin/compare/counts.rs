@@ -1,6 +1,7 @@
 //! What a comparison has seen: calls, replies, and rules taken, whole and cut. Something not seen is a failure.
 
 use crate::folds;
+use crate::nights;
 use crate::retries;
 use crate::whys;
 use crate::wide;
@@ -30,6 +31,8 @@ pub struct Counts {
     pub folds: folds::Seen,
     /// Reasons that were given, and why none was (order 4).
     pub whys: whys::Seen,
+    /// What order 2 brings.
+    pub nights: nights::Seen,
     /// Numbers of more than 16 bits, and rooms by the byte.
     pub wide: wide::Seen,
     /// By what is read: how often each table, field or reason was shown.
@@ -112,6 +115,7 @@ impl Counts {
         let unseen_retries = self.retries.told();
         let unseen_folds = self.folds.told();
         let unseen_whys = self.whys.told();
+        let unseen_nights = self.nights.told();
         let unseen_wide = self.wide.told();
         let unseen_reads = self.told_reads();
         println!("{:>12}  {:>12}  rule", "whole", "cut");
@@ -124,6 +128,7 @@ impl Counts {
         let rules = self.rules.iter().filter(|[whole, cut]| whole + cut > 0).count();
         println!("rules seen: {rules} of {}; refusals seen: {refusals} of {}", Rule::ALL.len(), Refusal::ALL.len());
         let unseen = [self.states, self.freed, self.migrations].iter().filter(|count| **count == 0).count();
-        unseen + unseen_answers + unseen_rules + unseen_reads + unseen_retries + unseen_folds + unseen_whys + unseen_wide
+        let unseen_orders = unseen_retries + unseen_folds + unseen_whys + unseen_nights;
+        unseen + unseen_answers + unseen_rules + unseen_reads + unseen_orders + unseen_wide
     }
 }

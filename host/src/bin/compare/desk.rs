@@ -23,7 +23,7 @@ pub struct Difference {
 }
 
 impl Difference {
-    fn of_call(text: String) -> Difference {
+    pub fn of_call(text: String) -> Difference {
         Difference { text, is_of_retry: false }
     }
 
@@ -40,19 +40,19 @@ impl fmt::Display for Difference {
 
 pub type Compared<T> = Result<T, Difference>;
 
-/// What lies in room before the live list is written there.
-const UNWRITTEN: u8 = 0xab;
+/// What lies in room before the live list, or a night's events, are written there.
+pub const UNWRITTEN: u8 = 0xab;
 
 /// The most bytes of room that a live list is lent, past the longest list.
 pub const MOST_ROOM: usize = 2 * LOG_LIMIT + 5;
 
 pub struct Desk {
     lent: Guarded,
-    lent_pairs: Guarded,
-    lent_room: Guarded,
-    lent_copy: Guarded,
+    pub lent_pairs: Guarded,
+    pub lent_room: Guarded,
+    pub lent_copy: Guarded,
     pub edge: Edge,
-    fault: Option<Fault>,
+    pub fault: Option<Fault>,
     pub counts: Counts,
     /// Whether the states that calls are made from are such as a session leads to.
     pub reached: bool,
@@ -88,6 +88,11 @@ impl Desk {
     /// Whether there is no fault put in, or one of a reason: no other shows in a chosen state's reasons.
     pub fn asks_for_reasons(&self) -> bool {
         matches!(self.fault, None | Some(Fault::Why(_)))
+    }
+
+    /// Whether there is no fault put in, or one of nights.
+    pub fn works_through_nights(&self) -> bool {
+        self.fault.map_or(true, Fault::is_of_nights)
     }
 
     /// Whether the comparison's time is up.
@@ -354,7 +359,7 @@ fn same_bytes(expected: &[u8], found: &[u8]) -> Compared<()> {
 }
 
 /// The image after the call as the independent controller has it, for the reader of a difference.
-fn shown(bytes: &[u8]) -> String {
+pub fn shown(bytes: &[u8]) -> String {
     match image::decode(bytes) {
         Some(state) => format!("  independent state after the call: {state:?}"),
         None => format!("  {} bytes that are no image", bytes.len()),

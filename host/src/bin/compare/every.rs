@@ -2,11 +2,13 @@
 //! fresh, and from where so many are folded that the ring's end, or the last number, is near.
 
 use crate::desk::{Compared, Desk};
+use crate::nights;
 use crate::sessions::opened;
 use makowist_host::arguments::Wide;
 use makowist_host::controller::{Number, State};
 use makowist_host::guarded::Edge;
 use makowist_host::northbound::{bytes_of, Request};
+use makowist_host::random::Random;
 use makowist_host::reads::Query;
 use makowist_host::requests::numbers;
 use std::collections::HashSet;
@@ -17,6 +19,9 @@ const CHANGES: [&[(u16, u16)]; 5] =
 
 /// Of how many states one is read whole.
 const READ_ONE_IN: usize = 15;
+
+/// From how many states one night is worked through.
+const NIGHT_ONE_IN: usize = 4;
 
 /// The last folds from which a second append goes round the ring's end, and past the last number.
 const BEFORE_THE_RINGS_END: Number = Number(127);
@@ -36,6 +41,7 @@ pub fn run(desk: &mut Desk, transactions: usize) -> Compared<bool> {
 
 /// Walks breadth first, comparing every call from every state.
 fn walk(desk: &mut Desk, folded: Number, transactions: usize) -> Compared<bool> {
+    let mut random = Random::new(2);
     let mut seen = HashSet::new();
     let mut level = vec![opened(desk, folded)?];
     seen.insert(level[0].0.clone());
@@ -58,6 +64,9 @@ fn walk(desk: &mut Desk, folded: Number, transactions: usize) -> Compared<bool> 
                 for query in queries(state) {
                     desk.query(Some(state), bytes, query)?;
                 }
+            }
+            if place % NIGHT_ONE_IN == 0 {
+                nights::enough(desk, state, bytes, &mut random)?;
             }
             desk.counts.states += 1;
         }

@@ -1,5 +1,6 @@
 //! Holds the proved controller and the independent one together, call by call, reply and every byte; each of them to what order 3
-//! promises, at every job that is cut; and the proved one to what order 4 does, at every job that is answered 11 or asked after.
+//! promises, at every job that is cut; and the proved one to what order 4 does, at every job that is answered 11 or asked after, and
+//! to what order 2 does, at every night.
 //!
 //! Arguments, each `name=value`, in any order:
 //!
@@ -13,13 +14,14 @@
 //! - `overrun=End`, `overrun=Begin`: write the byte outside that edge of a lent slice, which must end the program
 //!
 //! Ends with 0 where there is no difference and no count is 0: every answer, every rule, whole and cut and called again, every
-//! reason of every job, every read, every argument too great in every way.
+//! reason of every job, every read, every way for a night to pass, every argument too great in every way.
 
 mod counts;
 mod desk;
 mod every;
 mod folds;
 mod long;
+mod nights;
 mod outside;
 mod retries;
 mod sessions;
@@ -92,7 +94,8 @@ fn compare(desk: &mut Desk, sizes: &Sizes, seed: u64, tells: bool) -> Compared<(
     let told = |what: &str, desk: &Desk| {
         if tells {
             let (calls, reads, retries) = (desk.counts.calls, desk.counts.reads, desk.counts.retries.retries());
-            println!("compare: {what}; {calls} calls, {reads} reads and {retries} retries so far");
+            let (nights, seconds) = (desk.counts.nights.nights, desk.seconds());
+            println!("compare: {what}; {calls} calls, {reads} reads, {retries} retries and {nights} nights so far, {seconds} s");
         }
     };
     let mut random = Random::new(seed);
@@ -101,6 +104,10 @@ fn compare(desk: &mut Desk, sizes: &Sizes, seed: u64, tells: bool) -> Compared<(
     if desk.asks_for_reasons() {
         waiting::run(desk)?;
         told("every reason from chosen states", desk);
+    }
+    if desk.works_through_nights() {
+        nights::run(desk)?;
+        told("nights from chosen states and short sessions", desk);
     }
     if !desk.waits_for_a_retry() {
         outside::run(desk)?;
@@ -150,10 +157,11 @@ fn compare_for(arguments: &Arguments, fault: Option<Fault>) -> bool {
     }
     let unseen = desk.counts.told();
     println!(
-        "compare: {} calls, {} reads, {} retries and {} states compared in {} s, 0 differences, {unseen} kinds never seen",
+        "compare: {} calls, {} reads, {} retries, {} nights and {} states compared in {} s, 0 differences, {unseen} kinds never seen",
         desk.counts.calls,
         desk.counts.reads,
         desk.counts.retries.retries(),
+        desk.counts.nights.nights,
         desk.counts.states,
         desk.seconds()
     );

@@ -53,10 +53,20 @@ fn every_call(desk: &mut Desk, state: &State, requests: &[Request]) -> Compared<
     Ok(())
 }
 
+/// The logs with each of a few nets.
+pub fn states() -> impl Iterator<Item = State> {
+    logs().into_iter().flat_map(|log| few_nets().map(|net| with_net(&log, net)))
+}
+
+/// Makes the master of an image no node.
+pub fn spoil(bytes: &mut [u8]) {
+    bytes[at::MASTERSHIP] = NO_NODE;
+}
+
 /// The same image with a master that is no node: whatever is asked of it, the answer is 1.
 fn damaged(desk: &mut Desk, state: &State) -> Compared<()> {
     let mut bytes = lent(desk, state);
-    bytes[at::MASTERSHIP] = NO_NODE;
+    spoil(&mut bytes);
     desk.lend(&bytes);
     for request in log_requests(state).iter().chain(&net_requests()) {
         desk.call_from_bytes(None, &bytes, request)?;

@@ -2,6 +2,7 @@
 //! from call to call, so that a fault of the codec cannot hide one of the rules.
 
 use crate::desk::{Compared, Desk, MOST_ROOM};
+use crate::nights;
 use makowist_host::controller::{Number, Ordinal, State, PATHS};
 use makowist_host::image::{self, LENGTH};
 use makowist_host::northbound::Request;
@@ -11,6 +12,9 @@ use makowist_host::requests::{change, sensible, wild};
 
 /// The calls of a long session, which takes the numbers round the ring more than once.
 const LONG: usize = 12_000;
+
+/// Of how many calls one is followed by a night.
+const NIGHT_ONE_IN: usize = 40;
 
 /// A controller with the line open for node 1. Where a last fold is named, all up to it was set, applied and folded.
 pub fn opened(desk: &mut Desk, folded: Number) -> Compared<(State, Vec<u8>)> {
@@ -83,6 +87,13 @@ fn session(desk: &mut Desk, random: &mut Random) -> Compared<()> {
         }
         if random.once_in(8) {
             desk.query(Some(&state), &bytes, Query::any(&state, random))?;
+        }
+        if random.once_in(NIGHT_ONE_IN) {
+            let passed = nights::any(desk, &state, &bytes, random)?;
+            if let Some((after, after_bytes)) = passed.filter(|_| random.once_in(2)) {
+                (state, bytes) = (after, after_bytes);
+                desk.lend(&bytes);
+            }
         }
     }
     Ok(())

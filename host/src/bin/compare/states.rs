@@ -1,6 +1,7 @@
 //! Calls from well-formed states that no session reaches, and from damaged images.
 
 use crate::desk::{Compared, Desk, MOST_ROOM};
+use crate::nights;
 use makowist_host::controller::{
     Applied, Change, Committed, Configuration, ConfigurationState, Connection, Mastership, Node, Number, Ordinal, Phase,
     Progress, State, Status, Target, Term, Transaction, Values,
@@ -10,7 +11,7 @@ use makowist_host::image::{self, at, entry, put_u16, put_u32, slot, u16_at, ENTR
 use makowist_host::northbound::{pairs_of, Request};
 use makowist_host::random::Random;
 use makowist_host::reads::Query;
-use makowist_host::requests::{any_number, change, wild};
+use makowist_host::requests::{any_night, any_number, change, wild};
 
 /// Compares so many calls from states that are well-formed and otherwise arbitrary.
 pub fn unreached(desk: &mut Desk, calls: u64, random: &mut Random) -> Compared<()> {
@@ -33,8 +34,19 @@ pub fn unreached(desk: &mut Desk, calls: u64, random: &mut Random) -> Compared<(
         for _ in 0..8 {
             desk.query(Some(&state), &bytes, Query::any(&state, random))?;
         }
+        if random.once_in(2) {
+            nights::any(desk, &state, &bytes, random)?;
+        }
     }
     Ok(())
+}
+
+/// A state that is well-formed and otherwise arbitrary, and its image.
+pub fn made_up(random: &mut Random) -> (State, Vec<u8>) {
+    let focus = Focus::new(random);
+    let state = focus.state(random);
+    let bytes = focus.image(&state, random);
+    (state, bytes)
 }
 
 /// Compares so many calls from images with a byte, a field, the length or everything damaged.
@@ -63,6 +75,8 @@ pub fn damaged(desk: &mut Desk, calls: u64, random: &mut Random) -> Compared<()>
         for _ in 0..4 {
             desk.query(decoded.as_ref(), &bytes, Query::any(&state, random))?;
         }
+        let night = any_night(&state, random);
+        nights::night(desk, decoded.as_ref(), &bytes, &night, random.one_of(&nights::Room::ALL))?;
     }
     Ok(())
 }

@@ -1,15 +1,17 @@
 //! Numbers of more than 16 bits, in every argument of every function, and rooms that are a byte too short or too long.
 
 use crate::desk::{Compared, Desk};
+use crate::nights;
 use crate::sessions::opened;
 use makowist_host::arguments::{Argument, Numbers, Wide};
 use makowist_host::controller::{Number, Refusal, State, NODES, PATHS};
+use makowist_host::night::{Night, BUDGET_LIMIT, OUTCOMES};
 use makowist_host::northbound::{bytes_of, Request};
 use makowist_host::reads::{Query, CONNECTION_FIELDS, RECORD_FIELDS, TABLES, TRANSACTION_FIELDS};
 use std::ops::RangeInclusive;
 
 /// The functions that take numbers, each with its arguments in their order.
-const FUNCTIONS: [(&str, &[Argument]); 12] = [
+const FUNCTIONS: [(&str, &[Argument]); 13] = [
     ("rollback", &[Argument::Number]),
     ("fold", &[Argument::Number]),
     ("connect", &[Argument::Node]),
@@ -22,6 +24,7 @@ const FUNCTIONS: [(&str, &[Argument]); 12] = [
     ("record", &[Argument::Field]),
     ("connection", &[Argument::Node, Argument::Field]),
     ("why", &[Argument::Node, Argument::Job, Argument::Number]),
+    ("night", &[Argument::Node, Argument::Budget]),
 ];
 
 /// The most arguments that a function has.
@@ -66,6 +69,13 @@ impl Seen {
             Query::Why(_) => 11,
         };
         self.saw(function, state, query.numbers(), answer);
+    }
+
+    pub fn worked_through(&mut self, state: &State, night: &Night, answer: u64) {
+        let table_in_range = night.outcomes.len() == OUTCOMES && night.outcomes.iter().all(|outcome| *outcome <= 1);
+        if table_in_range {
+            self.saw(12, state, night.clone().numbers(), answer);
+        }
     }
 
     /// Counts a call that is refused for one wide number, all its others being in range.
@@ -129,6 +139,7 @@ fn in_range(function: &str, argument: Argument, state: &State) -> RangeInclusive
         Argument::Field if function == "transaction" => 1..=TRANSACTION_FIELDS,
         Argument::Field if function == "record" => 1..=RECORD_FIELDS,
         Argument::Field => 1..=CONNECTION_FIELDS,
+        Argument::Budget => 0..=BUDGET_LIMIT,
     }
 }
 
@@ -152,7 +163,7 @@ pub fn run(desk: &mut Desk) -> Compared<()> {
     Ok(())
 }
 
-/// Every call that is in range from a state, with each of its numbers made wide in each way; and every read so.
+/// Every call that is in range from a state, with each of its numbers made wide in each way; every read so, and a night.
 pub fn every(desk: &mut Desk, state: &State, bytes: &[u8]) -> Compared<()> {
     for request in requests(state).iter().flat_map(|request| widened(request, Request::numbers)) {
         desk.call_from(state, bytes, &request)?;
@@ -160,11 +171,11 @@ pub fn every(desk: &mut Desk, state: &State, bytes: &[u8]) -> Compared<()> {
     for query in Query::all(state).iter().flat_map(|query| widened(query, Query::numbers)) {
         desk.query(Some(state), bytes, query)?;
     }
-    Ok(())
+    nights::widened(desk, state, bytes)
 }
 
 /// The call with each of its numbers made wide in each way.
-fn widened<T: Clone>(call: &T, numbers: impl Fn(&mut T) -> Numbers) -> Vec<T> {
+pub fn widened<T: Clone>(call: &T, numbers: impl Fn(&mut T) -> Numbers) -> Vec<T> {
     let mut all = Vec::new();
     for place in 0..numbers(&mut call.clone()).len() {
         for wide in Wide::ALL {
