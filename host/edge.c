@@ -1,5 +1,5 @@
 /* edge.c: what makowist.h promises at its edges, held from C: nothing lent, numbers of more than 16 bits in every argument,
- * names, pairs that have no 16 bits, the list in bytes, and reasons with what they name.
+ * names, pairs that have no 16 bits, the list in bytes, reasons with what they name, and nights with their events.
  *
  * What is lent is from the heap and as long as is said, so that the tools that watch memory see a byte too many. Ends with 1
  * at the first promise that does not hold. */
@@ -69,6 +69,10 @@ static uint64_t connection(uint8_t *image, size_t length, const uint64_t *n) {
 static uint64_t why(uint8_t *image, size_t length, const uint64_t *n) {
     return makowist_why(image, length, n[0], n[1], n[2]);
 }
+static uint64_t night(uint8_t *image, size_t length, const uint64_t *n) {
+    static const uint8_t outcomes[MAKOWIST_OUTCOMES];
+    return makowist_night(image, length, n[0], n[1], outcomes, sizeof outcomes, NULL, 0);
+}
 
 /* The image's log has FOLDED folded and two more, LAST the last: both bytes of its numbers are used. */
 enum { FOLDED = 256, LAST = 258 };
@@ -102,6 +106,7 @@ static const struct call calls[] = {
     {"record", record, 1, {MAKOWIST_LAST_FOLD}, {RANGE}},
     {"connection", connection, 2, {1, MAKOWIST_CONNECTION_ID}, {RANGE, RANGE}},
     {"why", why, 3, {1, 2, LAST}, {RANGE, RANGE, NUMBER}},
+    {"night", night, 2, {1, 8}, {RANGE, RANGE}},
 };
 enum { CALLS = sizeof calls / sizeof *calls };
 
@@ -323,6 +328,109 @@ static void reasons(const uint8_t *before) {
     free(image);
 }
 
+/* ---- Nights. */
+
+enum { JOBS = 8, EVENT = MAKOWIST_EVENT_LENGTH };
+
+/* Two changes behind LAST, the third and the fourth that are kept; the switch does not take the last. Their jobs, done one by
+ * one on the image, and what each replies. */
+static void by_day(uint8_t *image, uint64_t *replies) {
+    for (uint64_t k = 0; k < JOBS; ++k) {
+        replies[k] = makowist_work(image, LENGTH, 1, 1 + k % 4 / 2, LAST + 1 + k / 4, k == JOBS - 1, 0);
+        accepted(replies[k], "work");
+    }
+}
+
+static uint8_t *with_outcome(size_t length, size_t place, uint8_t outcome) {
+    uint8_t *outcomes = lent(length);
+    memset(outcomes, 0, length);
+    outcomes[place] = outcome;
+    return outcomes;
+}
+
+/* The night, in a room of so many bytes, leaves what its jobs have left and shows the first events that fit. */
+static void night_is(const uint8_t *before, size_t room, const uint8_t *after, const uint64_t *replies) {
+    uint8_t *image = copied(before, LENGTH), *events = room ? lent(room) : NULL;
+    uint8_t *outcomes = with_outcome(MAKOWIST_OUTCOMES, 7, 1);
+    if (room)
+        memset(events, 0xab, room);
+    uint64_t reply = makowist_night(image, LENGTH, 1, 64, outcomes, MAKOWIST_OUTCOMES, events, room);
+    size_t written = room / EVENT < JOBS ? room / EVENT : JOBS;
+    accepted(reply, "night");
+    hold(makowist_reply_jobs(reply) == JOBS, "night", "jobs", reply);
+    hold(makowist_reply_stopped(reply) == MAKOWIST_STOPPED_NOTHING_LEFT, "night", "stopped", reply);
+    hold(makowist_reply_events(reply) == written, "night", "events", reply);
+    hold(memcmp(image, after, LENGTH) == 0, "night", "leaves what its jobs leave", room);
+    for (size_t k = 0; k < written; ++k) {
+        hold(makowist_night_event(events, k, 0) == makowist_reply_phase(replies[k]), "night", "phase", k);
+        hold(makowist_night_event(events, k, 1) == makowist_reply_stage(replies[k]), "night", "stage", k);
+        hold(makowist_night_event(events, k, 2) == makowist_reply_number(replies[k]), "night", "number", k);
+        hold(makowist_night_event(events, k, 3) == makowist_reply_status(replies[k]), "night", "status", k);
+    }
+    for (size_t k = EVENT * written; k < room; ++k)
+        hold(events[k] == 0xab, "night", "room behind the events stays", k);
+    free(image);
+    free(events);
+    free(outcomes);
+}
+
+/* A night so refused writes no byte. The table's last outcome is this one, where the table has one. */
+static void night_refused(const uint8_t *before, uint64_t node, uint64_t budget, size_t length, uint8_t outcome,
+                          unsigned refusal) {
+    uint8_t *image = copied(before, LENGTH), room[EVENT];
+    uint8_t *outcomes = length ? with_outcome(length, length - 1, outcome) : NULL;
+    memset(room, 0xab, EVENT);
+    uint64_t reply = makowist_night(image, LENGTH, node, budget, outcomes, length, room, EVENT);
+    hold(reply == refusal, "night, refused", makowist_answer_name(refusal), reply);
+    hold(memcmp(image, before, LENGTH) == 0, "night, refused", "every byte as it was", reply);
+    for (size_t k = 0; k < EVENT; ++k)
+        hold(room[k] == 0xab, "night, refused", "the room stays", k);
+    reply = makowist_night(image, LENGTH - 1, node, budget, outcomes, length, room, EVENT);
+    hold(reply == MAKOWIST_NOT_WELL_FORMED, "night, refused", "no image", reply);
+    free(image);
+    free(outcomes);
+}
+
+/* Why a night of so many jobs, all outcomes accepted, stops. */
+static void night_stops(const uint8_t *before, uint64_t budget, unsigned jobs, unsigned stopped) {
+    uint8_t *image = copied(before, LENGTH);
+    const uint64_t n[] = {1, budget};
+    uint64_t reply = night(image, LENGTH, n);
+    accepted(reply, "night");
+    hold(makowist_reply_jobs(reply) == jobs, "night stops", "jobs", reply);
+    hold(makowist_reply_stopped(reply) == stopped, "night stops", "stopped", reply);
+    hold(makowist_reply_events(reply) == 0, "night stops", "no event without room", reply);
+    free(image);
+}
+
+static void nights(const uint8_t *before) {
+    uint8_t *image = copied(before, LENGTH), pair[MAKOWIST_PAIR_LENGTH];
+    uint64_t replies[JOBS];
+    makowist_put_pair(pair, 3, 7);
+    accepted(makowist_append(image, LENGTH, pair, sizeof pair), "append");
+    accepted(makowist_append(image, LENGTH, pair, sizeof pair), "append");
+    uint8_t *after = copied(image, LENGTH);
+    by_day(after, replies);
+    for (size_t room = 0; room <= EVENT * JOBS + 3 * EVENT; room += room % EVENT == 1 ? EVENT - 2 : 1)
+        night_is(image, room, after, replies);
+    night_stops(image, 0, 0, MAKOWIST_STOPPED_BUDGET_SPENT);
+    night_stops(image, JOBS - 1, JOBS - 1, MAKOWIST_STOPPED_BUDGET_SPENT);
+    night_stops(image, JOBS, JOBS, MAKOWIST_STOPPED_NOTHING_LEFT);
+    night_stops(image, MAKOWIST_BUDGET_LIMIT, JOBS, MAKOWIST_STOPPED_NOTHING_LEFT);
+    night_refused(image, 0, 8, MAKOWIST_OUTCOMES, 0, MAKOWIST_OUT_OF_RANGE);
+    night_refused(image, 2, MAKOWIST_BUDGET_LIMIT + 1, MAKOWIST_OUTCOMES, 0, MAKOWIST_OUT_OF_RANGE);
+    night_refused(image, 2, 8, 0, 0, MAKOWIST_OUT_OF_RANGE);
+    night_refused(image, 1, 8, MAKOWIST_OUTCOMES - 1, 0, MAKOWIST_OUT_OF_RANGE);
+    night_refused(image, 1, 8, MAKOWIST_OUTCOMES + 1, 0, MAKOWIST_OUT_OF_RANGE);
+    night_refused(image, 2, 8, MAKOWIST_OUTCOMES, 2, MAKOWIST_OUT_OF_RANGE);
+    night_refused(image, 2, 8, MAKOWIST_OUTCOMES, 1, MAKOWIST_NOT_MASTER);
+    accepted(makowist_disconnect(image, LENGTH, 1), "disconnect");
+    night_stops(image, JOBS, 5, MAKOWIST_STOPPED_NO_LINE);
+    night_stops(image, 5, 5, MAKOWIST_STOPPED_NO_LINE);
+    free(image);
+    free(after);
+}
+
 int main(void) {
     uint8_t *image = led();
     nothing_lent(image);
@@ -334,6 +442,7 @@ int main(void) {
     pairs(image);
     listed(image);
     reasons(image);
+    nights(image);
     free(image);
     printf("edge: %u checks hold\n", checks);
     return 0;

@@ -210,8 +210,8 @@ fn refusals_in_their_order() {
     assert_eq!(northbound::night(&mut image[1..], &night(8, &[]), &mut []), 1);
 }
 
-/// From every state of random sessions: the jobs called one by one, the count of them, the reason by what would go, and in six jobs
-/// for each kept one, with the line open, nothing left but covered rollbacks.
+/// From every state of random sessions: the jobs called one by one, the count of them, the reason by what would go; and behind six
+/// jobs for each kept one, with the line open, nothing left but covered rollbacks.
 #[test]
 fn a_night_is_the_jobs_that_it_does() {
     let mut random = Random::new(2);

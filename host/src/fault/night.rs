@@ -107,8 +107,8 @@ pub enum Lapse {
     ShownByEvents,
 }
 
-/// Orders of the jobs that show: 2 and 3 in a state that a session reaches, the others' pairs where none does. Jobs 1 and 2 of one
-/// number, and 3 and 4, never go together: 2 waits for a Complete c.commit, 4 for a Complete r.commit.
+/// Orders of the jobs that show: 2 and 3 in states that a session reaches, other pairs where none does. Jobs 1 and 2 of a number,
+/// and 3 and 4, never go together: 2 waits for a Complete c.commit, 4 for a Complete r.commit.
 const ORDERS: [[u64; 4]; 4] = [[1, 3, 2, 4], [2, 3, 1, 4], [1, 4, 2, 3], [4, 3, 2, 1]];
 
 impl Lapse {

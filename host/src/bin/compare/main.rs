@@ -1,6 +1,6 @@
 //! Holds the proved controller and the independent one together, call by call, reply and every byte; each of them to what order 3
-//! promises, at every job that is cut; and the proved one to what order 4 does, at every job that is answered 11 or asked after, and
-//! to what order 2 does, at every night.
+//! promises, at every job that is cut; and the proved one to what order 4 does, at every job that is answered 11 or asked after,
+//! and to what order 2 does, at every night.
 //!
 //! Arguments, each `name=value`, in any order:
 //!
@@ -156,14 +156,15 @@ fn compare_for(arguments: &Arguments, fault: Option<Fault>) -> bool {
         sizes.transactions = 0;
     }
     let unseen = desk.counts.told();
+    let (counts, seconds) = (&desk.counts, desk.seconds());
     println!(
-        "compare: {} calls, {} reads, {} retries, {} nights and {} states compared in {} s, 0 differences, {unseen} kinds never seen",
-        desk.counts.calls,
-        desk.counts.reads,
-        desk.counts.retries.retries(),
-        desk.counts.nights.nights,
-        desk.counts.states,
-        desk.seconds()
+        "compare: {} calls, {} reads, {} retries, {} nights and {} states compared in {seconds} s, 0 differences, {unseen} kinds \
+         never seen",
+        counts.calls,
+        counts.reads,
+        counts.retries.retries(),
+        counts.nights.nights,
+        counts.states,
     );
     unseen == 0
 }

@@ -1,5 +1,5 @@
-//! Order 2: nights, each held against the independent controller, reply and every byte of image, table and room; against its jobs,
-//! called one by one; and against what is promised of six jobs for each transaction.
+//! Order 2: nights, each held against the independent controller's, reply and every byte of image, table and room; against its
+//! jobs, called one by one; and against what is promised of six jobs for each transaction.
 
 use crate::desk::{Compared, Desk, Difference, UNWRITTEN};
 use crate::outside::{self, lent};
@@ -343,7 +343,12 @@ const MADE_UP: usize = 400;
 const CALLS: usize = 500;
 const FOLDED: [Number; 3] = [Number::NONE, Number(126), Number(65_000)];
 
-/// A night at random from a state, in each of the rooms in turn.
+/// Whether a night is due: once in so many times, and less often the more are kept, since a turn may try them all.
+pub fn is_due(state: &State, once_in: usize, random: &mut Random) -> bool {
+    random.once_in(once_in * (1 + state.log.len() / 4))
+}
+
+/// A night at random from a state, in a room at random.
 pub fn any(desk: &mut Desk, state: &State, bytes: &[u8], random: &mut Random) -> Compared<Option<(State, Vec<u8>)>> {
     let asked = any_night(state, random);
     night(desk, Some(state), bytes, &asked, random.one_of(&Room::ALL))

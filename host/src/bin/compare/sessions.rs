@@ -13,8 +13,9 @@ use makowist_host::requests::{change, sensible, wild};
 /// The calls of a long session, which takes the numbers round the ring more than once.
 const LONG: usize = 12_000;
 
-/// Of how many calls one is followed by a night.
+/// Of how many calls on a short log one is followed by a night, and of how many nights the session goes on behind one.
 const NIGHT_ONE_IN: usize = 40;
+const GOES_ON_ONE_IN: usize = 6;
 
 /// A controller with the line open for node 1. Where a last fold is named, all up to it was set, applied and folded.
 pub fn opened(desk: &mut Desk, folded: Number) -> Compared<(State, Vec<u8>)> {
@@ -88,9 +89,9 @@ fn session(desk: &mut Desk, random: &mut Random) -> Compared<()> {
         if random.once_in(8) {
             desk.query(Some(&state), &bytes, Query::any(&state, random))?;
         }
-        if random.once_in(NIGHT_ONE_IN) {
+        if nights::is_due(&state, NIGHT_ONE_IN, random) {
             let passed = nights::any(desk, &state, &bytes, random)?;
-            if let Some((after, after_bytes)) = passed.filter(|_| random.once_in(2)) {
+            if let Some((after, after_bytes)) = passed.filter(|_| random.once_in(GOES_ON_ONE_IN)) {
                 (state, bytes) = (after, after_bytes);
                 desk.lend(&bytes);
             }

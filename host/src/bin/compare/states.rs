@@ -34,7 +34,7 @@ pub fn unreached(desk: &mut Desk, calls: u64, random: &mut Random) -> Compared<(
         for _ in 0..8 {
             desk.query(Some(&state), &bytes, Query::any(&state, random))?;
         }
-        if random.once_in(2) {
+        if nights::is_due(&state, 2, random) {
             nights::any(desk, &state, &bytes, random)?;
         }
     }
@@ -75,8 +75,10 @@ pub fn damaged(desk: &mut Desk, calls: u64, random: &mut Random) -> Compared<()>
         for _ in 0..4 {
             desk.query(decoded.as_ref(), &bytes, Query::any(&state, random))?;
         }
-        let night = any_night(&state, random);
-        nights::night(desk, decoded.as_ref(), &bytes, &night, random.one_of(&nights::Room::ALL))?;
+        if nights::is_due(&state, 2, random) {
+            let night = any_night(&state, random);
+            nights::night(desk, decoded.as_ref(), &bytes, &night, random.one_of(&nights::Room::ALL))?;
+        }
     }
     Ok(())
 }
