@@ -1,6 +1,5 @@
 //! The proved controller's exported functions, as the C header declares them.
 
-use crate::night::Night;
 use crate::northbound::Request;
 use crate::reads::Query;
 use crate::why::Question;
@@ -26,6 +25,13 @@ mod exported {
             cut: u64,
         ) -> u64;
         pub fn makowist_fold(image: *mut u8, length: usize, number: u64) -> u64;
+        pub fn makowist_live(image: *const u8, length: usize, room: *mut u8, room_length: usize) -> u64;
+        pub fn makowist_well_formed(image: *const u8, length: usize) -> u64;
+        pub fn makowist_value(image: *const u8, length: usize, table: u64, path: u64) -> u64;
+        pub fn makowist_transaction(image: *const u8, length: usize, number: u64, field: u64) -> u64;
+        pub fn makowist_record(image: *const u8, length: usize, field: u64) -> u64;
+        pub fn makowist_connection(image: *const u8, length: usize, node: u64, field: u64) -> u64;
+        pub fn makowist_why(image: *const u8, length: usize, node: u64, job: u64, number: u64) -> u64;
         pub fn makowist_night(
             image: *mut u8,
             length: usize,
@@ -36,13 +42,6 @@ mod exported {
             events: *mut u8,
             events_length: usize,
         ) -> u64;
-        pub fn makowist_live(image: *const u8, length: usize, room: *mut u8, room_length: usize) -> u64;
-        pub fn makowist_well_formed(image: *const u8, length: usize) -> u64;
-        pub fn makowist_value(image: *const u8, length: usize, table: u64, path: u64) -> u64;
-        pub fn makowist_transaction(image: *const u8, length: usize, number: u64, field: u64) -> u64;
-        pub fn makowist_record(image: *const u8, length: usize, field: u64) -> u64;
-        pub fn makowist_connection(image: *const u8, length: usize, node: u64, field: u64) -> u64;
-        pub fn makowist_why(image: *const u8, length: usize, node: u64, job: u64, number: u64) -> u64;
     }
 }
 
@@ -74,14 +73,21 @@ pub fn serve(image: &mut [u8], request: &Request, pairs: &[u8]) -> u64 {
     }
 }
 
-/// Works through a night on a lent image, with its table lent from `outcomes`, and writes the events into the room.
-pub fn night(image: &mut [u8], night: &Night, outcomes: &[u8], room: &mut [u8]) -> u64 {
-    let (bytes, length) = (image.as_mut_ptr(), image.len());
-    let (table, table_length) = (outcomes.as_ptr(), outcomes.len());
-    // SAFETY: as in `serve`; the table and the room are slices of their own.
+/// Works through the night on a lent image, with the outcomes and the room for its events lent.
+#[inline]
+pub fn night(image: &mut [u8], node: u64, budget: u64, outcomes: &[u8], events: &mut [u8]) -> u64 {
+    // SAFETY: as in `serve`.
     unsafe {
-        let (events, events_length) = (room.as_mut_ptr(), room.len());
-        exported::makowist_night(bytes, length, night.node, night.budget, table, table_length, events, events_length)
+        exported::makowist_night(
+            image.as_mut_ptr(),
+            image.len(),
+            node,
+            budget,
+            outcomes.as_ptr(),
+            outcomes.len(),
+            events.as_mut_ptr(),
+            events.len(),
+        )
     }
 }
 

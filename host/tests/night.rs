@@ -210,6 +210,21 @@ fn refusals_in_their_order() {
     assert_eq!(northbound::night(&mut image[1..], &night(8, &[]), &mut []), 1);
 }
 
+/// Why nothing goes any more, or that something does, as every job answers by itself.
+fn stopped(left: &State, night: &Night) -> Stopped {
+    let each = (0..left.log.len()).flat_map(|place| (1..=4).map(move |job| (place, job)));
+    let refusals = each.map(|(place, job)| {
+        let number = u64::from(left.folded.0) + 1 + place as u64;
+        left.clone().work(night.node, job, number, night.outcome(place, job), 0).reply.err()
+    });
+    let refusals: Vec<Option<Refusal>> = refusals.collect();
+    match (refusals.contains(&None), refusals.contains(&Some(Refusal::LineNotOpen))) {
+        (true, _) => Stopped::BudgetSpent,
+        (false, true) => Stopped::NoLine,
+        (false, false) => Stopped::NothingLeft,
+    }
+}
+
 /// From every state of random sessions: the jobs called one by one, the count of them, the reason by what would go; and behind six
 /// jobs for each kept one, with the line open, nothing left but covered rollbacks.
 #[test]
@@ -235,20 +250,10 @@ fn a_night_is_the_jobs_that_it_does() {
             }
             assert_eq!(left, alone);
             assert!(passed.jobs.len() as u64 == budget || passed.stopped != Stopped::BudgetSpent);
-            let refusals = (0..left.log.len()).flat_map(|place| (1..=4).map(move |job| (place, job))).map(|(place, job)| {
-                let number = u64::from(left.folded.0) + 1 + place as u64;
-                left.clone().work(node, job, number, night.outcome(place, job), 0).reply.err()
-            });
-            let refusals: Vec<Option<Refusal>> = refusals.collect();
-            let stopped = match (refusals.contains(&None), refusals.contains(&Some(Refusal::LineNotOpen))) {
-                (true, _) => Stopped::BudgetSpent,
-                (false, true) => Stopped::NoLine,
-                (false, false) => Stopped::NothingLeft,
-            };
-            assert_eq!(passed.stopped, stopped);
-            stops[usize::from(stopped.number())] += 1;
+            assert_eq!(passed.stopped, stopped(&left, &night));
+            stops[usize::from(passed.stopped.number())] += 1;
             if state.line_open(master) && budget >= enough {
-                assert!(stopped == Stopped::NothingLeft && left.is_done_but_for_covered_rollbacks(node));
+                assert!(passed.stopped == Stopped::NothingLeft && left.is_done_but_for_covered_rollbacks(node));
             }
             if random.once_in(20) {
                 state = left;

@@ -1,7 +1,7 @@
 //! Wrong copies of order 2: other jobs tried or in another order, the table read otherwise, another reason to stop, ranges not
 //! asked, jobs too many or too few, events shown otherwise.
 
-use crate::controller::{Refusal, State};
+use crate::controller::{Number, Refusal, State, LOG_LIMIT};
 use crate::image;
 use crate::jobs::Worked;
 use crate::night::{Done, Night, Passed, Stopped, BUDGET_LIMIT, EVENT, OUTCOMES};
@@ -14,8 +14,9 @@ pub enum Lapse {
     WithoutLast,
     /// From the highest number downward.
     FromHighest,
-    /// Numbers from 1 on, as many as are kept.
+    /// Numbers from 1 on, as many as are kept; or by the ring's slots, from its first.
     CountedFrom1,
+    BySlot,
     /// The jobs of a number are tried in this order.
     Jobs([u64; 4]),
     /// Job 1 of every number, then job 2 of every number, and so on.
@@ -33,8 +34,9 @@ pub enum Lapse {
     /// The push of a rollback is told what the table has for the push of the change, or for its validation.
     RollbackByPush,
     RollbackByValidation,
-    /// The places are those of the number, folded or not.
+    /// The places are those of the number, folded or not, or those of its slot.
     TableByNumber,
+    TableBySlot,
     /// The validation's place is the push's, and the other way round.
     PlacesSwapped,
     /// Both have the first of the two places, or the second.
@@ -63,6 +65,8 @@ pub enum Lapse {
     LineByFirst,
     /// 9 is taken for 12.
     CounterAsLine,
+    /// A 12 of an earlier turn still counts.
+    LineRemembered,
     // ---- what is in range
     /// The greatest budget is this.
     BudgetLimit(u64),
@@ -114,14 +118,16 @@ const ORDERS: [[u64; 4]; 4] = [[1, 3, 2, 4], [2, 3, 1, 4], [1, 4, 2, 3], [4, 3, 
 impl Lapse {
     pub fn all() -> Vec<Lapse> {
         use Lapse::*;
-        let mut all = vec![FromSecond, WithoutLast, FromHighest, CountedFrom1, JobByJob, GoesOn, GoesRound, EndsWhereIdle];
+        let mut all = vec![FromSecond, WithoutLast, FromHighest, CountedFrom1, BySlot, JobByJob];
+        all.extend([GoesOn, GoesRound, EndsWhereIdle]);
         all.extend(ORDERS.map(Jobs));
         all.extend([Refusal::LineNotOpen, Refusal::CounterAtLimit].map(EndsAt));
-        all.extend([Cut, RollbackByPush, RollbackByValidation, TableByNumber, PlacesSwapped, ValidationForBoth, PushForBoth]);
-        all.extend([OneForEach, OfTheNext, OnePlaceFurther, UsedUp, AllAccepted, AllRejected]);
+        all.extend([Cut, RollbackByPush, RollbackByValidation, TableByNumber, TableBySlot, PlacesSwapped]);
+        all.extend([ValidationForBoth, PushForBoth, OneForEach, OfTheNext, OnePlaceFurther, UsedUp, AllAccepted, AllRejected]);
         let each_two = Stopped::ALL.into_iter().flat_map(|one| Stopped::ALL.map(|other| (one, other)));
         all.extend(each_two.filter(|(one, other)| one != other).map(|(one, other)| StoppedAs(one, other)));
         all.extend([SpentUnasked, NoBudgetIsOver, SpentByAccepted, LineByLast, LineByFirst, CounterAsLine]);
+        all.extend([LineRemembered]);
         all.extend([BUDGET_LIMIT - 1, BUDGET_LIMIT + 1].map(BudgetLimit));
         all.extend([ShortTable, LongTable, GreatRejects, GreatAccepts, BeyondKeptUnasked, FirstUnasked, LastUnasked, AnyNode]);
         all.extend([OneMore, OneLess, LastUndone, Undone, JobsByEvents, JobsOneMore, LastUnshown, ShownLate, ShownBackwards]);
@@ -180,7 +186,9 @@ impl Lapse {
             _ => night.budget,
         };
         let mut jobs = Vec::new();
+        let mut needed_line = false;
         let stopped = loop {
+            needed_line |= self == Lapse::LineRemembered && needs_line(state, night);
             if jobs.len() as u64 == budget {
                 break self.spent(state, night, &jobs);
             }
@@ -191,6 +199,7 @@ impl Lapse {
         };
         match self {
             Lapse::StoppedAs(from, to) if stopped == from => Passed { jobs, stopped: to },
+            _ if needed_line && stopped == Stopped::NothingLeft => Passed { jobs, stopped: Stopped::NoLine },
             _ => Passed { jobs, stopped },
         }
     }
@@ -238,6 +247,7 @@ impl Lapse {
             Lapse::FromSecond => places.retain(|place| *place > 0),
             Lapse::WithoutLast => places.truncate(kept.saturating_sub(1)),
             Lapse::FromHighest => places.reverse(),
+            Lapse::BySlot => places.sort_by_key(|place| (usize::from(state.folded.0) + place) % LOG_LIMIT),
             Lapse::GoesOn => places.retain(|place| Some(*place) >= last),
             Lapse::GoesRound => places.rotate_left(last.map_or(0, |last| (last + 1) % kept)),
             Lapse::JobByJob => return jobs.iter().flat_map(|job| places.iter().map(|place| (*place, *job))).collect(),
@@ -254,6 +264,7 @@ impl Lapse {
             (Lapse::RollbackByValidation, 4) => at(2 * place),
             (_, 3 | 4) => 0,
             (Lapse::TableByNumber, _) => at(2 * (number as usize - 1) + second),
+            (Lapse::TableBySlot, _) => at(2 * (number as usize - 1) % OUTCOMES + second),
             (Lapse::PlacesSwapped, _) => at(2 * place + 1 - second),
             (Lapse::ValidationForBoth, _) => at(2 * place),
             (Lapse::PushForBoth, _) => at(2 * place + 1),
@@ -335,4 +346,13 @@ impl Lapse {
             room.fill(0);
         }
     }
+}
+
+/// Whether some job of a night is refused by 12.
+fn needs_line(state: &State, night: &Night) -> bool {
+    let each = state.kept().flat_map(|(number, _)| [2, 4].map(|job| (number, job)));
+    let refused = |(number, job): (Number, u64)| {
+        state.clone().work(night.node, job, number.0.into(), 0, 0).reply == Err(Refusal::LineNotOpen)
+    };
+    each.into_iter().any(refused)
 }

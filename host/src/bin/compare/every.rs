@@ -1,8 +1,8 @@
 //! Every state that a controller with a few transactions and the line open can reach, and every call from each: from
 //! fresh, and from where so many are folded that the ring's end, or the last number, is near.
 
+use crate::by_itself;
 use crate::desk::{Compared, Desk};
-use crate::nights;
 use crate::sessions::opened;
 use makowist_host::arguments::Wide;
 use makowist_host::controller::{Number, State};
@@ -66,7 +66,7 @@ fn walk(desk: &mut Desk, folded: Number, transactions: usize) -> Compared<bool> 
                 }
             }
             if place % NIGHT_ONE_IN == 0 {
-                nights::enough(desk, state, bytes, &mut random)?;
+                by_itself::enough(desk, state, bytes, &mut random)?;
             }
             desk.counts.states += 1;
         }

@@ -16,6 +16,7 @@
 //! Ends with 0 where there is no difference and no count is 0: every answer, every rule, whole and cut and called again, every
 //! reason of every job, every read, every way for a night to pass, every argument too great in every way.
 
+mod by_itself;
 mod counts;
 mod desk;
 mod every;
@@ -100,19 +101,7 @@ fn compare(desk: &mut Desk, sizes: &Sizes, seed: u64, tells: bool) -> Compared<(
     };
     let mut random = Random::new(seed);
     desk.random = Random::new(seed);
-    desk.reached = false;
-    if desk.asks_for_reasons() {
-        waiting::run(desk)?;
-        told("every reason from chosen states", desk);
-    }
-    if desk.works_through_nights() {
-        nights::run(desk)?;
-        told("nights from chosen states and short sessions", desk);
-    }
-    if !desk.waits_for_a_retry() {
-        outside::run(desk)?;
-        told("every call from chosen states, every order of refusals", desk);
-    }
+    compare_chosen(desk, told)?;
     desk.reached = true;
     if sizes.transactions > 0 {
         let extent = if every::run(desk, sizes.transactions)? { "all" } else { "not all, for time" };
@@ -137,6 +126,24 @@ fn compare(desk: &mut Desk, sizes: &Sizes, seed: u64, tells: bool) -> Compared<(
     for rolled_back_one_in in ROLLED_BACK_ONE_IN.into_iter().take(sizes.migrations as usize) {
         let (number, ordinal) = long::run(desk, rolled_back_one_in, &mut random)?;
         told(&format!("a log led to number {} and ordinal {}", number.0, ordinal.0), desk);
+    }
+    Ok(())
+}
+
+/// What is the same on every machine, whatever the seed.
+fn compare_chosen(desk: &mut Desk, told: impl Fn(&str, &Desk)) -> Compared<()> {
+    desk.reached = false;
+    if desk.asks_for_reasons() {
+        waiting::run(desk)?;
+        told("every reason from chosen states", desk);
+    }
+    if desk.works_through_nights() {
+        by_itself::run(desk)?;
+        told("nights from chosen states and short sessions", desk);
+    }
+    if !desk.waits_for_a_retry() {
+        outside::run(desk)?;
+        told("every call from chosen states, every order of refusals", desk);
     }
     Ok(())
 }

@@ -1,8 +1,8 @@
 //! Sessions from fresh: mostly sensible calls, some refused, some cut. The independent controller keeps its typed state
 //! from call to call, so that a fault of the codec cannot hide one of the rules.
 
+use crate::by_itself;
 use crate::desk::{Compared, Desk, MOST_ROOM};
-use crate::nights;
 use makowist_host::controller::{Number, Ordinal, State, PATHS};
 use makowist_host::image::{self, LENGTH};
 use makowist_host::northbound::Request;
@@ -89,8 +89,8 @@ fn session(desk: &mut Desk, random: &mut Random) -> Compared<()> {
         if random.once_in(8) {
             desk.query(Some(&state), &bytes, Query::any(&state, random))?;
         }
-        if nights::is_due(&state, NIGHT_ONE_IN, random) {
-            let passed = nights::any(desk, &state, &bytes, random)?;
+        if by_itself::is_due(&state, NIGHT_ONE_IN, random) {
+            let passed = by_itself::any(desk, &state, &bytes, random)?;
             if let Some((after, after_bytes)) = passed.filter(|_| random.once_in(GOES_ON_ONE_IN)) {
                 (state, bytes) = (after, after_bytes);
                 desk.lend(&bytes);

@@ -1,7 +1,8 @@
 //! Calls from well-formed states that no session reaches, and from damaged images.
 
+use crate::by_itself;
 use crate::desk::{Compared, Desk, MOST_ROOM};
-use crate::nights;
+use crate::nights::{self, Room};
 use makowist_host::controller::{
     Applied, Change, Committed, Configuration, ConfigurationState, Connection, Mastership, Node, Number, Ordinal, Phase,
     Progress, State, Status, Target, Term, Transaction, Values,
@@ -34,8 +35,8 @@ pub fn unreached(desk: &mut Desk, calls: u64, random: &mut Random) -> Compared<(
         for _ in 0..8 {
             desk.query(Some(&state), &bytes, Query::any(&state, random))?;
         }
-        if nights::is_due(&state, 2, random) {
-            nights::any(desk, &state, &bytes, random)?;
+        if by_itself::is_due(&state, 2, random) {
+            by_itself::any(desk, &state, &bytes, random)?;
         }
     }
     Ok(())
@@ -75,9 +76,9 @@ pub fn damaged(desk: &mut Desk, calls: u64, random: &mut Random) -> Compared<()>
         for _ in 0..4 {
             desk.query(decoded.as_ref(), &bytes, Query::any(&state, random))?;
         }
-        if nights::is_due(&state, 2, random) {
+        if by_itself::is_due(&state, 2, random) {
             let night = any_night(&state, random);
-            nights::night(desk, decoded.as_ref(), &bytes, &night, random.one_of(&nights::Room::ALL))?;
+            nights::night(desk, decoded.as_ref(), &bytes, &night, random.one_of(&Room::ALL))?;
         }
     }
     Ok(())

@@ -1,7 +1,7 @@
 //! Numbers of more than 16 bits, in every argument of every function, and rooms that are a byte too short or too long.
 
+use crate::by_itself;
 use crate::desk::{Compared, Desk};
-use crate::nights;
 use crate::sessions::opened;
 use makowist_host::arguments::{Argument, Numbers, Wide};
 use makowist_host::controller::{Number, Refusal, State, NODES, PATHS};
@@ -171,7 +171,7 @@ pub fn every(desk: &mut Desk, state: &State, bytes: &[u8]) -> Compared<()> {
     for query in Query::all(state).iter().flat_map(|query| widened(query, Query::numbers)) {
         desk.query(Some(state), bytes, query)?;
     }
-    nights::widened(desk, state, bytes)
+    by_itself::widened(desk, state, bytes)
 }
 
 /// The call with each of its numbers made wide in each way.
