@@ -225,8 +225,8 @@ fn stopped(left: &State, night: &Night) -> Stopped {
     }
 }
 
-/// From every state of random sessions: the jobs called one by one, the count of them, the reason by what would go; and behind six
-/// jobs for each kept one, with the line open, nothing left but covered rollbacks.
+/// From every state of random sessions: the jobs called one by one, the count of them, the reason by what would go; and behind
+/// six jobs for each kept one, with the line open, nothing left but covered rollbacks.
 #[test]
 fn a_night_is_the_jobs_that_it_does() {
     let mut random = Random::new(2);

@@ -1,5 +1,5 @@
-//! Where nights are worked through beside those of sessions: chosen states, made-up ones, short sessions, logs of as many as can be
-//! kept. They are the same on every machine.
+//! Where nights are worked through beside those of sessions: chosen states, made-up ones, short sessions, logs of as many as can
+//! be kept. They are the same on every machine.
 
 use crate::desk::{Compared, Desk};
 use crate::nights::{night, Room};
