@@ -28,9 +28,10 @@ pub fn run(desk: &mut Desk) -> Compared<()> {
     Ok(())
 }
 
-/// How many made-up states, and how many calls of a session after each of these last folds.
+/// How many made-up states, and how many calls of a session after each of these last folds, one in so many of which is stopped.
 const MADE_UP: usize = 400;
 const CALLS: usize = 500;
+const STOPPED_ONE_IN: usize = 4;
 const FOLDED: [Number; 3] = [Number::NONE, Number(126), Number(65_000)];
 
 /// Whether a night is due: once in so many times, and less often the more are kept, since a turn may try them all.
@@ -59,13 +60,18 @@ pub fn enough(desk: &mut Desk, state: &State, bytes: &[u8], random: &mut Random)
     night(desk, Some(state), bytes, &asked, random.one_of(&Room::ALL)).map(|_| ())
 }
 
-/// Nights from the states of a session on few transactions.
+/// Nights from the states of a session on few transactions, and from some of them with the target stopped.
 fn session(desk: &mut Desk, folded: Number, random: &mut Random) -> Compared<()> {
     let (mut state, mut bytes) = opened(desk, folded)?;
     for _ in 0..CALLS {
         let request = sensible(&state, 4, random);
         desk.call(&mut state, &mut bytes, &request)?;
         some(desk, &state, &bytes, random)?;
+        if random.once_in(STOPPED_ONE_IN) {
+            if let Some((stopped, stopped_bytes)) = desk.call_from(&state, &bytes, &Request::Stop)? {
+                some(desk, &stopped, &stopped_bytes, random)?;
+            }
+        }
     }
     Ok(())
 }
