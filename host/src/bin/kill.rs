@@ -11,9 +11,10 @@
 //! which the next start must take back. In the end all three files must be those of a server that was never killed, made each
 //! cut job whole, and was asked each night once. Ends with 1 where this is not so.
 
-use makowist_host::controller::{Number, Refusal, State, Status, Transaction, LOG_LIMIT, NODES};
+use makowist_host::controller::{Number, State, Status, Transaction, LOG_LIMIT, NODES};
 use makowist_host::image::{self, LENGTH};
 use makowist_host::lines;
+use makowist_host::night::{Done, Night, BUDGET_LIMIT, OUTCOMES};
 use makowist_host::northbound::{self, act, Answer, Request, Served};
 use makowist_host::random::Random;
 use makowist_host::requests::{change, sensible, wild};
@@ -51,9 +52,6 @@ const ARCHIVE: &str = ".archive";
 const RECORD: &str = ".events";
 /// How many jobs of a night the server does before it keeps them.
 const SLICE: usize = 8;
-/// The paper's limits of a night.
-const BUDGET_LIMIT: usize = 4096;
-const OUTCOMES: usize = 256;
 
 type Checked<T> = Result<T, String>;
 
@@ -91,7 +89,7 @@ impl Seen {
 
     /// Does a night, slice after slice, to its end, or until the image is the one that was found.
     fn slept(&mut self, night: &Night, kept: &mut Kept, found: Option<&[u8]>) -> bool {
-        let slept = night_by_jobs(&kept.state, night);
+        let slept = Slept::of(&kept.state, night);
         self.nights += usize::from(kept.rest.is_none());
         self.resumed += usize::from(kept.rest.is_some());
         kept.asked_for(night, &slept);
@@ -103,7 +101,7 @@ impl Seen {
                 break;
             }
         }
-        kept.rest = (done < slept.jobs.len()).then(|| night.after(done));
+        kept.rest = (done < slept.jobs.len()).then(|| later(night, done));
         self.night_jobs += done;
         self.in_night += usize::from(kept.rest.is_some());
         slept.is_accepted()
@@ -207,54 +205,32 @@ fn archived(number: Number, transaction: &Transaction) -> String {
     )
 }
 
-/// A night, as it is asked.
-#[derive(Clone, Debug)]
-struct Night {
-    node: u64,
-    budget: usize,
-    /// The digits; the places behind them are 0.
-    outcomes: Vec<u8>,
+/// A night that the master can make, now and then one that is refused.
+fn any_night(state: &State, random: &mut Random) -> Night {
+    let node = state.mastership.master.map_or(1, |master| master.number().into());
+    let limit = BUDGET_LIMIT as usize;
+    let budget = if random.once_in(4) { random.below(3 * SLICE) } else { random.between(SLICE, limit) };
+    let mut outcomes: Vec<u8> = (0..random.below(OUTCOMES + 1)).map(|_| random.once_in(12).into()).collect();
+    outcomes.resize(OUTCOMES, 0);
+    let mut night = Night { node, budget: budget as u64, outcomes };
+    match random.below(60) {
+        0 => night.node = random.below(NODES + 2) as u64,
+        1 => night.budget = random.one_of(&[BUDGET_LIMIT, BUDGET_LIMIT + 1, 65535]),
+        2 => night.outcomes.resize(random.between(OUTCOMES, OUTCOMES + 2), 0),
+        3 => night.outcomes[random.below(OUTCOMES)] = random.between(2, 9) as u8,
+        _ => {}
+    }
+    night
 }
 
-impl Night {
-    /// A night that the master can make, now and then one that is refused.
-    fn any(state: &State, random: &mut Random) -> Night {
-        let node = state.mastership.master.map_or(1, |master| master.number().into());
-        let budget = if random.once_in(4) { random.below(3 * SLICE) } else { random.between(SLICE, BUDGET_LIMIT) };
-        let outcomes = (0..random.below(OUTCOMES + 1)).map(|_| random.once_in(12).into()).collect();
-        let mut night = Night { node, budget, outcomes };
-        match random.below(60) {
-            0 => night.node = random.below(NODES + 2) as u64,
-            1 => night.budget = random.one_of(&[BUDGET_LIMIT, BUDGET_LIMIT + 1, 65535]),
-            2 => night.outcomes.resize(random.between(OUTCOMES, OUTCOMES + 2), 0),
-            3 => night.outcomes.push(random.between(2, 9) as u8),
-            _ => {}
-        }
-        night
-    }
+/// The same night, so many jobs later.
+fn later(night: &Night, jobs: usize) -> Night {
+    Night { budget: night.budget - jobs as u64, ..night.clone() }
+}
 
-    fn asking(&self) -> String {
-        let digits: String = self.outcomes.iter().map(u8::to_string).collect();
-        format!("call=night node={} budget={} outcomes={digits}\n", self.node, self.budget)
-    }
-
-    /// The same night, so many jobs later.
-    fn after(&self, jobs: usize) -> Night {
-        Night { budget: self.budget - jobs, ..self.clone() }
-    }
-
-    fn outcome(&self, place: usize) -> u64 {
-        self.outcomes.get(place).copied().unwrap_or(0).into()
-    }
-
-    fn refusal(&self, state: &State) -> Option<Refusal> {
-        let in_range = (1..=NODES as u64).contains(&self.node) && self.budget <= BUDGET_LIMIT;
-        if !in_range || self.outcomes.len() > OUTCOMES || self.outcomes.iter().any(|outcome| *outcome > 1) {
-            return Some(Refusal::OutOfRange);
-        }
-        let master = state.mastership.master.map(|master| u64::from(master.number()));
-        (master != Some(self.node)).then_some(Refusal::NotMaster)
-    }
+/// The line that asks for it.
+fn asking(night: &Night) -> String {
+    lines::nightly(night).expect("a night that a line can ask for")
 }
 
 /// What a night does, and how it is answered.
@@ -267,39 +243,17 @@ impl Slept {
     fn is_accepted(&self) -> bool {
         self.answer.starts_with("answer=0 ")
     }
-}
 
-fn night_by_jobs(state: &State, night: &Night) -> Slept {
-    if let Some(refusal) = night.refusal(state) {
-        return Slept { jobs: Vec::new(), answer: format!("answer={} jobs=0 stopped=0\n", refusal.number()) };
+    /// The night from a state, job by job.
+    fn of(state: &State, night: &Night) -> Slept {
+        let passed = state.clone().night(night);
+        let work = |done: &Done| {
+            let Done { job, number, outcome, .. } = *done;
+            Request::Work { node: night.node, job, number: number.0.into(), outcome, cut: 0 }
+        };
+        let jobs = passed.iter().flat_map(|passed| &passed.jobs).map(work).collect();
+        Slept { jobs, answer: lines::passed(passed) }
     }
-    let (mut state, mut jobs) = (state.clone(), Vec::new());
-    let stopped = loop {
-        match turn(&mut state, night) {
-            Ok(_) if jobs.len() == night.budget => break 2,
-            Ok(job) => jobs.push(job),
-            Err(no_line) => break u8::from(no_line),
-        }
-    };
-    let answer = format!("answer=0 jobs={} stopped={stopped}\n", jobs.len());
-    Slept { jobs, answer }
-}
-
-/// Does the first job that is not refused, or answers whether one is refused for the line.
-fn turn(state: &mut State, night: &Night) -> Result<Request, bool> {
-    let mut no_line = false;
-    let first = u64::from(state.folded.0) + 1;
-    for place in 0..state.log.len() {
-        for job in 1..=4 {
-            let outcome = if job <= 2 { night.outcome(2 * place + job as usize - 1) } else { 0 };
-            let request = Request::Work { node: night.node, job, number: first + place as u64, outcome, cut: 0 };
-            match act(state, &request).reply {
-                Ok(_) => return Ok(request),
-                Err(refusal) => no_line |= refusal == Refusal::LineNotOpen,
-            }
-        }
-    }
-    Err(no_line)
 }
 
 /// What a line asks for.
@@ -389,7 +343,7 @@ impl Kept {
     /// Takes a night into the run in which each is one; what is left of one is in it already.
     fn asked_for(&mut self, night: &Night, slept: &Slept) {
         if self.rest.is_none() {
-            self.whole.asked.push_str(&night.asking());
+            self.whole.asked.push_str(&asking(night));
             self.whole.answers.push(slept.answer.clone());
         }
     }
@@ -437,7 +391,7 @@ impl Kept {
         match asked {
             Asked::Call(request) => self.recorded_by(std::slice::from_ref(request)),
             Asked::Night(night) => {
-                let slept = night_by_jobs(&self.state, night);
+                let slept = Slept::of(&self.state, night);
                 slept.jobs.chunks(SLICE).next().map_or(String::new(), |slice| self.recorded_by(slice))
             }
         }
@@ -465,11 +419,11 @@ struct Call {
 impl Call {
     /// A night, made on the state.
     fn night(night: Night, state: &mut State) -> Call {
-        let Slept { jobs, answer } = night_by_jobs(state, &night);
+        let Slept { jobs, answer } = Slept::of(state, &night);
         for job in &jobs {
             act(state, job);
         }
-        Call { line: night.asking(), asked: Asked::Night(night), answer }
+        Call { line: asking(&night), asked: Asked::Night(night), answer }
     }
 }
 
@@ -523,7 +477,7 @@ fn evening(state: &mut State, limit: usize, random: &mut Random) -> Vec<Call> {
             calls.push(Call { asked: Asked::Call(request), line, answer });
         }
     }
-    let night = Night::any(state, random);
+    let night = any_night(state, random);
     calls.push(Call::night(night, state));
     calls
 }
@@ -581,7 +535,7 @@ impl Moment {
         let mut kept = kept.clone();
         for Call { asked, .. } in calls {
             if let Asked::Night(night) = asked {
-                let jobs = night_by_jobs(&kept.state, night).jobs;
+                let jobs = Slept::of(&kept.state, night).jobs;
                 if jobs.len() > SLICE {
                     let slices = jobs.chunks(SLICE).take(random.between(1, (jobs.len() - 1) / SLICE));
                     slices.for_each(|slice| kept.sleep(slice));
@@ -725,7 +679,7 @@ impl Server<'_> {
             seen.called(&retry, kept);
         }
         if let Some(night) = kept.rest.clone() {
-            self.fed(&night.asking())?;
+            self.fed(&asking(&night))?;
             seen.made(&Asked::Night(night), kept);
         }
         Ok(())

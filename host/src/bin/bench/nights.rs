@@ -67,7 +67,7 @@ impl Measured for Night {
     fn run(&self, side: Side, ground: &mut Ground) -> u64 {
         let Ground { image, state, events } = ground;
         match side {
-            Side::Proved => peer::night(image, &self.asked, &self.asked.outcomes, events),
+            Side::Proved => peer::night(image, 1, self.asked.budget, &self.asked.outcomes, events),
             Side::AsRead => lean::night_as_read(state, 1, self.asked.budget, &self.typed, events),
             Side::Skipping => lean::night_skipping(state, 1, self.asked.budget, &self.typed, events),
             Side::Decoded => self.decoded(image, events),
