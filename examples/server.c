@@ -358,10 +358,10 @@ static uint64_t slice(struct place *place, const struct night *night, unsigned b
     uint64_t reply = makowist_night(image, sizeof image, night->node, budget, night->outcomes, night->length, room,
                                     sizeof room);
     for (uint32_t k = 0; k < makowist_reply_events(reply); ++k) {
-        events[k].phase = makowist_night_event(room, k, 0);
-        events[k].stage = makowist_night_event(room, k, 1);
-        events[k].number = makowist_night_event(room, k, 2);
-        events[k].status = makowist_night_event(room, k, 3);
+        events[k].phase = makowist_night_event(room, k, MAKOWIST_EVENT_PHASE);
+        events[k].stage = makowist_night_event(room, k, MAKOWIST_EVENT_STAGE);
+        events[k].number = makowist_night_event(room, k, MAKOWIST_EVENT_NUMBER);
+        events[k].status = makowist_night_event(room, k, MAKOWIST_EVENT_STATUS);
     }
     if (makowist_reply_jobs(reply) > 0) {
         record(place, events, makowist_reply_events(reply));

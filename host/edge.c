@@ -221,16 +221,20 @@ static void names(void) {
     static const char *const statuses[] = {"None", "Pending", "InProgress", "Complete", "Aborted", "Canceled", "Failed"};
     static const char *const reasons[] = {"?", "finished", "no rollback asked", "earlier change", "commit in flight",
                                           "change on top", "not committed", "earlier ordinal", "none fits"};
+    static const char *const stopped[] = {"no job", "no line", "budget spent"};
     for (uint64_t k = 0; k <= 20; ++k) {
         const char *status = k <= MAKOWIST_STATUS_FAILED ? statuses[k] : "?";
         const char *reason = k <= MAKOWIST_REASON_NONE_FITS ? reasons[k] : "?";
         hold(strcmp(makowist_answer_name(k), answers[k]) == 0, "answer's name", makowist_answer_name(k), k);
         hold(strcmp(makowist_status_name(k), status) == 0, "status's name", makowist_status_name(k), k);
         hold(strcmp(makowist_reason_name(k), reason) == 0, "reason's name", makowist_reason_name(k), k);
+        const char *stop = k <= MAKOWIST_STOPPED_BUDGET_SPENT ? stopped[k] : "?";
+        hold(strcmp(makowist_stopped_name(k), stop) == 0, "stop's name", makowist_stopped_name(k), k);
     }
     hold(strcmp(makowist_answer_name(UINT64_MAX), "?") == 0, "answer's name", "2^64 - 1", UINT64_MAX);
     hold(strcmp(makowist_status_name(UINT64_MAX), "?") == 0, "status's name", "2^64 - 1", UINT64_MAX);
     hold(strcmp(makowist_reason_name(UINT64_MAX), "?") == 0, "reason's name", "2^64 - 1", UINT64_MAX);
+    hold(strcmp(makowist_stopped_name(UINT64_MAX), "?") == 0, "stop's name", "2^64 - 1", UINT64_MAX);
 }
 
 /* What an append of the pair answers: read back where it is accepted, and else every byte as it was. */
@@ -358,14 +362,14 @@ static void night_is(const uint8_t *before, size_t room, const uint8_t *after, c
     size_t written = room / EVENT < JOBS ? room / EVENT : JOBS;
     accepted(reply, "night");
     hold(makowist_reply_jobs(reply) == JOBS, "night", "jobs", reply);
-    hold(makowist_reply_stopped(reply) == MAKOWIST_STOPPED_NOTHING_LEFT, "night", "stopped", reply);
+    hold(makowist_reply_stopped(reply) == MAKOWIST_STOPPED_NO_JOB, "night", "stopped", reply);
     hold(makowist_reply_events(reply) == written, "night", "events", reply);
     hold(memcmp(image, after, LENGTH) == 0, "night", "leaves what its jobs leave", room);
     for (size_t k = 0; k < written; ++k) {
-        hold(makowist_night_event(events, k, 0) == makowist_reply_phase(replies[k]), "night", "phase", k);
-        hold(makowist_night_event(events, k, 1) == makowist_reply_stage(replies[k]), "night", "stage", k);
-        hold(makowist_night_event(events, k, 2) == makowist_reply_number(replies[k]), "night", "number", k);
-        hold(makowist_night_event(events, k, 3) == makowist_reply_status(replies[k]), "night", "status", k);
+        hold(makowist_night_event(events, k, MAKOWIST_EVENT_PHASE) == makowist_reply_phase(replies[k]), "night", "phase", k);
+        hold(makowist_night_event(events, k, MAKOWIST_EVENT_STAGE) == makowist_reply_stage(replies[k]), "night", "stage", k);
+        hold(makowist_night_event(events, k, MAKOWIST_EVENT_NUMBER) == makowist_reply_number(replies[k]), "night", "number", k);
+        hold(makowist_night_event(events, k, MAKOWIST_EVENT_STATUS) == makowist_reply_status(replies[k]), "night", "status", k);
     }
     for (size_t k = EVENT * written; k < room; ++k)
         hold(events[k] == 0xab, "night", "room behind the events stays", k);
@@ -415,8 +419,8 @@ static void nights(const uint8_t *before) {
         night_is(image, room, after, replies);
     night_stops(image, 0, 0, MAKOWIST_STOPPED_BUDGET_SPENT);
     night_stops(image, JOBS - 1, JOBS - 1, MAKOWIST_STOPPED_BUDGET_SPENT);
-    night_stops(image, JOBS, JOBS, MAKOWIST_STOPPED_NOTHING_LEFT);
-    night_stops(image, MAKOWIST_BUDGET_LIMIT, JOBS, MAKOWIST_STOPPED_NOTHING_LEFT);
+    night_stops(image, JOBS, JOBS, MAKOWIST_STOPPED_NO_JOB);
+    night_stops(image, MAKOWIST_BUDGET_LIMIT, JOBS, MAKOWIST_STOPPED_NO_JOB);
     night_refused(image, 0, 8, MAKOWIST_OUTCOMES, 0, MAKOWIST_OUT_OF_RANGE);
     night_refused(image, 2, MAKOWIST_BUDGET_LIMIT + 1, MAKOWIST_OUTCOMES, 0, MAKOWIST_OUT_OF_RANGE);
     night_refused(image, 2, 8, 0, 0, MAKOWIST_OUT_OF_RANGE);

@@ -17,9 +17,9 @@
  *
  * Refusals. No call has a precondition beyond the lent memory: whatever the numbers and the bytes, it is accepted or
  * refused. A number is taken in all its 64 bits: one that is too great is refused, and never cut to a smaller one (node, job,
- * outcome, cut, table, path and field as MAKOWIST_OUT_OF_RANGE, a transaction's number as MAKOWIST_NO_SUCH_NUMBER). A refused
- * call answers the number of the refusal, gives no event, and leaves every byte as it was. Where
- * several refusals hold, the answer is the first in the order named at the function. */
+ * outcome, cut, budget, table, path and field as MAKOWIST_OUT_OF_RANGE, a transaction's number as MAKOWIST_NO_SUCH_NUMBER). A
+ * refused call answers the number of the refusal, gives no event, and leaves every byte as it was. Where several refusals hold, the
+ * answer is the first in the order named at the function. */
 
 /* Driving it. (The rules are in docs/RULES.md, what to do about an answer in docs/DESK.md.)
  *
@@ -56,6 +56,9 @@
  *
  * A night. makowist_night makes work calls by itself, with outcomes lent in advance; its events say what was validated and
  * pushed, and on a copy what would be. Lend room for all of them, MAKOWIST_EVENT_LENGTH bytes for each job of the budget.
+ * So try it on a copy: each event of stage Apply with status Complete is a push, to be taken by the switch in that order. Where it
+ * rejects a change, lend 1 at that change's place; where it rejects a rollback, whose push a night counts as accepted, lend a budget
+ * that ends before that job. Then call it on the image.
  * Where many jobs wait, make slices of it (examples/server.c): a small budget, then image and events kept, and again while
  * it stops with MAKOWIST_STOPPED_BUDGET_SPENT. Slices with nothing else called between them do, show and leave what one
  * night of all their jobs does, with the same table: its places are those of the kept transactions, and a night folds none.
@@ -117,7 +120,7 @@ enum {
 enum {
     MAKOWIST_ACCEPTED = 0,
     MAKOWIST_NOT_WELL_FORMED = 1,   /* the lent bytes are no well-formed image */
-    MAKOWIST_OUT_OF_RANGE = 2,      /* node, job, outcome, cut, table, path or field out of range */
+    MAKOWIST_OUT_OF_RANGE = 2,      /* node, job, outcome, cut, budget, table, path or field out of range */
     MAKOWIST_NOT_A_CHANGE = 3,      /* the pairs are no valid change */
     MAKOWIST_LOG_FULL = 4,          /* append where 128 are kept */
     MAKOWIST_NO_SUCH_NUMBER = 5,    /* number 0 or past the log's end; to fold, one that is not kept */
@@ -171,6 +174,16 @@ enum {
     MAKOWIST_REASON_NONE_FITS = 8          /* in no image that began with makowist_fresh */
 };
 
+/* Why a night stopped. */
+enum {
+    MAKOWIST_STOPPED_NO_JOB = 0,      /* every job is refused, and none with MAKOWIST_LINE_NOT_OPEN */
+    MAKOWIST_STOPPED_NO_LINE = 1,     /* every job is refused, some with MAKOWIST_LINE_NOT_OPEN */
+    MAKOWIST_STOPPED_BUDGET_SPENT = 2 /* a job could still go */
+};
+
+/* The parts of an event that makowist_night wrote. */
+enum { MAKOWIST_EVENT_PHASE = 0, MAKOWIST_EVENT_STAGE = 1, MAKOWIST_EVENT_NUMBER = 2, MAKOWIST_EVENT_STATUS = 3 };
+
 /* ---- Names, for printing; "?" for a number that is none. */
 
 static inline const char *makowist_answer_name(uint64_t answer) {
@@ -194,6 +207,11 @@ static inline const char *makowist_reason_name(uint64_t reason) {
     return reason < sizeof names / sizeof *names ? names[reason] : "?";
 }
 
+static inline const char *makowist_stopped_name(uint64_t stopped) {
+    static const char *const names[] = {"no job", "no line", "budget spent"};
+    return stopped < sizeof names / sizeof *names ? names[stopped] : "?";
+}
+
 /* ---- The reply of a call: answer + 2^8 phase + 2^16 stage + 2^24 status + 2^32 number.
  *
  * Phase, stage, status and number are those of the call's event, and 0 where it gives none; only an accepted job gives
@@ -214,11 +232,6 @@ static inline uint32_t makowist_reply_named(uint64_t reply) { return (uint32_t)(
 
 /* The reply of makowist_night: answer + 2^8 stopped + 2^16 jobs + 2^32 events: why it stopped, the jobs done, and how many events are
  * in the room; all 0 where it is refused. */
-enum {
-    MAKOWIST_STOPPED_NOTHING_LEFT = 0, /* every job is refused, and none with MAKOWIST_LINE_NOT_OPEN */
-    MAKOWIST_STOPPED_NO_LINE = 1,      /* every job is refused, some with MAKOWIST_LINE_NOT_OPEN */
-    MAKOWIST_STOPPED_BUDGET_SPENT = 2  /* a job could still go */
-};
 static inline unsigned makowist_reply_stopped(uint64_t reply) { return (unsigned)(reply >> 8 & 0xff); }
 static inline unsigned makowist_reply_jobs(uint64_t reply) { return (unsigned)(reply >> 16 & 0xffff); }
 static inline uint32_t makowist_reply_events(uint64_t reply) { return (uint32_t)(reply >> 32); }
@@ -289,12 +302,12 @@ uint64_t makowist_fold(uint8_t *image, size_t length, uint64_t number);
  * what the switch says to the push of it; the push of a rollback counts as accepted. It leaves what makowist_work would leave, job
  * after job. events is room for what they show, MAKOWIST_EVENT_LENGTH bytes a job in the order in which they are done: phase,
  * stage, number and status, four bytes each, little-endian; zeros for a job that shows none (it finishes one that was cut). As
- * many are written as there is room for, and bytes behind them stay; it may be NULL with a length of 0.
+ * many are written as there is room for, and bytes behind them stay.
  * Refuses MAKOWIST_OUT_OF_RANGE (node, budget, the table's length or an outcome), MAKOWIST_NOT_MASTER. */
 uint64_t makowist_night(uint8_t *image, size_t length, uint64_t node, uint64_t budget, const uint8_t *outcomes,
                         size_t outcomes_length, uint8_t *events, size_t events_length);
 
-/* The k-th event, from 0, that makowist_night wrote: its phase 0, stage 1, number 2, status 3. */
+/* A part (MAKOWIST_EVENT_..) of the k-th event, from 0, that makowist_night wrote. */
 static inline uint32_t makowist_night_event(const uint8_t *events, size_t k, unsigned part) {
     const uint8_t *at = events + MAKOWIST_EVENT_LENGTH * k + 4 * part;
     return (uint32_t)at[0] | (uint32_t)at[1] << 8 | (uint32_t)at[2] << 16 | (uint32_t)at[3] << 24;
