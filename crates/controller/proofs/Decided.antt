@@ -1,11 +1,11 @@
 -- What the code loads is what the view shows, so what its rules decide is what the machine decides. Assumes nothing.
 use Prim.Native.Nat.{ℕ, _≤_, _<_}
 use mathlib.Core.Path.{_≡_, refl, ap, ap₂, sym, _∙_}
-use mathlib.Core.Bool.{Bool, true, false, cond}
+use mathlib.Core.Bool.{Bool, true, false, _&&_, _||_, cond}
 use mathlib.Core.List.{List, [], _∷_}
 use native.Mathlib.Omega.{arith}
 use borrow.Author.Tests.{eq-eqb, ne-eqb, le-leb, lt-leb}
-use lib.Dec.{leb, ltb}
+use lib.Dec.{eqb, leb, ltb}
 use lib.ListN.{length, getD}
 use Rattle.kinds.specs.declared.Transaction.{Transaction}
 use Rattle.kinds.specs.declared.Head.{Head}
@@ -16,8 +16,11 @@ use Rattle.kinds.specs.declared.Target.{Target}
 use Rattle.kinds.specs.declared.Configuration.{Configuration}
 use Rattle.kinds.specs.declared.Status.{Status}
 use Rattle.kinds.specs.declared.Status.the-variants.{None, Pending, InProgress, Complete, Aborted, Canceled, Failed}
-use Rattle.kinds.specs.Numbers.{num}
+use Rattle.kinds.specs.Numbers.{num, follows}
+use Rattle.kinds.specs.Statuses.{isComplete, isPending}
 use Rattle.rules.specs.declared.Plan.{Plan}
+use Rattle.rules.specs.declared.ApplyChangeTests.{ApplyChangeTests}
+use Rattle.rules.specs.declared.ApplyRollbackTests.{ApplyRollbackTests}
 use Rattle.rules.specs.AtRest.{atRest}
 use Rattle.rules.specs.CommitChange.{commitChange}
 use Rattle.rules.specs.CommitRollback.{commitRollback}
@@ -39,6 +42,7 @@ use Rattle.image.specs.View.{tableOf, view}
 use Rattle.image.specs.Formed.{formed}
 use Rattle.image.proofs.Scanned.{Room, view-last, view-entry, formed-length, formed-room, formed-state}
 use Rattle.controller.specs.Claims.{Entry, settledFor}
+use Rattle.controller.specs.Nights.{isNext, settledAt}
 
 -- ---- a well-formed image
 module _ (l : List ℕ) (w : formed l ≡ true) where
@@ -139,6 +143,73 @@ module _ (t : Transaction) (h : Head) (s : State) (i : Number) (line ok : Bool) 
       go Aborted = refl
       go Canceled = refl
       go Failed = refl
+
+-- nor where it is not next
+module _ (t : Transaction) (h : Head) (s : State) (i : Number) (line ok : Bool) where
+  abbrev a : ℕ
+  a = h .ordinal .0
+
+  abbrev change-tests : (committed next settled : Bool) → ApplyChangeTests
+  change-tests c f q =
+      record {
+        committed = c;
+        next = f;
+        aimed = eqb (h .target .0) (i .0);
+        settled = q;
+        undone = isComplete (t .rollback .commit);
+        passed = isComplete (t .rollback .commit) || ltb (h .revision .0) (t .index .0);
+        level = eqb (h .revision .0) (t .index .0);
+        landed = change.reached (h .ordinal) (t .change .ordinal);
+        line = line;
+        accepted = ok;
+      }
+
+  pub next-change : applyChange t h (settledAt a t s) i line ok ≡ applyChange t h (settled s) i line ok
+  unfolding settledAt isNext
+  next-change = go (isComplete (t .change .commit)) (t .change .apply) (follows a (t .change .ordinal .0)) (isNext a (t .rollback)) (settled s)
+    where
+      go : (c : Bool) (u : Status) (f z q : Bool)
+          → change.plans (change.rule u (change-tests c f (cond ((c && (isPending u && f)) || z) q true))) t h i ≡ change.plans (change.rule u (change-tests c f q)) t h i
+      go false u f z q = refl
+      go true Pending true z q = refl
+      go true Pending false z q = refl
+      go true None f z q = refl
+      go true InProgress f z q = refl
+      go true Complete f z q = refl
+      go true Aborted f z q = refl
+      go true Canceled f z q = refl
+      go true Failed f z q = refl
+
+  abbrev rollback-tests : (committed next settled : Bool) → ApplyRollbackTests
+  rollback-tests c f q =
+      record {
+        committed = c;
+        next = f;
+        tried = rollback.wasTried (t .change .apply);
+        aborted = rollback.isAborted (t .change .apply);
+        aimed = eqb (h .target .0) (t .index .0);
+        settled = q;
+        landed = change.reached (h .ordinal) (t .rollback .ordinal);
+        line = line;
+        accepted = ok;
+      }
+
+  pub next-rollback : applyRollback t h (settledAt a t s) i line ok ≡ applyRollback t h (settled s) i line ok
+  unfolding settledAt isNext
+  next-rollback = go (isComplete (t .rollback .commit)) (t .rollback .apply) (follows a (t .rollback .ordinal .0)) (isNext a (t .change)) (settled s)
+    where
+      go : (c : Bool) (u : Status) (f z q : Bool)
+          → rollback.plans (rollback.rule u (rollback-tests c f (cond (z || (c && (isPending u && f))) q true))) t h i ≡ rollback.plans (rollback.rule u (rollback-tests c f q)) t h i
+      go c u f true q = refl
+      go false u f false q = refl
+      go true Pending true false q = refl
+      go true Pending false false q = refl
+      go true None f false q = refl
+      go true InProgress f false q = refl
+      go true Complete f false q = refl
+      go true Aborted f false q = refl
+      go true Canceled f false q = refl
+      go true Failed f false q = refl
 
 -- ---- the line
 pub line-shown : (l : List ℕ) (n : ℕ) (x : Connection) (m : Mastership) (t : Target) (g : Configuration) (r : Bool)

@@ -18,12 +18,15 @@ use Rattle.kinds.specs.declared.Event.{Event}
 use Rattle.kinds.specs.declared.Reply.{Reply}
 use Rattle.kinds.specs.Numbers.{num, nextOrdinal}
 use Rattle.kinds.specs.Statuses.{codeOf}
+use Rattle.rules.specs.declared.Plan.{Plan}
 use Rattle.rules.specs.declared.CommitChangeRule.{CommitChangeRule}
 use Rattle.rules.specs.declared.CommitRollbackRule.{CommitRollbackRule}
 use Rattle.rules.specs.declared.CommitChangeRule.the-variants as change
 use Rattle.rules.specs.declared.CommitRollbackRule.the-variants as rollback
 use Rattle.rules.specs.CommitChange as job1
 use Rattle.rules.specs.CommitRollback as job3
+use Rattle.rules.specs.ApplyChange.{applyChange}
+use Rattle.rules.specs.ApplyRollback.{applyRollback}
 use Rattle.machine.specs.State.{State, entryOf, last, four, isNode, isMaster, lineOpenFor}
 use Rattle.machine.specs.Settled.{settled}
 use Rattle.machine.specs.Rest.{restOf}
@@ -48,8 +51,8 @@ use Rattle.controller.specs.declared.nights.Scene.{Scene}
 use Rattle.controller.specs.declared.nights.Tried.{Tried}
 use Rattle.controller.specs.declared.nights.Found.{Found}
 use Rattle.controller.specs.Claims.{outcomeOf, Does}
-use Rattle.controller.specs.Nights.{lentFrom, putEvent, roomAfter, eventSize, fours, eventNumbers, fitting, given, Leaves, Nights, nightIn, refuses, Awake, sceneOf, stands, idle, idleIn, Quiet, firstOf, tries, outcomeBy, Finds, stoppedAt, Through, Nighted}
-use Rattle.controller.proofs.Decided.{entry-of, room, last-is}
+use Rattle.controller.specs.Nights.{lentFrom, putEvent, roomAfter, eventSize, fours, eventNumbers, fitting, given, Leaves, Nights, nightIn, refuses, Awake, sceneOf, isNext, settledAt, stands, idle, idleIn, Quiet, firstOf, tries, outcomeBy, Finds, stoppedAt, Through, Nighted}
+use Rattle.controller.proofs.Decided.{entry-of, room, last-is, next-change, next-rollback}
 use Rattle.controller.proofs.Idle.{told-idle, idle-waits, folds-nothing, idle-stays}
 
 -- ---- the table: the outcomes before the i-th are 0 or 1
@@ -144,11 +147,23 @@ module _ (m : List ℕ) (k : ℕ) (e : Event) where
   event-out h = rw (lt-leb (16 * k + 16) (length m) h)
 
 -- ---- the scene
-pub scene-shown : (l : List ℕ) (n : ℕ) (h g : Head) (k : Number) (q o x : Bool) → h ≡ headAt l committedAt → k ≡ num (changeOf l) → q ≡ restOf (view l)
-    → g ≡ headAt l appliedAt → o ≡ settled (view l) → x ≡ lineOpenFor (view l .net) n
-    → _≡_ {A = Scene} (record { committed = h; change = k; rest = q; applied = g; settled = o; line = x }) (sceneOf (view l) n)
+pub scene-shown : (l : List ℕ) (n : ℕ) (h g : Head) (k : Number) (q x : Bool) → h ≡ headAt l committedAt → k ≡ num (changeOf l) → q ≡ restOf (view l)
+    → g ≡ headAt l appliedAt → x ≡ lineOpenFor (view l .net) n → _≡_ {A = Scene} (record { committed = h; change = k; rest = q; applied = g; line = x }) (sceneOf (view l) n)
 unfolding view
-scene-shown l n h g k q o x eh ek eq eg eo ex = rw (eh, ek, eq, eg, eo, ex)
+scene-shown l n h g k q x eh ek eq eg ex = rw (eh, ek, eq, eg, ex)
+
+-- ---- settled, asked where a side is next
+module _ (a : ℕ) (t : Transaction) (s : State) (x y : Bool) (ex : x ≡ isNext a (t .change)) (ey : y ≡ isNext a (t .rollback)) where
+  next-is : (z : Bool) → (x || y) ≡ z → (isNext a (t .change) || isNext a (t .rollback)) ≡ z
+  next-is z e = sym (ap₂ (λ (u v : Bool). u || v) ex ey) ∙ e
+
+  pub asked-settled : (r : Bool) → (x || y) ≡ true → r ≡ settled s → r ≡ settledAt a t s
+  unfolding settledAt
+  asked-settled r e q = q ∙ sym (ap (λ (z : Bool). cond z (settled s) true) (next-is true e))
+
+  pub asked-not : (x || y) ≡ false → true ≡ settledAt a t s
+  unfolding settledAt
+  asked-not e = sym (ap (λ (z : Bool). cond z (settled s) true) (next-is false e))
 
 -- ---- the first of four answers
 module _ (a b c d : ℕ) where
@@ -226,12 +241,17 @@ module _ (s : State) (n i : ℕ) where
   abbrev o : Ordinal
   o = nextOrdinal (s .committed .head .ordinal)
 
-  tries-plans : (v u : Bool) → tries t (num i) (sceneOf s n) v u
+  tries-plans : (v u : Bool) → tries t (num i) (sceneOf s n) (settledAt (s .applied .head .ordinal .0) t s) v u
       ≡ firstOf (planOf s n 1 i v .answer) (planOf s n 2 i u .answer) (planOf s n 3 i true .answer) (planOf s n 4 i true .answer)
   unfolding planOf
   tries-plans v u =
-      ap (λ (a : ℕ). firstOf a (planOf s n 2 i u .answer) (planOf s n 3 i true .answer) (planOf s n 4 i true .answer))
+      let h = s .applied .head in
+      let q = settledAt (h .ordinal .0) t s in
+      let line = lineOpenFor (s .net) n in
+      ap (λ (a : ℕ). firstOf a (applyChange t h q (num i) line u .answer) (planOf s n 3 i true .answer) (applyRollback t h q (num i) line true .answer))
       (answer-same t (s .committed .head) (num i) o (rule1 v) four (present (s .committed .values) t))
+      ∙ ap₂ (λ (a b : Plan). firstOf (planOf s n 1 i v .answer) (a .answer) (planOf s n 3 i true .answer) (b .answer)) (next-change t h s (num i) line u)
+      (next-rollback t h s (num i) line true)
 
   never-12-1 : (v : Bool) → eqb (planOf s n 1 i v .answer) 12 ≡ false
   unfolding planOf
@@ -337,13 +357,15 @@ module _ (l : List ℕ) (n : ℕ) (os : List ℕ) (w : Awake l n os) (b h : ℕ)
     says-here : (j : ℕ) → 1 ≤ j → j ≤ 4 → answer j (suc k) ≡ planOf s n j (at + suc k) (eqb (machine.outcomeAt os j (suc k)) 0) .answer
     says-here = says k (omega (arith, v .0))
 
-    answers-are : (t : Transaction) (c : Number) (y : Scene) (f : Tried) → t ≡ entryAt l (i + 1) → c ≡ num (i + 1) → y ≡ sceneOf s n → f ≡ tries t c y (eqb valid 0) (eqb taken 0)
+    answers-are : (t : Transaction) (c : Number) (y : Scene) (q : Bool) (f : Tried) → t ≡ entryAt l (i + 1) → c ≡ num (i + 1) → y ≡ sceneOf s n
+        → q ≡ settledAt (y .applied .ordinal .0) t s → f ≡ tries t c y q (eqb valid 0) (eqb taken 0)
         → f ≡ firstOf (answer 1 (suc k)) (answer 2 (suc k)) (answer 3 (suc k)) (answer 4 (suc k))
-    answers-are t c y f et ec ey ef =
+    answers-are t c y q f et ec ey eq ef =
         let r : t ≡ entryOf (s .log) (i + 1) = et ∙ sym (entry-of l (i + 1) (omega (arith, v .0)) (omega arith)) in
-        ef ∙ ap₂ (λ (a : Transaction) (d : Number). tries a d y (eqb valid 0) (eqb taken 0)) r ec
-        ∙ ap (λ (d : Scene). tries (entryOf (s .log) (i + 1)) (num (i + 1)) d (eqb valid 0) (eqb taken 0)) ey
-        ∙ ap (λ (d : ℕ). tries (entryOf (s .log) d) (num d) (sceneOf s n) (eqb valid 0) (eqb taken 0)) (sym number-is)
+        ef ∙ ap (λ (d : Bool). tries t c y d (eqb valid 0) (eqb taken 0)) eq
+        ∙ ap₂ (λ (a : Transaction) (d : Number). tries a d y (settledAt (y .applied .ordinal .0) a s) (eqb valid 0) (eqb taken 0)) r ec
+        ∙ ap (λ (d : Scene). tries (entryOf (s .log) (i + 1)) (num (i + 1)) d (settledAt (d .applied .ordinal .0) (entryOf (s .log) (i + 1)) s) (eqb valid 0) (eqb taken 0)) ey
+        ∙ ap (λ (d : ℕ). tries (entryOf (s .log) d) (num d) (sceneOf s n) (settledAt (s .applied .head .ordinal .0) (entryOf (s .log) d) s) (eqb valid 0) (eqb taken 0)) (sym number-is)
         ∙ tries-plans s n (at + suc k) (eqb valid 0) (eqb taken 0)
         ∙ sym
         (ap₂ (λ (a d : ℕ). firstOf a d (answer 3 (suc k)) (answer 4 (suc k))) (says-here 1 (omega arith) (omega arith)) (says-here 2 (omega arith) (omega arith))
@@ -390,8 +412,9 @@ module _ (l : List ℕ) (n : ℕ) (os : List ℕ) (w : Awake l n os) (b h : ℕ)
               done = λ z. absurd (z refl);
             })
 
-    pub here : (t : Transaction) (c : Number) (y : Scene) (f : Tried) → t ≡ entryAt l (i + 1) → c ≡ num (i + 1) → y ≡ sceneOf s n → f ≡ tries t c y (eqb valid 0) (eqb taken 0) → Here l n os b h i x f
-    here t c y f et ec ey ef = here-is f (answers-are t c y f et ec ey ef)
+    pub here : (t : Transaction) (c : Number) (y : Scene) (q : Bool) (f : Tried) → t ≡ entryAt l (i + 1) → c ≡ num (i + 1) → y ≡ sceneOf s n
+        → q ≡ settledAt (y .applied .ordinal .0) t s → f ≡ tries t c y q (eqb valid 0) (eqb taken 0) → Here l n os b h i x f
+    here t c y q f et ec ey eq ef = here-is f (answers-are t c y q f et ec ey eq ef)
 
     -- a job is found
     pub here-done : (f : Tried) (o : ℕ) → Here l n os b h i x f → 0 < f .job → o ≡ outcomeBy (f .job) valid taken

@@ -7,11 +7,13 @@ use mathlib.Core.List.{List, [], _∷_}
 use lib.Dec.{eqb, leb, ltb}
 use lib.ListN.{length}
 use Rattle.kinds.specs.declared.Transaction.{Transaction}
+use Rattle.kinds.specs.declared.Side.{Side}
 use Rattle.kinds.specs.declared.Number.{Number}
 use Rattle.kinds.specs.declared.Event.{Event}
 use Rattle.kinds.specs.declared.Status.{Status}
 use Rattle.kinds.specs.declared.Status.the-variants.{None, Pending, InProgress, Complete, Aborted, Canceled, Failed}
-use Rattle.kinds.specs.Statuses.{codeOf}
+use Rattle.kinds.specs.Numbers.{follows}
+use Rattle.kinds.specs.Statuses.{codeOf, isComplete, isPending}
 use Rattle.rules.specs.CommitChange.{commitChange}
 use Rattle.rules.specs.CommitRollback.{commitRollback}
 use Rattle.rules.specs.ApplyChange.{applyChange}
@@ -93,9 +95,17 @@ sceneOf s n =
       change = s .change;
       rest = restOf s;
       applied = s .applied .head;
-      settled = settled s;
       line = lineOpenFor (s .net) n;
     }
+
+-- ---- settled, as a turn asks it
+-- committed, Pending to be applied, and the ordinal straight after Applied's
+unfoldable pub isNext : (ordinal : ℕ) → Side → Bool
+isNext a x = isComplete (x .commit) && (isPending (x .apply) && follows a (x .ordinal .0))
+
+-- asked of an entry one of whose sides is next; the rules do not look at it elsewhere
+unfoldable pub settledAt : (ordinal : ℕ) → Transaction → State → Bool
+settledAt a t s = cond (isNext a (t .change) || isNext a (t .rollback)) (settled s) true
 
 -- ---- numbers that need not be tried: an entry of which nothing is left
 -- neither Pending nor InProgress
@@ -133,10 +143,10 @@ firstOf a b c d =
     (cond (eqb d 0) (record { job = 4; lacks = false }) (record { job = 0; lacks = eqb b 12 || eqb d 12 }))))
 
 -- the answers of the four jobs; what job 1 would keep does not change its answer
-abbrev pub tries : Transaction → Number → Scene → (valid taken : Bool) → Tried
-tries t i x v u =
-    firstOf (commitChange t (x .committed) (x .change) (x .rest) i v four .answer) (applyChange t (x .applied) (x .settled) i (x .line) u .answer)
-    (commitRollback t (x .committed) (x .rest) i .answer) (applyRollback t (x .applied) (x .settled) i (x .line) true .answer)
+abbrev pub tries : Transaction → Number → Scene → (settled valid taken : Bool) → Tried
+tries t i x q v u =
+    firstOf (commitChange t (x .committed) (x .change) (x .rest) i v four .answer) (applyChange t (x .applied) q i (x .line) u .answer)
+    (commitRollback t (x .committed) (x .rest) i .answer) (applyRollback t (x .applied) q i (x .line) true .answer)
 
 -- the outcome of a job, by the two of its number
 abbrev pub outcomeBy : (job valid taken : ℕ) → ℕ

@@ -5,7 +5,7 @@ ghost use Prim.Native.Nat.{_≤_};
 ghost use Rattle.machine.specs.Night.{bits, tableOk, nightOk};
 ghost use Rattle.image.specs.View.{view};
 ghost use Rattle.image.specs.Formed.{formed};
-ghost use Rattle.controller.specs.Nights.{putEvent, fitting, refuses, Awake, sceneOf, stands, idle, Quiet, tries, outcomeBy, Finds, stoppedAt, Through, Nighted};
+ghost use Rattle.controller.specs.Nights.{putEvent, fitting, refuses, Awake, sceneOf, isNext, settledAt, stands, idle, Quiet, tries, outcomeBy, Finds, stoppedAt, Through, Nighted};
 use crate::calls::is_node;
 use crate::calls::work;
 use crate::deciding::line;
@@ -24,6 +24,7 @@ use kinds::Event;
 use kinds::Head;
 use kinds::Number;
 use kinds::Ordinal;
+use kinds::Side;
 use kinds::Status;
 use kinds::Transaction;
 use rules::apply_change;
@@ -59,7 +60,6 @@ struct Scene {
     change: Number,
     rest: bool,
     applied: Head,
-    settled: bool,
     line: bool,
 }
 
@@ -122,16 +122,43 @@ fn load_scene(s: &[u8], node: u8) -> Scene
     let change = load_change(s);
     let at_rest = rest(s);
     let applied = load_head(s, APPLIED_AT);
-    let is_settled = settled(s);
     let open = line(s, node);
     Scene {
         committed,
         change,
         rest: at_rest,
         applied,
-        settled: is_settled,
         line: open,
     }
+}
+
+// Whether a side's apply is next: committed, Pending, and its ordinal straight after Applied's.
+fn is_next(x: Side, applied: Ordinal) -> bool
+    ensures { λ r. ⌜ r ≡ isNext (applied .0) x ⌝ }
+{
+    let commit = x.commit;
+    let apply = x.apply;
+    let o = x.ordinal;
+    let committed = commit.complete();
+    let pending = apply.pending();
+    let follows = o.follows(applied);
+    committed & (pending & follows)
+}
+
+// Whether the applied side is settled, where a side of the entry is next: the rules ask it at no other, and then no entry is
+// looked at.
+fn settled_at(s: &[u8], t: Transaction, applied: Ordinal) -> bool
+    requires { ⌜ formed (now s) ≡ true ⌝ }
+    ensures { λ r. ⌜ r ≡ settledAt (applied .0) t (view (now (s .entry))) ⌝ }
+{
+    let x = t.change;
+    let y = t.rollback;
+    let change = is_next(x, applied);
+    let rollback = is_next(y, applied);
+    if change | rollback {
+        return settled(s);
+    }
+    true
 }
 
 // Whether a stage neither waits nor goes.
@@ -190,8 +217,8 @@ fn skip(s: &[u8], from: u16) -> u16
 }
 
 // The four jobs of entry t, numbered i: what the validation and the push of the change would answer is handed in.
-fn try_jobs(t: Transaction, i: Number, x: Scene, valid: bool, taken: bool) -> Tried
-    ensures { λ r. ⌜ r ≡ tries t i x valid taken ⌝ }
+fn try_jobs(t: Transaction, i: Number, x: Scene, settled: bool, valid: bool, taken: bool) -> Tried
+    ensures { λ r. ⌜ r ≡ tries t i x settled valid taken ⌝ }
 {
     let committed = x.committed;
     let applied = x.applied;
@@ -203,7 +230,7 @@ fn try_jobs(t: Transaction, i: Number, x: Scene, valid: bool, taken: bool) -> Tr
             lacks: false,
         };
     }
-    let b = apply_change(t, applied, x.settled, i, x.line, taken);
+    let b = apply_change(t, applied, settled, i, x.line, taken);
     if b.answer == 0 {
         return Tried {
             job: 2,
@@ -217,7 +244,7 @@ fn try_jobs(t: Transaction, i: Number, x: Scene, valid: bool, taken: bool) -> Tr
             lacks: false,
         };
     }
-    let d = apply_rollback(t, applied, x.settled, i, x.line, true);
+    let d = apply_rollback(t, applied, settled, i, x.line, true);
     if d.answer == 0 {
         return Tried {
             job: 4,
@@ -248,6 +275,8 @@ fn find(s: &[u8], node: u8, outcomes: &[u8], from: u16) -> Found
     ensures { λ r. ⌜ Finds (view (now (s .entry))) node (now (outcomes .entry)) r ⌝ }
 {
     let x = load_scene(s, node);
+    let h = x.applied;
+    let applied = h.ordinal;
     let b = last_fold(s);
     let n = last_number(s);
     let mut i = from;
@@ -258,7 +287,8 @@ fn find(s: &[u8], node: u8, outcomes: &[u8], from: u16) -> Found
         let k = 2 * ((i - b) as usize);
         let valid = outcomes[k];
         let taken = outcomes[k + 1];
-        let f = try_jobs(t, Number::of(number), x, valid == 0, taken == 0);
+        let quiet = settled_at(s, t, applied);
+        let f = try_jobs(t, Number::of(number), x, quiet, valid == 0, taken == 0);
         let job = f.job;
         if 0 < job {
             return Found {

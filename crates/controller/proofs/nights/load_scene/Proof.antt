@@ -18,14 +18,11 @@ rest-requires c κs = search needs
 load-head-requires-2 : tie.Need-load-head-requires-2
 load-head-requires-2 c κs = let h = size _ (c .before .before .before .before .pre .0) in omega arith
 
-settled-requires : tie.Need-settled-requires
-settled-requires c κs = search needs
-
 line-requires : tie.Need-line-requires
 line-requires c κs = search needs
 
 returns : tie.Need-returns
-returns c = scene-shown _ _ _ _ _ _ _ _ (c .before .before .before .before .before .load-head .ensures) (c .before .before .before .before .load-change .ensures) (c .before .before .before .rest .ensures) (c .before .before .load-head2 .ensures) (c .before .settled .ensures) (c .line .ensures)
+returns c = scene-shown _ _ _ _ _ _ _ (c .before .before .before .before .load-head .ensures) (c .before .before .before .load-change .ensures) (c .before .before .rest .ensures) (c .before .load-head2 .ensures) (c .line .ensures)
 
 pub load-scene-spec : {M : Type 1} → statement M
 load-scene-spec =
@@ -35,6 +32,5 @@ load-scene-spec =
     load-change-requires
     rest-requires
     load-head-requires-2
-    settled-requires
     line-requires
     returns)
