@@ -16,20 +16,22 @@ use Rattle.kinds.specs.declared.Target.{Target}
 use Rattle.kinds.specs.declared.Configuration.{Configuration}
 use Rattle.kinds.specs.declared.Status.{Status}
 use Rattle.kinds.specs.declared.Status.the-variants.{None, Pending, InProgress, Complete, Aborted, Canceled, Failed}
-use Rattle.kinds.specs.Numbers.{num, follows}
+use Rattle.kinds.specs.Numbers.{num, follows, isFull, nextOrdinal}
 use Rattle.kinds.specs.Statuses.{isComplete, isPending}
 use Rattle.rules.specs.declared.Plan.{Plan}
+use Rattle.rules.specs.declared.CommitTests.{CommitTests}
 use Rattle.rules.specs.declared.ApplyChangeTests.{ApplyChangeTests}
 use Rattle.rules.specs.declared.ApplyRollbackTests.{ApplyRollbackTests}
 use Rattle.rules.specs.AtRest.{atRest}
 use Rattle.rules.specs.CommitChange.{commitChange}
+use Rattle.rules.specs.CommitChange as commit
 use Rattle.rules.specs.CommitRollback.{commitRollback}
 use Rattle.rules.specs.ApplyChange.{applyChange}
 use Rattle.rules.specs.ApplyChange as change
 use Rattle.rules.specs.ApplyRollback.{applyRollback}
 use Rattle.rules.specs.ApplyRollback as rollback
 use Rattle.rules.specs.Outside.{lineOpen}
-use Rattle.machine.specs.State.{State, entryOf, last, nodeOf, lineOpenFor}
+use Rattle.machine.specs.State.{State, entryOf, last, four, nodeOf, lineOpenFor}
 use Rattle.machine.specs.Stores.{ofCommitted}
 use Rattle.machine.specs.WellFormed.{allEntries}
 use Rattle.machine.specs.Settled.{entrySettled, settled}
@@ -42,7 +44,7 @@ use Rattle.image.specs.View.{tableOf, view}
 use Rattle.image.specs.Formed.{formed}
 use Rattle.image.proofs.Scanned.{Room, view-last, view-entry, formed-length, formed-room, formed-state}
 use Rattle.controller.specs.Claims.{Entry, settledFor}
-use Rattle.controller.specs.Nights.{isNext, settledAt}
+use Rattle.controller.specs.Nights.{isNext, settledAt, presentAt}
 
 -- ---- a well-formed image
 module _ (l : List ℕ) (w : formed l ≡ true) where
@@ -210,6 +212,32 @@ module _ (t : Transaction) (h : Head) (s : State) (i : Number) (line ok : Bool) 
       go true Aborted f false q = refl
       go true Canceled f false q = refl
       go true Failed f false q = refl
+
+-- ---- the present values are kept only where a change begins
+module _ (t : Transaction) (h : Head) (k : Number) (q : Bool) (i : Number) (ok : Bool) (vs : List ℕ) where
+  abbrev commit-tests : (ready accepted full landed : Bool) → CommitTests
+  commit-tests f y z u = record { ready = f; aimed = eqb (h .target .0) (i .0); rest = q; accepted = y; full = z; landed = u }
+
+  pub begin-present : commitChange t h k q i ok (presentAt (k .0) (i .0) vs t) ≡ commitChange t h k q i ok (present vs t)
+  unfolding presentAt
+  begin-present = go (t .change .commit) (follows (k .0) (i .0)) ok (isFull (h .ordinal .0)) (eqb (k .0) (i .0))
+    where
+      go : (x : Status) (f y z u : Bool)
+          → commit.plans (commit.rule x (commit-tests f y z u)) t h i (nextOrdinal (h .ordinal)) (cond (isPending x && f) (present vs t) four)
+          ≡ commit.plans (commit.rule x (commit-tests f y z u)) t h i (nextOrdinal (h .ordinal)) (present vs t)
+      go Pending true y z u = refl
+      go Pending false y z u = refl
+      go InProgress true true true u = refl
+      go InProgress true true false u = refl
+      go InProgress true false z u = refl
+      go InProgress false y z true = refl
+      go InProgress false y z false = refl
+      go Failed true y z u = refl
+      go Failed false y z u = refl
+      go None f y z u = refl
+      go Complete f y z u = refl
+      go Aborted f y z u = refl
+      go Canceled f y z u = refl
 
 -- ---- the line
 pub line-shown : (l : List ℕ) (n : ℕ) (x : Connection) (m : Mastership) (t : Target) (g : Configuration) (r : Bool)

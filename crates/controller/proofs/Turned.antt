@@ -16,8 +16,8 @@ use Rattle.kinds.specs.declared.Ordinal.{Ordinal}
 use Rattle.kinds.specs.declared.Mastership.{Mastership}
 use Rattle.kinds.specs.declared.Event.{Event}
 use Rattle.kinds.specs.declared.Reply.{Reply}
-use Rattle.kinds.specs.Numbers.{num, nextOrdinal}
-use Rattle.kinds.specs.Statuses.{codeOf}
+use Rattle.kinds.specs.Numbers.{num, follows, nextOrdinal}
+use Rattle.kinds.specs.Statuses.{codeOf, isPending}
 use Rattle.rules.specs.declared.Plan.{Plan}
 use Rattle.rules.specs.declared.CommitChangeRule.{CommitChangeRule}
 use Rattle.rules.specs.declared.CommitRollbackRule.{CommitRollbackRule}
@@ -27,10 +27,12 @@ use Rattle.rules.specs.CommitChange as job1
 use Rattle.rules.specs.CommitRollback as job3
 use Rattle.rules.specs.ApplyChange.{applyChange}
 use Rattle.rules.specs.ApplyRollback.{applyRollback}
-use Rattle.machine.specs.State.{State, entryOf, last, four, isNode, isMaster, lineOpenFor}
+use Rattle.machine.specs.State.{State, entryOf, last, four, inLog, isKept, isNode, isMaster, lineOpenFor}
 use Rattle.machine.specs.Settled.{settled}
 use Rattle.machine.specs.Rest.{restOf}
-use Rattle.machine.specs.Calls.{Call, Outcome, work, planOf, present}
+use Rattle.machine.specs.Stores.{ofCommitted}
+use Rattle.machine.specs.Rows.{rowsOf}
+use Rattle.machine.specs.Calls.{Call, Outcome, work, unless, workOk, planOf, planned, commits, present, decide}
 use Rattle.machine.specs.Step.{outcome, step, stateFrom, eventsFrom}
 use Rattle.machine.specs.Night as machine
 use Rattle.machine.specs.Night.{bits, tableOk, trial, turn, all, turns, needsLine, stoppedBy, whyStopped, nightOk}
@@ -39,9 +41,9 @@ use Rattle.machine.proofs.Worked.{worked, worked-leaves}
 use Rattle.fields.specs.Field.{putField, putFields}
 use Rattle.fields.proofs.Laws.{Bytes}
 use Rattle.fields.proofs.Runs.{length-puts}
-use Rattle.image.specs.Layout.{committedAt, appliedAt}
+use Rattle.image.specs.Layout.{committedAt, appliedAt, imageLength}
 use Rattle.image.specs.Records.{entryAt, lastOf, foldedOf, changeOf, headAt, mastershipOf}
-use Rattle.image.specs.View.{view, written}
+use Rattle.image.specs.View.{view, tableOf, written}
 use Rattle.image.specs.Formed.{formed}
 use Rattle.image.proofs.Scanned.{formed-length, formed-state}
 use Rattle.image.proofs.UpTo.{and-left, and-right}
@@ -51,8 +53,8 @@ use Rattle.controller.specs.declared.nights.Scene.{Scene}
 use Rattle.controller.specs.declared.nights.Tried.{Tried}
 use Rattle.controller.specs.declared.nights.Found.{Found}
 use Rattle.controller.specs.Claims.{outcomeOf, Does}
-use Rattle.controller.specs.Nights.{lentFrom, putEvent, roomAfter, eventSize, fours, eventNumbers, fitting, given, Leaves, Nights, nightIn, refuses, Awake, sceneOf, isNext, settledAt, stands, idle, idleIn, Quiet, firstOf, tries, outcomeBy, Finds, stoppedAt, Through, Nighted}
-use Rattle.controller.proofs.Decided.{entry-of, room, last-is, next-change, next-rollback}
+use Rattle.controller.specs.Nights.{lentFrom, putEvent, roomAfter, eventSize, fours, eventNumbers, fitting, given, Leaves, Nights, nightIn, refuses, Awake, sceneOf, isNext, settledAt, presentAt, stands, idle, idleIn, Quiet, goes, firstOf, tries, outcomeIn, Finds, stoppedAt, Through, Nighted}
+use Rattle.controller.proofs.Decided.{size, entry-of, room, last-is, next-change, next-rollback, begin-present}
 use Rattle.controller.proofs.Idle.{told-idle, idle-waits, folds-nothing, idle-stays}
 
 -- ---- the table: the outcomes before the i-th are 0 or 1
@@ -96,15 +98,6 @@ module _ (os : List ℕ) where
 
 -- ---- what is small
 module _ (j : ℕ) where
-  pub outcome-1 : (v u : ℕ) → j ≡ 1 → v ≡ outcomeBy j v u
-  outcome-1 v u e = rw (eq-eqb j 1 e)
-
-  pub outcome-2 : (v u : ℕ) → (j ≡ 1 → ⊥) → j ≡ 2 → u ≡ outcomeBy j v u
-  outcome-2 v u a e = rw (ne-eqb j 1 a, eq-eqb j 2 e)
-
-  pub outcome-0 : (v u : ℕ) → (j ≡ 1 → ⊥) → (j ≡ 2 → ⊥) → 0 ≡ outcomeBy j v u
-  outcome-0 v u a b = rw (ne-eqb j 1 a, ne-eqb j 2 b)
-
   pub stopped-1 : (x : Bool) → j ≡ 0 → x ≡ true → 1 ≡ stoppedAt j x
   stopped-1 x e t = rw (eq-eqb j 0 e, t)
 
@@ -165,51 +158,58 @@ module _ (a : ℕ) (t : Transaction) (s : State) (x y : Bool) (ex : x ≡ isNext
   unfolding settledAt
   asked-not e = sym (ap (λ (z : Bool). cond z (settled s) true) (next-is false e))
 
--- ---- the first of four answers
-module _ (a b c d : ℕ) where
-  pub first-1 : (p : ℕ) → p ≡ a → p ≡ 0 → _≡_ {A = Tried} (record { job = 1; lacks = false }) (firstOf a b c d)
+-- ---- the present values, loaded where a change may begin
+module _ (c i : ℕ) (vs : List ℕ) (t : Transaction) (x y : Bool) (ex : x ≡ isPending (t .change .commit)) (ey : y ≡ follows c i) where
+  begins-is : (z : Bool) → (x && y) ≡ z → (isPending (t .change .commit) && follows c i) ≡ z
+  begins-is z e = sym (ap₂ (λ (u v : Bool). u && v) ex ey) ∙ e
+
+  pub loaded-present : (r : List ℕ) → (x && y) ≡ true → r ≡ present vs t → r ≡ presentAt c i vs t
+  unfolding presentAt
+  loaded-present r e q = q ∙ sym (ap (λ (z : Bool). cond z (present vs t) four) (begins-is true e))
+
+  pub loaded-none : (x && y) ≡ false → four ≡ presentAt c i vs t
+  unfolding presentAt
+  loaded-none e = sym (ap (λ (z : Bool). cond z (present vs t) four) (begins-is false e))
+
+-- ---- the first of four plans
+module _ (a b c d : Plan) (r : Tried) where
+  pub first-1 : (p : Plan) → p ≡ a → p .answer ≡ 0 → r ≡ goes 1 p → r ≡ firstOf a b c d
   unfolding firstOf
-  first-1 p ea za = rw (eq-eqb a 0 (sym ea ∙ za))
+  first-1 p ea za q = q ∙ ap (goes 1) ea ∙ rw (eq-eqb (a .answer) 0 (sym (ap (λ (z : Plan). z .answer) ea) ∙ za))
 
-  module _ (p : ℕ) (ea : p ≡ a) (na : p ≡ 0 → ⊥) where
-    x : eqb a 0 ≡ false
-    x = ne-eqb a 0 (λ z. na (ea ∙ z))
+  module _ (p : Plan) (ea : p ≡ a) (na : p .answer ≡ 0 → ⊥) where
+    x : eqb (a .answer) 0 ≡ false
+    x = ne-eqb (a .answer) 0 (λ z. na (ap (λ (y : Plan). y .answer) ea ∙ z))
 
-    pub first-2 : (q : ℕ) → q ≡ b → q ≡ 0 → _≡_ {A = Tried} (record { job = 2; lacks = false }) (firstOf a b c d)
+    pub first-2 : (q : Plan) → q ≡ b → q .answer ≡ 0 → r ≡ goes 2 q → r ≡ firstOf a b c d
     unfolding firstOf
-    first-2 q eb zb = rw (x, eq-eqb b 0 (sym eb ∙ zb))
+    first-2 q eb zb e = e ∙ ap (goes 2) eb ∙ rw (x, eq-eqb (b .answer) 0 (sym (ap (λ (z : Plan). z .answer) eb) ∙ zb))
 
-    module _ (q : ℕ) (eb : q ≡ b) (nb : q ≡ 0 → ⊥) where
-      y : eqb b 0 ≡ false
-      y = ne-eqb b 0 (λ z. nb (eb ∙ z))
+    module _ (q : Plan) (eb : q ≡ b) (nb : q .answer ≡ 0 → ⊥) where
+      y : eqb (b .answer) 0 ≡ false
+      y = ne-eqb (b .answer) 0 (λ z. nb (ap (λ (u : Plan). u .answer) eb ∙ z))
 
-      pub first-3 : (r : ℕ) → r ≡ c → r ≡ 0 → _≡_ {A = Tried} (record { job = 3; lacks = false }) (firstOf a b c d)
+      pub first-3 : (u : Plan) → u ≡ c → u .answer ≡ 0 → r ≡ goes 3 u → r ≡ firstOf a b c d
       unfolding firstOf
-      first-3 r ec zc = rw (x, y, eq-eqb c 0 (sym ec ∙ zc))
+      first-3 u ec zc e = e ∙ ap (goes 3) ec ∙ rw (x, y, eq-eqb (c .answer) 0 (sym (ap (λ (z : Plan). z .answer) ec) ∙ zc))
 
-      module _ (r : ℕ) (ec : r ≡ c) (nc : r ≡ 0 → ⊥) where
-        pub first-4 : (s : ℕ) → s ≡ d → s ≡ 0 → _≡_ {A = Tried} (record { job = 4; lacks = false }) (firstOf a b c d)
-        unfolding firstOf
-        first-4 s ed zd = rw (x, y, ne-eqb c 0 (λ z. nc (ec ∙ z)), eq-eqb d 0 (sym ed ∙ zd))
+      module _ (u : Plan) (ec : u ≡ c) (nc : u .answer ≡ 0 → ⊥) where
+        z : eqb (c .answer) 0 ≡ false
+        z = ne-eqb (c .answer) 0 (λ w. nc (ap (λ (v : Plan). v .answer) ec ∙ w))
 
-        pub first-0 : (s : ℕ) → s ≡ d → (s ≡ 0 → ⊥) → _≡_ {A = Tried} (record { job = 0; lacks = eqb q 12 || eqb s 12 }) (firstOf a b c d)
+        pub first-4 : (v : Plan) → v ≡ d → v .answer ≡ 0 → r ≡ goes 4 v → r ≡ firstOf a b c d
         unfolding firstOf
-        first-0 s ed nd = rw (x, y, ne-eqb c 0 (λ z. nc (ec ∙ z)), ne-eqb d 0 (λ z. nd (ed ∙ z)), eb, ed)
+        first-4 v ed zd e = e ∙ ap (goes 4) ed ∙ rw (x, y, z, eq-eqb (d .answer) 0 (sym (ap (λ (w : Plan). w .answer) ed) ∙ zd))
+
+        pub first-0 : (v : Plan) → v ≡ d → (v .answer ≡ 0 → ⊥) → r ≡ record { job = 0; lacks = eqb (q .answer) 12 || eqb (v .answer) 12; plan = v } → r ≡ firstOf a b c d
+        unfolding firstOf
+        first-0 v ed nd e =
+            e ∙ ap₂ (λ (m w : Plan). record { job = 0; lacks = eqb (m .answer) 12 || eqb (w .answer) 12; plan = w }) eb ed
+            ∙ rw (x, y, z, ne-eqb (d .answer) 0 (λ w. nd (ap (λ (m : Plan). m .answer) ed ∙ w)))
 
 -- ---- what the rules answer
--- what job 1 would keep does not change its answer
 module _ (t : Transaction) (h : Head) (i : Number) (o : Ordinal) where
-  answer-same : (r : CommitChangeRule) (vs ws : List ℕ) → job1.plans r t h i o vs .answer ≡ job1.plans r t h i o ws .answer
-  answer-same change.Begin vs ws = refl
-  answer-same change.Aim vs ws = refl
-  answer-same change.Land vs ws = refl
-  answer-same change.Full vs ws = refl
-  answer-same change.Reject vs ws = refl
-  answer-same change.Finish vs ws = refl
-  answer-same change.Close vs ws = refl
-  answer-same change.Wait vs ws = refl
-
-  -- and the commit jobs never answer 12
+  -- the commit jobs never answer 12
   open-1 : (r : CommitChangeRule) (vs : List ℕ) → eqb (job1.plans r t h i o vs .answer) 12 ≡ false
   open-1 change.Begin vs = refl
   open-1 change.Aim vs = refl
@@ -241,17 +241,16 @@ module _ (s : State) (n i : ℕ) where
   abbrev o : Ordinal
   o = nextOrdinal (s .committed .head .ordinal)
 
-  tries-plans : (v u : Bool) → tries t (num i) (sceneOf s n) (settledAt (s .applied .head .ordinal .0) t s) v u
-      ≡ firstOf (planOf s n 1 i v .answer) (planOf s n 2 i u .answer) (planOf s n 3 i true .answer) (planOf s n 4 i true .answer)
+  tries-plans : (v u : Bool) → tries t (num i) (sceneOf s n) (settledAt (s .applied .head .ordinal .0) t s) v u (presentAt (s .change .0) i (s .committed .values) t)
+      ≡ firstOf (planOf s n 1 i v) (planOf s n 2 i u) (planOf s n 3 i true) (planOf s n 4 i true)
   unfolding planOf
   tries-plans v u =
       let h = s .applied .head in
       let q = settledAt (h .ordinal .0) t s in
       let line = lineOpenFor (s .net) n in
-      ap (λ (a : ℕ). firstOf a (applyChange t h q (num i) line u .answer) (planOf s n 3 i true .answer) (applyRollback t h q (num i) line true .answer))
-      (answer-same t (s .committed .head) (num i) o (rule1 v) four (present (s .committed .values) t))
-      ∙ ap₂ (λ (a b : Plan). firstOf (planOf s n 1 i v .answer) (a .answer) (planOf s n 3 i true .answer) (b .answer)) (next-change t h s (num i) line u)
-      (next-rollback t h s (num i) line true)
+      ap (λ (a : Plan). firstOf a (applyChange t h q (num i) line u) (planOf s n 3 i true) (applyRollback t h q (num i) line true))
+      (begin-present t (s .committed .head) (s .change) (restOf s) (num i) v (s .committed .values))
+      ∙ ap₂ (λ (a b : Plan). firstOf (planOf s n 1 i v) a (planOf s n 3 i true) b) (next-change t h s (num i) line u) (next-rollback t h s (num i) line true)
 
   never-12-1 : (v : Bool) → eqb (planOf s n 1 i v .answer) 12 ≡ false
   unfolding planOf
@@ -269,7 +268,8 @@ Scan l n os b h i x = (b ≤ i) × ((i ≤ h) × Scanned (view l) os n (i - b) (
 -- what is found of an entry: the first job that goes, or the same scan with a number more
 pub record Here (l : List ℕ) (n : ℕ) (os : List ℕ) (b h i : ℕ) (x : Bool) (f : Tried) : Type 0 where
   pub more : f .job ≡ 0 → Scan l n os b h (i + 1) (x || f .lacks)
-  pub done : (f .job ≡ 0 → ⊥) → turn (view l) os n ≡ work n (f .job) (i + 1) (outcomeBy (f .job) (getD os (2 * (i - b)) 0) (getD os (2 * (i - b) + 1) 0)) 0 ∷ []
+  pub done : (f .job ≡ 0 → ⊥) → turn (view l) os n ≡ work n (f .job) (i + 1) (outcomeIn (view l) os (f .job) (i + 1)) 0 ∷ []
+  pub plan : (f .job ≡ 0 → ⊥) → f .plan ≡ planOf (view l) n (f .job) (i + 1) (eqb (outcomeIn (view l) os (f .job) (i + 1)) 0)
 
 module _ (l : List ℕ) (n : ℕ) (os : List ℕ) (w : Awake l n os) (b h : ℕ) (eb : b ≡ foldedOf l) (eh : h ≡ lastOf l) where
   abbrev s : State
@@ -333,11 +333,12 @@ module _ (l : List ℕ) (n : ℕ) (os : List ℕ) (w : Awake l n os) (b h : ℕ)
       let z : length os ≡ 256 = eqb-true (length os) 256 (and-left (eqb (length os) 256) (bits os) (w .table)) in
       omega (arith, room l (w .formed) .1 .0)
 
-  pub scan-end : (i : ℕ) (x : Bool) → Scan l n os b h i x → h ≤ i → Finds s n os (record { job = 0; number = 0; outcome = 0; lacks = x })
-  scan-end i x v p =
+  pub scan-end : (i : ℕ) (x : Bool) (q : Plan) → Scan l n os b h i x → h ≤ i → Finds s n os (record { job = 0; number = 0; lacks = x; plan = q })
+  scan-end i x q v p =
       let z : h - i ≡ 0 = omega arith in
       record {
         some = λ f. absurd (f refl);
+        plan = λ f. absurd (f refl);
         none = λ f. scanned-end s os n (i - b) x (subst (λ (k : ℕ). Scanned s os n (i - b) k x) z (v .1 .1));
       }
 
@@ -348,6 +349,9 @@ module _ (l : List ℕ) (n : ℕ) (os : List ℕ) (w : Awake l n os) (b h : ℕ)
     number-is : at + suc k ≡ i + 1
     number-is = omega (arith, at-is, v .0)
 
+    place-is : suc k ≡ i + 1 - at
+    place-is = omega (arith, at-is, v .0)
+
     abbrev valid : ℕ
     valid = getD os (2 * k) 0
 
@@ -357,20 +361,26 @@ module _ (l : List ℕ) (n : ℕ) (os : List ℕ) (w : Awake l n os) (b h : ℕ)
     says-here : (j : ℕ) → 1 ≤ j → j ≤ 4 → answer j (suc k) ≡ planOf s n j (at + suc k) (eqb (machine.outcomeAt os j (suc k)) 0) .answer
     says-here = says k (omega (arith, v .0))
 
-    answers-are : (t : Transaction) (c : Number) (y : Scene) (q : Bool) (f : Tried) → t ≡ entryAt l (i + 1) → c ≡ num (i + 1) → y ≡ sceneOf s n
-        → q ≡ settledAt (y .applied .ordinal .0) t s → f ≡ tries t c y q (eqb valid 0) (eqb taken 0)
-        → f ≡ firstOf (answer 1 (suc k)) (answer 2 (suc k)) (answer 3 (suc k)) (answer 4 (suc k))
-    answers-are t c y q f et ec ey eq ef =
+    abbrev plan-of : ℕ → Plan
+    plan-of j = planOf s n j (at + suc k) (eqb (machine.outcomeAt os j (suc k)) 0)
+
+    zero-is : (j : ℕ) → 1 ≤ j → j ≤ 4 → (z : Bool) → eqb (plan-of j .answer) 0 ≡ z → eqb (answer j (suc k)) 0 ≡ z
+    zero-is j y u z e = ap (λ (a : ℕ). eqb a 0) (says-here j y u) ∙ e
+
+    plans-are : (t : Transaction) (c : Number) (y : Scene) (q : Bool) (vs : List ℕ) (f : Tried) → t ≡ entryAt l (i + 1) → c ≡ num (i + 1) → y ≡ sceneOf s n
+        → q ≡ settledAt (y .applied .ordinal .0) t s → vs ≡ presentAt (y .change .0) (c .0) (tableOf l ofCommitted) t → f ≡ tries t c y q (eqb valid 0) (eqb taken 0) vs
+        → f ≡ firstOf (plan-of 1) (plan-of 2) (plan-of 3) (plan-of 4)
+    unfolding view tableOf
+    plans-are t c y q vs f et ec ey eq ev ef =
+        let ws = s .committed .values in
         let r : t ≡ entryOf (s .log) (i + 1) = et ∙ sym (entry-of l (i + 1) (omega (arith, v .0)) (omega arith)) in
-        ef ∙ ap (λ (d : Bool). tries t c y d (eqb valid 0) (eqb taken 0)) eq
-        ∙ ap₂ (λ (a : Transaction) (d : Number). tries a d y (settledAt (y .applied .ordinal .0) a s) (eqb valid 0) (eqb taken 0)) r ec
-        ∙ ap (λ (d : Scene). tries (entryOf (s .log) (i + 1)) (num (i + 1)) d (settledAt (d .applied .ordinal .0) (entryOf (s .log) (i + 1)) s) (eqb valid 0) (eqb taken 0)) ey
-        ∙ ap (λ (d : ℕ). tries (entryOf (s .log) d) (num d) (sceneOf s n) (settledAt (s .applied .head .ordinal .0) (entryOf (s .log) d) s) (eqb valid 0) (eqb taken 0)) (sym number-is)
+        ef ∙ ap₂ (λ (d : Bool) (e : List ℕ). tries t c y d (eqb valid 0) (eqb taken 0) e) eq ev
+        ∙ ap₂ (λ (a : Transaction) (d : Number). tries a d y (settledAt (y .applied .ordinal .0) a s) (eqb valid 0) (eqb taken 0) (presentAt (y .change .0) (d .0) ws a)) r ec
+        ∙ ap (λ (d : Scene). tries (entryOf (s .log) (i + 1)) (num (i + 1)) d (settledAt (d .applied .ordinal .0) (entryOf (s .log) (i + 1)) s) (eqb valid 0) (eqb taken 0)
+        (presentAt (d .change .0) (i + 1) ws (entryOf (s .log) (i + 1)))) ey
+        ∙ ap (λ (d : ℕ). tries (entryOf (s .log) d) (num d) (sceneOf s n) (settledAt (s .applied .head .ordinal .0) (entryOf (s .log) d) s) (eqb valid 0) (eqb taken 0)
+        (presentAt (s .change .0) d ws (entryOf (s .log) d))) (sym number-is)
         ∙ tries-plans s n (at + suc k) (eqb valid 0) (eqb taken 0)
-        ∙ sym
-        (ap₂ (λ (a d : ℕ). firstOf a d (answer 3 (suc k)) (answer 4 (suc k))) (says-here 1 (omega arith) (omega arith)) (says-here 2 (omega arith) (omega arith))
-        ∙ ap₂ (λ (a d : ℕ). firstOf (planOf s n 1 (at + suc k) (eqb valid 0) .answer) (planOf s n 2 (at + suc k) (eqb taken 0) .answer) a d) (says-here 3 (omega arith) (omega arith))
-        (says-here 4 (omega arith) (omega arith)))
 
     -- one left of those that are left
     left : Scanned s os n k (suc (h - suc i)) x
@@ -383,43 +393,53 @@ module _ (l : List ℕ) (n : ℕ) (os : List ℕ) (w : Awake l n os) (b h : ℕ)
         let d : h - suc i ≡ h - (i + 1) = omega arith in
         (omega (arith, v .0), (omega arith, subst (λ (m : ℕ). Scanned s os n m (h - (i + 1)) z) a (subst (λ (m : ℕ). Scanned s os n (suc k) m z) d y)))
 
-    job-is : (j o : ℕ) → turn s os n ≡ trial os at n j (suc k) ∷ [] → machine.outcomeAt os j (suc k) ≡ o → turn s os n ≡ work n j (i + 1) o 0 ∷ []
-    job-is j o e q = e ∙ ap₂ (λ (m r : ℕ). work n j m r 0 ∷ []) number-is q
+    job-is : (j : ℕ) → turn s os n ≡ trial os at n j (suc k) ∷ [] → turn s os n ≡ work n j (i + 1) (outcomeIn s os j (i + 1)) 0 ∷ []
+    job-is j e = e ∙ ap₂ (λ (m r : ℕ). work n j m (machine.outcomeAt os j r) 0 ∷ []) number-is place-is
 
-    here-is : (f : Tried) → f ≡ firstOf (answer 1 (suc k)) (answer 2 (suc k)) (answer 3 (suc k)) (answer 4 (suc k)) → Here l n os b h i x f
+    plan-is : (j : ℕ) → plan-of j ≡ planOf s n j (i + 1) (eqb (outcomeIn s os j (i + 1)) 0)
+    plan-is j = ap₂ (λ (m r : ℕ). planOf s n j m (eqb (machine.outcomeAt os j r) 0)) number-is place-is
+
+    here-is : (f : Tried) → f ≡ firstOf (plan-of 1) (plan-of 2) (plan-of 3) (plan-of 4) → Here l n os b h i x f
     unfolding firstOf
-    here-is f e = subst (λ (y : Tried). Here l n os b h i x y) (sym e) (go (eqb (answer 1 (suc k)) 0) (eqb (answer 2 (suc k)) 0) (eqb (answer 3 (suc k)) 0) (eqb (answer 4 (suc k)) 0) refl refl refl refl)
+    here-is f e = subst (λ (y : Tried). Here l n os b h i x y) (sym e) (go (eqb (plan-of 1 .answer) 0) (eqb (plan-of 2 .answer) 0) (eqb (plan-of 3 .answer) 0) (eqb (plan-of 4 .answer) 0) refl refl refl refl)
       where
-        none-12 : (eqb (answer 1 (suc k)) 12 || (eqb (answer 2 (suc k)) 12 || (eqb (answer 3 (suc k)) 12 || eqb (answer 4 (suc k)) 12))) ≡ (eqb (answer 2 (suc k)) 12 || eqb (answer 4 (suc k)) 12)
+        none-12 : (eqb (answer 1 (suc k)) 12 || (eqb (answer 2 (suc k)) 12 || (eqb (answer 3 (suc k)) 12 || eqb (answer 4 (suc k)) 12))) ≡ (eqb (plan-of 2 .answer) 12 || eqb (plan-of 4 .answer) 12)
         none-12 =
             let a : eqb (answer 1 (suc k)) 12 ≡ false = ap (λ (d : ℕ). eqb d 12) (says-here 1 (omega arith) (omega arith)) ∙ never-12-1 s n (at + suc k) (eqb valid 0) in
             let c : eqb (answer 3 (suc k)) 12 ≡ false = ap (λ (d : ℕ). eqb d 12) (says-here 3 (omega arith) (omega arith)) ∙ never-12-3 s n (at + suc k) true in
             ap₂ (λ (d r : Bool). d || (eqb (answer 2 (suc k)) 12 || (r || eqb (answer 4 (suc k)) 12))) a c
+            ∙ ap₂ (λ (d r : ℕ). eqb d 12 || eqb r 12) (says-here 2 (omega arith) (omega arith)) (says-here 4 (omega arith) (omega arith))
 
-        found : (j : ℕ) → (j ≡ 0 → ⊥) → turn s os n ≡ work n j (i + 1) (outcomeBy j valid taken) 0 ∷ [] → Here l n os b h i x (record { job = j; lacks = false })
-        found j d q = record { more = λ z. absurd (d z); done = λ z. q }
+        found : (j : ℕ) → (j ≡ 0 → ⊥) → turn s os n ≡ trial os at n j (suc k) ∷ [] → Here l n os b h i x (goes j (plan-of j))
+        found j d q = record { more = λ z. absurd (d z); done = λ z. job-is j q; plan = λ z. plan-is j }
 
-        go : (p q r t : Bool) → eqb (answer 1 (suc k)) 0 ≡ p → eqb (answer 2 (suc k)) 0 ≡ q → eqb (answer 3 (suc k)) 0 ≡ r → eqb (answer 4 (suc k)) 0 ≡ t
-            → Here l n os b h i x (firstOf (answer 1 (suc k)) (answer 2 (suc k)) (answer 3 (suc k)) (answer 4 (suc k)))
-        go true q r t ep eq er et = rw ep (found 1 (λ z. omega arith) (job-is 1 valid (found-1 s os n k (h - suc i) x left ep) refl))
-        go false true r t ep eq er et = rw (ep, eq) (found 2 (λ z. omega arith) (job-is 2 taken (found-2 s os n k (h - suc i) x left ep eq) refl))
-        go false false true t ep eq er et = rw (ep, eq, er) (found 3 (λ z. omega arith) (job-is 3 0 (found-3 s os n k (h - suc i) x left ep eq er) refl))
-        go false false false true ep eq er et = rw (ep, eq, er, et) (found 4 (λ z. omega arith) (job-is 4 0 (found-4 s os n k (h - suc i) x left ep eq er et) refl))
-        go false false false false ep eq er et =
-            rw (ep, eq, er, et)
-            (record {
-              more = λ z. next _ (subst (λ (y : Bool). Scanned s os n (suc k) (h - suc i) (x || y)) none-12 (scanned-more s os n k (h - suc i) x left ep eq er et));
-              done = λ z. absurd (z refl);
-            })
+        go : (p q r t : Bool) → eqb (plan-of 1 .answer) 0 ≡ p → eqb (plan-of 2 .answer) 0 ≡ q → eqb (plan-of 3 .answer) 0 ≡ r → eqb (plan-of 4 .answer) 0 ≡ t
+            → Here l n os b h i x (firstOf (plan-of 1) (plan-of 2) (plan-of 3) (plan-of 4))
+        go p q r t ep eq er et = by p q r t ep eq er et (zero-is 1 (omega arith) (omega arith) p ep) (zero-is 2 (omega arith) (omega arith) q eq) (zero-is 3 (omega arith) (omega arith) r er) (zero-is 4 (omega arith) (omega arith) t et)
+          where
+            by : (p q r t : Bool) → eqb (plan-of 1 .answer) 0 ≡ p → eqb (plan-of 2 .answer) 0 ≡ q → eqb (plan-of 3 .answer) 0 ≡ r → eqb (plan-of 4 .answer) 0 ≡ t
+                → eqb (answer 1 (suc k)) 0 ≡ p → eqb (answer 2 (suc k)) 0 ≡ q → eqb (answer 3 (suc k)) 0 ≡ r → eqb (answer 4 (suc k)) 0 ≡ t
+                → Here l n os b h i x (firstOf (plan-of 1) (plan-of 2) (plan-of 3) (plan-of 4))
+            by true q r t ep eq er et zp zq zr zt = rw ep (found 1 (λ z. omega arith) (found-1 s os n k (h - suc i) x left zp))
+            by false true r t ep eq er et zp zq zr zt = rw (ep, eq) (found 2 (λ z. omega arith) (found-2 s os n k (h - suc i) x left zp zq))
+            by false false true t ep eq er et zp zq zr zt = rw (ep, eq, er) (found 3 (λ z. omega arith) (found-3 s os n k (h - suc i) x left zp zq zr))
+            by false false false true ep eq er et zp zq zr zt = rw (ep, eq, er, et) (found 4 (λ z. omega arith) (found-4 s os n k (h - suc i) x left zp zq zr zt))
+            by false false false false ep eq er et zp zq zr zt =
+                rw (ep, eq, er, et)
+                (record {
+                  more = λ z. next _ (subst (λ (y : Bool). Scanned s os n (suc k) (h - suc i) (x || y)) none-12 (scanned-more s os n k (h - suc i) x left zp zq zr zt));
+                  done = λ z. absurd (z refl);
+                  plan = λ z. absurd (z refl);
+                })
 
-    pub here : (t : Transaction) (c : Number) (y : Scene) (q : Bool) (f : Tried) → t ≡ entryAt l (i + 1) → c ≡ num (i + 1) → y ≡ sceneOf s n
-        → q ≡ settledAt (y .applied .ordinal .0) t s → f ≡ tries t c y q (eqb valid 0) (eqb taken 0) → Here l n os b h i x f
-    here t c y q f et ec ey eq ef = here-is f (answers-are t c y q f et ec ey eq ef)
+    pub here : (t : Transaction) (c : Number) (y : Scene) (q : Bool) (vs : List ℕ) (f : Tried) → t ≡ entryAt l (i + 1) → c ≡ num (i + 1) → y ≡ sceneOf s n
+        → q ≡ settledAt (y .applied .ordinal .0) t s → vs ≡ presentAt (y .change .0) (c .0) (tableOf l ofCommitted) t → f ≡ tries t c y q (eqb valid 0) (eqb taken 0) vs
+        → Here l n os b h i x f
+    here t c y q vs f et ec ey eq ev ef = here-is f (plans-are t c y q vs f et ec ey eq ev ef)
 
     -- a job is found
-    pub here-done : (f : Tried) (o : ℕ) → Here l n os b h i x f → 0 < f .job → o ≡ outcomeBy (f .job) valid taken
-        → Finds s n os (record { job = f .job; number = i + 1; outcome = o; lacks = false })
-    here-done f o y q e = record { some = λ z. y .done z ∙ ap (λ (r : ℕ). work n (f .job) (i + 1) r 0 ∷ []) (sym e); none = λ z. absurd (omega arith) }
+    pub here-done : (f : Tried) → Here l n os b h i x f → 0 < f .job → Finds s n os (record { job = f .job; number = i + 1; lacks = false; plan = f .plan })
+    here-done f y q = record { some = y .done; plan = y .plan; none = λ z. absurd (omega arith) }
 
 -- ---- numbers of which nothing is left
 pub idle-is : (t : Transaction) (c a i : ℕ) (x y z u : Bool) (k m o p : ℕ) → x ≡ stands (t .change .commit) → y ≡ stands (t .change .apply)
@@ -449,6 +469,45 @@ module _ (l : List ℕ) (w : formed l ≡ true) where
       by-last : (k : ℕ) (b : Bool) → eqb k (i + 1) ≡ b → foldedOf l < k → k ≤ i + 1 → idleIn (view l) (i + 1) ≡ true → idleIn (view l) k ≡ true
       by-last k true e a d y = ap (λ (m : ℕ). idleIn (view l) m) (eqb-true k (i + 1) e) ∙ y
       by-last k false e a d y = q .idle k a (let z = eqb-false k (i + 1) e in omega arith)
+
+-- ---- a job that a turn found, done by its plan
+module _ (s : State) (n j i r c : ℕ) where
+  -- accepted, it is what its plan decides
+  is-planned : decide s (work n j i r c) .reply .answer ≡ 0 → decide s (work n j i r c) ≡ planned j (planOf s n j i (eqb r 0)) i c
+  unfolding decide
+  is-planned e = go (workOk n j r c) (inLog s i) (isKept s i) (isMaster (s .net) n) e
+    where
+      go : (v x z m : Bool)
+          → (let o = unless 2 v (unless 5 x (unless 18 z (unless 10 m (planned j (planOf s n j i (eqb r 0)) i c)))) in
+          o .reply .answer ≡ 0 → o ≡ planned j (planOf s n j i (eqb r 0)) i c)
+      go false x z m e = absurd (omega arith)
+      go true false z m e = absurd (omega arith)
+      go true true false m e = absurd (omega arith)
+      go true true true false e = absurd (omega arith)
+      go true true true true e = refl
+
+module _ (m os : List ℕ) (n : ℕ) (w : Awake m n os) (f : Found) (y : Finds (view m) n os f) (z : f .job ≡ 0 → ⊥) where
+  abbrev its-outcome : ℕ
+  its-outcome = outcomeIn (view m) os (f .job) (f .number)
+
+  abbrev call-is : Call
+  call-is = work n (f .job) (f .number) its-outcome 0
+
+  goes-on : step (view m) call-is .reply .answer ≡ 0
+  goes-on = first-accepted (view m) (all (view m) os n) call-is (y .some z)
+
+  pub found-number : (1 ≤ f .number) × (imageLength ≤ length m)
+  found-number = (let q = worked (view m) n (f .job) (f .number) its-outcome 0 goes-on .number .0 in omega arith, size m (w .formed))
+
+  pub found-does : (d : Bool) (m′ : List ℕ) → d ≡ commits (f .job) → m′ ≡ written m (rowsOf d (f .plan) (f .number) false)
+      → Does m call-is (record { answer = f .plan .answer; event = f .plan .event }) m′
+  unfolding step
+  found-does d m′ ed q =
+      let a : decide (view m) call-is .reply .answer ≡ 0 = ap (λ (o : Outcome). o .reply .answer) (sym (steps m call-is (w .formed))) ∙ goes-on in
+      let o : decide (view m) call-is ≡ planned (f .job) (planOf (view m) n (f .job) (f .number) (eqb its-outcome 0)) (f .number) 0 = is-planned (view m) n (f .job) (f .number) its-outcome 0 a in (
+        ap (λ (p : Plan). record { answer = p .answer; event = p .event }) (y .plan z) ∙ sym (ap (λ (x : Outcome). x .reply) o),
+        q ∙ ap₂ (λ (x : Bool) (p : Plan). written m (rowsOf x p (f .number) false)) ed (y .plan z) ∙ sym (ap (λ (x : Outcome). written m (x .stores)) o),
+      )
 
 -- ---- the turns, one after another
 -- from l, k turns were made and each did a job, and m is left

@@ -1,6 +1,6 @@
 -- What `night` claims: refusal 1, then the night that the machine makes of what the image shows (order 2); the image that its
 -- turns leave, and their events in the room that is lent. Assumes nothing.
-use Prim.Native.Nat.{ℕ, _+_, _*_, _/_, _≤_, _<_}
+use Prim.Native.Nat.{ℕ, _+_, _-_, _*_, _/_, _≤_, _<_}
 use mathlib.Core.Path.{_≡_}
 use mathlib.Core.Bool.{Bool, true, false, _&&_, _||_, cond}
 use mathlib.Core.List.{List, [], _∷_}
@@ -14,6 +14,7 @@ use Rattle.kinds.specs.declared.Status.{Status}
 use Rattle.kinds.specs.declared.Status.the-variants.{None, Pending, InProgress, Complete, Aborted, Canceled, Failed}
 use Rattle.kinds.specs.Numbers.{follows}
 use Rattle.kinds.specs.Statuses.{codeOf, isComplete, isPending}
+use Rattle.rules.specs.declared.Plan.{Plan}
 use Rattle.rules.specs.CommitChange.{commitChange}
 use Rattle.rules.specs.CommitRollback.{commitRollback}
 use Rattle.rules.specs.ApplyChange.{applyChange}
@@ -21,9 +22,9 @@ use Rattle.rules.specs.ApplyRollback.{applyRollback}
 use Rattle.machine.specs.State.{State, entryOf, four, isNode, isMaster, lineOpenFor}
 use Rattle.machine.specs.Settled.{settled}
 use Rattle.machine.specs.Rest.{restOf}
-use Rattle.machine.specs.Calls.{Call, work}
+use Rattle.machine.specs.Calls.{Call, work, present, planOf}
 use Rattle.machine.specs.Night as machine
-use Rattle.machine.specs.Night.{tableOk, turn, all, needsLine, nightNot, through}
+use Rattle.machine.specs.Night.{outcomeAt, tableOk, turn, all, needsLine, nightNot, through}
 use Rattle.fields.specs.Field.{putFields}
 use Rattle.image.specs.Records.{lastOf, foldedOf}
 use Rattle.image.specs.View.{view, written}
@@ -107,6 +108,11 @@ isNext a x = isComplete (x .commit) && (isPending (x .apply) && follows a (x .or
 unfoldable pub settledAt : (ordinal : ℕ) → Transaction → State → Bool
 settledAt a t s = cond (isNext a (t .change) || isNext a (t .rollback)) (settled s) true
 
+-- ---- the present values, as a turn loads them
+-- where a change may begin: Pending to be committed, and its number straight after Committed's change
+unfoldable pub presentAt : (change number : ℕ) → List ℕ → Transaction → List ℕ
+presentAt c i vs t = cond (isPending (t .change .commit) && follows c i) (present vs t) four
+
 -- ---- numbers that need not be tried: an entry of which nothing is left
 -- neither Pending nor InProgress
 abbrev pub stands : Status → Bool
@@ -134,27 +140,31 @@ pub record Quiet (l : List ℕ) (i : ℕ) : Type 0 where
   pub idle : (k : ℕ) → foldedOf l < k → k ≤ i → idleIn (view l) k ≡ true
 
 -- ---- a turn
--- the first of four answers that is 0; where none is, whether that of job 2 or 4 is 12
-unfoldable pub firstOf : (a b c d : ℕ) → Tried
+-- a job that goes, with its plan
+abbrev pub goes : ℕ → Plan → Tried
+goes j p = record { job = j; lacks = false; plan = p }
+
+-- the first of four plans that answers 0; where none does, whether that of job 2 or 4 answers 12
+unfoldable pub firstOf : (a b c d : Plan) → Tried
 firstOf a b c d =
-    cond (eqb a 0) (record { job = 1; lacks = false })
-    (cond (eqb b 0) (record { job = 2; lacks = false })
-    (cond (eqb c 0) (record { job = 3; lacks = false })
-    (cond (eqb d 0) (record { job = 4; lacks = false }) (record { job = 0; lacks = eqb b 12 || eqb d 12 }))))
+    cond (eqb (a .answer) 0) (goes 1 a)
+    (cond (eqb (b .answer) 0) (goes 2 b)
+    (cond (eqb (c .answer) 0) (goes 3 c) (cond (eqb (d .answer) 0) (goes 4 d) (record { job = 0; lacks = eqb (b .answer) 12 || eqb (d .answer) 12; plan = d }))))
 
--- the answers of the four jobs; what job 1 would keep does not change its answer
-abbrev pub tries : Transaction → Number → Scene → (settled valid taken : Bool) → Tried
-tries t i x q v u =
-    firstOf (commitChange t (x .committed) (x .change) (x .rest) i v four .answer) (applyChange t (x .applied) q i (x .line) u .answer)
-    (commitRollback t (x .committed) (x .rest) i .answer) (applyRollback t (x .applied) q i (x .line) true .answer)
+-- the plans of the four jobs
+abbrev pub tries : Transaction → Number → Scene → (settled valid taken : Bool) → (values : List ℕ) → Tried
+tries t i x q v u vs =
+    firstOf (commitChange t (x .committed) (x .change) (x .rest) i v vs) (applyChange t (x .applied) q i (x .line) u)
+    (commitRollback t (x .committed) (x .rest) i) (applyRollback t (x .applied) q i (x .line) true)
 
--- the outcome of a job, by the two of its number
-abbrev pub outcomeBy : (job valid taken : ℕ) → ℕ
-outcomeBy j v u = cond (eqb j 1) v (cond (eqb j 2) u 0)
+-- the outcome of a job of number i, by the table
+abbrev pub outcomeIn : State → List ℕ → (job number : ℕ) → ℕ
+outcomeIn s os j i = outcomeAt os j (i - s .log .folded .0)
 
--- a turn's job, or none and whether one was refused with 12
+-- a turn's job with its plan, or none and whether one was refused with 12
 pub record Finds (s : State) (n : ℕ) (os : List ℕ) (r : Found) : Type 0 where
-  pub some : (r .job ≡ 0 → ⊥) → turn s os n ≡ work n (r .job) (r .number) (r .outcome) 0 ∷ []
+  pub some : (r .job ≡ 0 → ⊥) → turn s os n ≡ work n (r .job) (r .number) (outcomeIn s os (r .job) (r .number)) 0 ∷ []
+  pub plan : (r .job ≡ 0 → ⊥) → r .plan ≡ planOf s n (r .job) (r .number) (eqb (outcomeIn s os (r .job) (r .number)) 0)
   pub none : r .job ≡ 0 → (turn s os n ≡ []) × (needsLine s (all s os n) ≡ r .lacks)
 
 -- why it stopped, by a turn's job

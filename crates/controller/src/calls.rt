@@ -223,7 +223,8 @@ fn args_ok(node: u16, job: u16, outcome: u16, cut: u16) -> bool
     (node_ok & ((1 <= job) & (job <= 4))) & ((outcome <= 1) & (cut <= 1))
 }
 
-fn of_commit(job: u16) -> bool
+// Whether a job is of the commit side: 1 and 3.
+pub fn of_commit(job: u16) -> bool
     ensures { λ r. ⌜ r ≡ commits job ⌝ }
 {
     if job == 1 {

@@ -67,7 +67,7 @@ fn present_one(s: &[u8], used: bool, p: u8) -> u16
 }
 
 // The committed values of a change's paths.
-fn present(s: &[u8], t: Transaction) -> [u16; 4]
+pub fn present(s: &[u8], t: Transaction) -> [u16; 4]
     requires { ⌜ imageLength ≤ length (now s) ⌝ }
     ensures { λ r. ⌜ r ≡ present (tableOf (now (s .entry)) ofCommitted) t ⌝ }
 {

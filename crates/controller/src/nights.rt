@@ -2,15 +2,22 @@
 ghost use mathlib.Core.Path.{_≡_};
 ghost use mathlib.Core.Bool.{true};
 ghost use Prim.Native.Nat.{_≤_};
+ghost use lib.ListN.{length};
+ghost use Rattle.rules.specs.Plans.{refuse};
+ghost use Rattle.machine.specs.State.{blank};
+ghost use Rattle.machine.specs.Stores.{ofCommitted};
 ghost use Rattle.machine.specs.Night.{bits, tableOk, nightOk};
-ghost use Rattle.image.specs.View.{view};
+ghost use Rattle.image.specs.Layout.{imageLength};
+ghost use Rattle.image.specs.View.{view, tableOf};
 ghost use Rattle.image.specs.Formed.{formed};
-ghost use Rattle.controller.specs.Nights.{putEvent, fitting, refuses, Awake, sceneOf, isNext, settledAt, stands, idle, Quiet, tries, outcomeBy, Finds, stoppedAt, Through, Nighted};
+ghost use Rattle.controller.specs.Nights.{putEvent, fitting, refuses, Awake, sceneOf, isNext, settledAt, presentAt, stands, idle, Quiet, goes, tries, Finds, stoppedAt, Through, Nighted};
 use crate::calls::is_node;
-use crate::calls::work;
+use crate::calls::of_commit;
 use crate::deciding::line;
+use crate::deciding::present;
 use crate::deciding::rest;
 use crate::deciding::settled;
+use crate::perform::perform;
 use fields::put4;
 use image::APPLIED_AT;
 use image::COMMITTED_AT;
@@ -27,6 +34,9 @@ use kinds::Ordinal;
 use kinds::Side;
 use kinds::Status;
 use kinds::Transaction;
+use rules::Lay;
+use rules::Order;
+use rules::Plan;
 use rules::apply_change;
 use rules::apply_rollback;
 use rules::commit_change;
@@ -63,18 +73,31 @@ struct Scene {
     line: bool,
 }
 
-// The first job of an entry that is not refused, or 0; where it is 0, whether one is refused with 12.
+// The first job of an entry that is not refused with its plan, or 0; where it is 0, whether one is refused with 12.
 struct Tried {
     job: u16,
     lacks: bool,
+    plan: Plan,
 }
 
-// The same of a turn, with the job's number and outcome.
+impl Tried {
+    fn goes(job: u16, plan: Plan) -> Tried
+        ensures { λ r. ⌜ r ≡ goes job plan ⌝ }
+    {
+        Tried {
+            job,
+            lacks: false,
+            plan,
+        }
+    }
+}
+
+// The same of a turn, with the job's number.
 struct Found {
     job: u16,
     number: u16,
-    outcome: u16,
     lacks: bool,
+    plan: Plan,
 }
 
 // ---- the arguments
@@ -147,18 +170,36 @@ fn is_next(x: Side, applied: Ordinal) -> bool
 
 // Whether the applied side is settled, where a side of the entry is next: the rules ask it at no other, and then no entry is
 // looked at.
-fn settled_at(s: &[u8], t: Transaction, applied: Ordinal) -> bool
+fn settled_at(s: &[u8], t: Transaction, x: Scene) -> bool
     requires { ⌜ formed (now s) ≡ true ⌝ }
-    ensures { λ r. ⌜ r ≡ settledAt (applied .0) t (view (now (s .entry))) ⌝ }
+    ensures { λ r. ⌜ r ≡ settledAt (x .applied .ordinal .0) t (view (now (s .entry))) ⌝ }
 {
-    let x = t.change;
-    let y = t.rollback;
-    let change = is_next(x, applied);
-    let rollback = is_next(y, applied);
+    let h = x.applied;
+    let applied = h.ordinal;
+    let c = t.change;
+    let r = t.rollback;
+    let change = is_next(c, applied);
+    let rollback = is_next(r, applied);
     if change | rollback {
         return settled(s);
     }
     true
+}
+
+// The committed values of the paths of a change, where it may begin: they are kept at no other, and then none is loaded.
+fn present_at(s: &[u8], t: Transaction, i: Number, x: Scene) -> [u16; 4]
+    requires { ⌜ imageLength ≤ length (now s) ⌝ }
+    ensures { λ r. ⌜ r ≡ presentAt (x .change .0) (i .0) (tableOf (now (s .entry)) ofCommitted) t ⌝ }
+{
+    let c = t.change;
+    let commit = c.commit;
+    let change = x.change;
+    let pending = commit.pending();
+    let ready = i.follows(change);
+    if pending & ready {
+        return present(s, t);
+    }
+    [0u16, 0, 0, 0]
 }
 
 // Whether a stage neither waits nor goes.
@@ -216,57 +257,74 @@ fn skip(s: &[u8], from: u16) -> u16
     i
 }
 
-// The four jobs of entry t, numbered i: what the validation and the push of the change would answer is handed in.
-fn try_jobs(t: Transaction, i: Number, x: Scene, settled: bool, valid: bool, taken: bool) -> Tried
-    ensures { λ r. ⌜ r ≡ tries t i x settled valid taken ⌝ }
+// The four jobs of entry t, numbered i. Handed in: whether the applied side is settled, what the validation and the push of
+// the change would answer, and the values that it would keep.
+fn try_jobs(
+    t: Transaction,
+    i: Number,
+    x: Scene,
+    settled: bool,
+    valid: bool,
+    taken: bool,
+    values: [u16; 4],
+) -> Tried
+    ensures { λ r. ⌜ r ≡ tries t i x settled valid taken values ⌝ }
 {
     let committed = x.committed;
     let applied = x.applied;
     let change = x.change;
-    let a = commit_change(t, committed, change, x.rest, i, valid, [0u16, 0, 0, 0]);
+    let a = commit_change(t, committed, change, x.rest, i, valid, values);
     if a.answer == 0 {
-        return Tried {
-            job: 1,
-            lacks: false,
-        };
+        return Tried::goes(1, a);
     }
     let b = apply_change(t, applied, settled, i, x.line, taken);
     if b.answer == 0 {
-        return Tried {
-            job: 2,
-            lacks: false,
-        };
+        return Tried::goes(2, b);
     }
     let c = commit_rollback(t, committed, x.rest, i);
     if c.answer == 0 {
-        return Tried {
-            job: 3,
-            lacks: false,
-        };
+        return Tried::goes(3, c);
     }
     let d = apply_rollback(t, applied, settled, i, x.line, true);
     if d.answer == 0 {
-        return Tried {
-            job: 4,
-            lacks: false,
-        };
+        return Tried::goes(4, d);
     }
     Tried {
         job: 0,
         lacks: (b.answer == 12) | (d.answer == 12),
+        plan: d,
     }
 }
 
-fn outcome_by(job: u16, valid: u8, taken: u8) -> u16
-    ensures { λ r. ⌜ r ≡ outcomeBy job valid taken ⌝ }
+// What stands for a plan where no job goes: it answers 11 and stores nothing.
+fn no_plan(h: Head) -> Plan
+    ensures { λ r. ⌜ r ≡ refuse 11 blank h ⌝ }
 {
-    if job == 1 {
-        return valid as u16;
+    let event = Event::none();
+    let change = Side {
+        commit: Status::None,
+        apply: Status::None,
+        ordinal: Ordinal::of(0),
+    };
+    let entry = Transaction {
+        phase: 0,
+        count: 0,
+        paths: [0u8, 0, 0, 0],
+        values: [0u16, 0, 0, 0],
+        change,
+        rollback: change,
+        index: Number::of(0),
+        kept: [0u16, 0, 0, 0],
+    };
+    Plan {
+        answer: 11,
+        event,
+        order: Order::Neither,
+        entry,
+        head: h,
+        change: false,
+        lay: Lay::Nothing,
     }
-    if job == 2 {
-        return taken as u16;
-    }
-    0
 }
 
 // A turn's job: numbers upward, jobs 1 to 4 for each. Nothing is left of those up to `from`.
@@ -275,8 +333,6 @@ fn find(s: &[u8], node: u8, outcomes: &[u8], from: u16) -> Found
     ensures { λ r. ⌜ Finds (view (now (s .entry))) node (now (outcomes .entry)) r ⌝ }
 {
     let x = load_scene(s, node);
-    let h = x.applied;
-    let applied = h.ordinal;
     let b = last_fold(s);
     let n = last_number(s);
     let mut i = from;
@@ -287,25 +343,28 @@ fn find(s: &[u8], node: u8, outcomes: &[u8], from: u16) -> Found
         let k = 2 * ((i - b) as usize);
         let valid = outcomes[k];
         let taken = outcomes[k + 1];
-        let quiet = settled_at(s, t, applied);
-        let f = try_jobs(t, Number::of(number), x, quiet, valid == 0, taken == 0);
-        let job = f.job;
-        if 0 < job {
+        let at = Number::of(number);
+        let quiet = settled_at(s, t, x);
+        let values = present_at(s, t, at, x);
+        let f = try_jobs(t, at, x, quiet, valid == 0, taken == 0, values);
+        if 0 < f.job {
+            let plan = f.plan;
             return Found {
-                job,
+                job: f.job,
                 number,
-                outcome: outcome_by(job, valid, taken),
                 lacks: false,
+                plan,
             };
         }
         lacks = lacks | f.lacks;
         i += 1;
     }
+    let plan = no_plan(x.applied);
     Found {
         job: 0,
         number: 0,
-        outcome: 0,
         lacks,
+        plan,
     }
 }
 
@@ -371,8 +430,9 @@ fn through(s: &mut [u8], node: u16, budget: u16, outcomes: &[u8], events: &mut [
                 events: fitting(k, events.len()),
             };
         }
-        let r = work(s, node, f.job, f.number, f.outcome, 0);
-        let e = r.event;
+        let p = f.plan;
+        let e = p.event;
+        perform(s, of_commit(f.job), f.number, p, false);
         put_event(events, k, e);
         k += 1;
     }

@@ -4,7 +4,7 @@ use native.Mathlib.Omega.{arith}
 use borrow.Author.Needs.{needs}
 use Rattle.controller.specs.Nights.{Quiet}
 use Rattle.controller.proofs.Decided.{size}
-use Rattle.controller.proofs.Turned.{quiet-none, Gone, gone-none, gone-length, quiet-stays, gone-more, over-early, over-spent, awake-node}
+use Rattle.controller.proofs.Turned.{quiet-none, found-number, found-does, Gone, gone-none, gone-length, quiet-stays, gone-more, over-early, over-spent, awake-node}
 use Rattle.controller.proofs.nights.through.Statement.{statement}
 use Rattle.controller.proofs.nights.through.Tie as tie
 
@@ -44,20 +44,23 @@ same-length-2 c = c .before .before .before .before .before .before .before .bef
 returns : tie.Need-returns Inv-loop μ-loop
 returns c = over-early _ _ _ _ _ _ _ (c .before .before .before .before .before .before .before .before .before .loop .inv .1 .0) _ _ (c .before .before .before .before .find .ensures) _ _ (omega (arith, c .before .before .before .before .before .before .before .before .loop-test .taken)) (c .before .before .if1 .taken) (c .before .stopped-at .ensures) (c .fitting .ensures)
 
-work-requires : tie.Need-work-requires Inv-loop μ-loop
-work-requires c κs = c .before .before .before .before .before .before .before .before .loop .inv .1 .0 .0 .awake .formed
+of-commit-requires : tie.Need-of-commit-requires Inv-loop μ-loop
+of-commit-requires c κs = search needs
+
+perform-requires : tie.Need-perform-requires Inv-loop μ-loop
+perform-requires c κs = found-number _ _ _ (c .before .before .before .before .before .before .before .before .before .before .before .loop .inv .1 .0 .0 .awake) _ (c .before .before .before .before .before .before .find .ensures) (c .before .before .before .before .if1 .left)
 
 put-event-requires : tie.Need-put-event-requires Inv-loop μ-loop
 put-event-requires c κs = search needs
 
 add-k : tie.Need-add-k Inv-loop μ-loop
-add-k c = omega (arith, c .before .before .before .before .before .before .before .before .before .before .before .before .before .before .before .loop-test .taken, c .before .before .before .before .before .before .before .before .before .before .before .before .before .before .before .before .before .before .before .before .before .before .fits .budget .fits)
+add-k c = omega (arith, c .before .before .before .before .before .before .before .before .before .before .before .before .before .before .before .before .before .loop-test .taken, c .before .before .before .before .before .before .before .before .before .before .before .before .before .before .before .before .before .before .before .before .before .before .before .before .fits .budget .fits)
 
 loop-less : tie.Need-loop-less Inv-loop μ-loop
-loop-less c = omega (arith, c .before .before .before .before .before .before .before .before .before .before .before .before .before .before .before .loop-test .taken)
+loop-less c = omega (arith, c .before .before .before .before .before .before .before .before .before .before .before .before .before .before .before .before .before .loop-test .taken)
 
 loop-again : tie.Need-loop-again Inv-loop μ-loop
-loop-again c = (omega (arith, c .before .before .before .before .before .before .before .before .before .before .before .before .before .before .before .loop-test .taken), (gone-more _ _ _ _ _ _ _ (c .before .before .before .before .before .before .before .before .before .before .before .before .before .before .before .before .loop .inv .1 .0) _ _ _ (c .before .before .before .before .before .before .before .before .before .before .before .find .ensures .some (c .before .before .before .before .before .before .before .before .before .if1 .left)) _ _ (c .before .before .before .before .before .before .before .work .ensures) _ (c .before .before .put-event .ensures), quiet-stays _ _ _ _ _ _ _ (c .before .before .before .before .before .before .before .before .before .before .before .before .before .before .before .before .loop .inv .1 .0) _ _ _ (c .before .before .before .before .before .before .before .before .before .before .before .find .ensures .some (c .before .before .before .before .before .before .before .before .before .if1 .left)) _ _ (c .before .before .before .before .before .before .before .work .ensures) _ (c .before .before .before .before .before .before .before .before .before .before .before .before .before .skip .ensures)))
+loop-again c = (omega (arith, c .before .before .before .before .before .before .before .before .before .before .before .before .before .before .before .before .before .loop-test .taken), (gone-more _ _ _ _ _ _ _ (c .before .before .before .before .before .before .before .before .before .before .before .before .before .before .before .before .before .before .loop .inv .1 .0) _ _ _ (c .before .before .before .before .before .before .before .before .before .before .before .before .before .find .ensures .some (c .before .before .before .before .before .before .before .before .before .before .before .if1 .left)) _ _ (found-does _ _ _ (c .before .before .before .before .before .before .before .before .before .before .before .before .before .before .before .before .before .before .loop .inv .1 .0 .0 .awake) _ (c .before .before .before .before .before .before .before .before .before .before .before .before .before .find .ensures) (c .before .before .before .before .before .before .before .before .before .before .before .if1 .left) _ _ (c .before .before .before .before .before .before .before .of-commit .ensures) (c .before .before .before .before .before .before .perform .ensures)) _ (c .before .before .put-event .ensures), quiet-stays _ _ _ _ _ _ _ (c .before .before .before .before .before .before .before .before .before .before .before .before .before .before .before .before .before .before .loop .inv .1 .0) _ _ _ (c .before .before .before .before .before .before .before .before .before .before .before .before .before .find .ensures .some (c .before .before .before .before .before .before .before .before .before .before .before .if1 .left)) _ _ (found-does _ _ _ (c .before .before .before .before .before .before .before .before .before .before .before .before .before .before .before .before .before .before .loop .inv .1 .0 .0 .awake) _ (c .before .before .before .before .before .before .before .before .before .before .before .before .before .find .ensures) (c .before .before .before .before .before .before .before .before .before .before .before .if1 .left) _ _ (c .before .before .before .before .before .before .before .of-commit .ensures) (c .before .before .before .before .before .before .perform .ensures)) _ (c .before .before .before .before .before .before .before .before .before .before .before .before .before .before .before .skip .ensures)))
 
 find-requires-2 : tie.Need-find-requires-2 Inv-loop μ-loop
 find-requires-2 c κs = (c .before .before .loop .inv .1 .0 .0 .awake, c .before .before .loop .inv .1 .1)
@@ -93,7 +96,8 @@ through-spec =
     same-length
     same-length-2
     returns
-    work-requires
+    of-commit-requires
+    perform-requires
     put-event-requires
     add-k
     loop-less
