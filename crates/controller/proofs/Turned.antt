@@ -53,7 +53,7 @@ use Rattle.controller.specs.declared.nights.Scene.{Scene}
 use Rattle.controller.specs.declared.nights.Tried.{Tried}
 use Rattle.controller.specs.declared.nights.Found.{Found}
 use Rattle.controller.specs.Claims.{outcomeOf, Does}
-use Rattle.controller.specs.Nights.{lentFrom, putEvent, roomAfter, eventSize, fours, eventNumbers, fitting, given, Leaves, Nights, nightIn, refuses, Awake, sceneOf, isNext, settledAt, presentAt, stands, idle, idleIn, Quiet, goes, firstOf, tries, outcomeIn, Finds, stoppedAt, Through, Nighted}
+use Rattle.controller.specs.Nights.{lentFrom, putEvent, roomAfter, eventSize, fours, eventNumbers, fitting, given, Leaves, Nights, nightIn, refuses, Awake, sceneOf, isNext, settledAt, presentAt, stands, idle, idleIn, Quiet, firstOf, tries, plansBy, outcomeIn, Finds, stoppedAt, Through, Nighted}
 use Rattle.controller.proofs.Decided.{size, entry-of, room, last-is, next-change, next-rollback, begin-present}
 use Rattle.controller.proofs.Idle.{told-idle, idle-waits, folds-nothing, idle-stays}
 
@@ -171,45 +171,69 @@ module _ (c i : ℕ) (vs : List ℕ) (t : Transaction) (x y : Bool) (ex : x ≡ 
   unfolding presentAt
   loaded-none e = sym (ap (λ (z : Bool). cond z (present vs t) four) (begins-is false e))
 
--- ---- the first of four plans
-module _ (a b c d : Plan) (r : Tried) where
-  pub first-1 : (p : Plan) → p ≡ a → p .answer ≡ 0 → r ≡ goes 1 p → r ≡ firstOf a b c d
+-- ---- the first of four answers
+module _ (a b c d : ℕ) where
+  pub first-1 : (p : ℕ) → p ≡ a → p ≡ 0 → _≡_ {A = Tried} (record { job = 1; lacks = false }) (firstOf a b c d)
   unfolding firstOf
-  first-1 p ea za q = q ∙ ap (goes 1) ea ∙ rw (eq-eqb (a .answer) 0 (sym (ap (λ (z : Plan). z .answer) ea) ∙ za))
+  first-1 p ea za = rw (eq-eqb a 0 (sym ea ∙ za))
 
-  module _ (p : Plan) (ea : p ≡ a) (na : p .answer ≡ 0 → ⊥) where
-    x : eqb (a .answer) 0 ≡ false
-    x = ne-eqb (a .answer) 0 (λ z. na (ap (λ (y : Plan). y .answer) ea ∙ z))
+  module _ (p : ℕ) (ea : p ≡ a) (na : p ≡ 0 → ⊥) where
+    x : eqb a 0 ≡ false
+    x = ne-eqb a 0 (λ z. na (ea ∙ z))
 
-    pub first-2 : (q : Plan) → q ≡ b → q .answer ≡ 0 → r ≡ goes 2 q → r ≡ firstOf a b c d
+    pub first-2 : (q : ℕ) → q ≡ b → q ≡ 0 → _≡_ {A = Tried} (record { job = 2; lacks = false }) (firstOf a b c d)
     unfolding firstOf
-    first-2 q eb zb e = e ∙ ap (goes 2) eb ∙ rw (x, eq-eqb (b .answer) 0 (sym (ap (λ (z : Plan). z .answer) eb) ∙ zb))
+    first-2 q eb zb = rw (x, eq-eqb b 0 (sym eb ∙ zb))
 
-    module _ (q : Plan) (eb : q ≡ b) (nb : q .answer ≡ 0 → ⊥) where
-      y : eqb (b .answer) 0 ≡ false
-      y = ne-eqb (b .answer) 0 (λ z. nb (ap (λ (u : Plan). u .answer) eb ∙ z))
+    module _ (q : ℕ) (eb : q ≡ b) (nb : q ≡ 0 → ⊥) where
+      y : eqb b 0 ≡ false
+      y = ne-eqb b 0 (λ z. nb (eb ∙ z))
 
-      pub first-3 : (u : Plan) → u ≡ c → u .answer ≡ 0 → r ≡ goes 3 u → r ≡ firstOf a b c d
+      pub first-3 : (r : ℕ) → r ≡ c → r ≡ 0 → _≡_ {A = Tried} (record { job = 3; lacks = false }) (firstOf a b c d)
       unfolding firstOf
-      first-3 u ec zc e = e ∙ ap (goes 3) ec ∙ rw (x, y, eq-eqb (c .answer) 0 (sym (ap (λ (z : Plan). z .answer) ec) ∙ zc))
+      first-3 r ec zc = rw (x, y, eq-eqb c 0 (sym ec ∙ zc))
 
-      module _ (u : Plan) (ec : u ≡ c) (nc : u .answer ≡ 0 → ⊥) where
-        z : eqb (c .answer) 0 ≡ false
-        z = ne-eqb (c .answer) 0 (λ w. nc (ap (λ (v : Plan). v .answer) ec ∙ w))
-
-        pub first-4 : (v : Plan) → v ≡ d → v .answer ≡ 0 → r ≡ goes 4 v → r ≡ firstOf a b c d
+      module _ (r : ℕ) (ec : r ≡ c) (nc : r ≡ 0 → ⊥) where
+        pub first-4 : (s : ℕ) → s ≡ d → s ≡ 0 → _≡_ {A = Tried} (record { job = 4; lacks = false }) (firstOf a b c d)
         unfolding firstOf
-        first-4 v ed zd e = e ∙ ap (goes 4) ed ∙ rw (x, y, z, eq-eqb (d .answer) 0 (sym (ap (λ (w : Plan). w .answer) ed) ∙ zd))
+        first-4 s ed zd = rw (x, y, ne-eqb c 0 (λ z. nc (ec ∙ z)), eq-eqb d 0 (sym ed ∙ zd))
 
-        pub first-0 : (v : Plan) → v ≡ d → (v .answer ≡ 0 → ⊥) → r ≡ record { job = 0; lacks = eqb (q .answer) 12 || eqb (v .answer) 12; plan = v } → r ≡ firstOf a b c d
+        pub first-0 : (s : ℕ) → s ≡ d → (s ≡ 0 → ⊥) → _≡_ {A = Tried} (record { job = 0; lacks = eqb q 12 || eqb s 12 }) (firstOf a b c d)
         unfolding firstOf
-        first-0 v ed nd e =
-            e ∙ ap₂ (λ (m w : Plan). record { job = 0; lacks = eqb (m .answer) 12 || eqb (w .answer) 12; plan = w }) eb ed
-            ∙ rw (x, y, z, ne-eqb (d .answer) 0 (λ w. nd (ap (λ (m : Plan). m .answer) ed ∙ w)))
+        first-0 s ed nd = rw (x, y, ne-eqb c 0 (λ z. nc (ec ∙ z)), ne-eqb d 0 (λ z. nd (ed ∙ z)), eb, ed)
+
+-- ---- the plan of one of four jobs
+module _ (j : ℕ) (t : Transaction) (i : Number) (x : Scene) (q v u : Bool) (vs : List ℕ) (p : Plan) where
+  pub by-1 : (ws : List ℕ) → j ≡ 1 → ws ≡ vs → p ≡ job1.commitChange t (x .committed) (x .change) (x .rest) i v ws → p ≡ plansBy j t i x q v u vs
+  unfolding plansBy
+  by-1 ws e ew ep = ep ∙ ap (job1.commitChange t (x .committed) (x .change) (x .rest) i v) ew ∙ rw (eq-eqb j 1 e)
+
+  pub by-2 : (j ≡ 1 → ⊥) → j ≡ 2 → p ≡ applyChange t (x .applied) q i (x .line) u → p ≡ plansBy j t i x q v u vs
+  unfolding plansBy
+  by-2 a e ep = ep ∙ rw (ne-eqb j 1 a, eq-eqb j 2 e)
+
+  pub by-3 : (j ≡ 1 → ⊥) → (j ≡ 2 → ⊥) → j ≡ 3 → p ≡ job3.commitRollback t (x .committed) (x .rest) i → p ≡ plansBy j t i x q v u vs
+  unfolding plansBy
+  by-3 a b e ep = ep ∙ rw (ne-eqb j 1 a, ne-eqb j 2 b, eq-eqb j 3 e)
+
+  pub by-4 : (j ≡ 1 → ⊥) → (j ≡ 2 → ⊥) → (j ≡ 3 → ⊥) → p ≡ applyRollback t (x .applied) q i (x .line) true → p ≡ plansBy j t i x q v u vs
+  unfolding plansBy
+  by-4 a b e ep = ep ∙ rw (ne-eqb j 1 a, ne-eqb j 2 b, ne-eqb j 3 e)
 
 -- ---- what the rules answer
+-- what job 1 would keep does not change its answer
 module _ (t : Transaction) (h : Head) (i : Number) (o : Ordinal) where
-  -- the commit jobs never answer 12
+  answer-same : (r : CommitChangeRule) (vs ws : List ℕ) → job1.plans r t h i o vs .answer ≡ job1.plans r t h i o ws .answer
+  answer-same change.Begin vs ws = refl
+  answer-same change.Aim vs ws = refl
+  answer-same change.Land vs ws = refl
+  answer-same change.Full vs ws = refl
+  answer-same change.Reject vs ws = refl
+  answer-same change.Finish vs ws = refl
+  answer-same change.Close vs ws = refl
+  answer-same change.Wait vs ws = refl
+
+  -- and the commit jobs never answer 12
   open-1 : (r : CommitChangeRule) (vs : List ℕ) → eqb (job1.plans r t h i o vs .answer) 12 ≡ false
   open-1 change.Begin vs = refl
   open-1 change.Aim vs = refl
@@ -241,16 +265,39 @@ module _ (s : State) (n i : ℕ) where
   abbrev o : Ordinal
   o = nextOrdinal (s .committed .head .ordinal)
 
-  tries-plans : (v u : Bool) → tries t (num i) (sceneOf s n) (settledAt (s .applied .head .ordinal .0) t s) v u (presentAt (s .change .0) i (s .committed .values) t)
-      ≡ firstOf (planOf s n 1 i v) (planOf s n 2 i u) (planOf s n 3 i true) (planOf s n 4 i true)
+  tries-plans : (v u : Bool) → tries t (num i) (sceneOf s n) (settledAt (s .applied .head .ordinal .0) t s) v u
+      ≡ firstOf (planOf s n 1 i v .answer) (planOf s n 2 i u .answer) (planOf s n 3 i true .answer) (planOf s n 4 i true .answer)
   unfolding planOf
   tries-plans v u =
       let h = s .applied .head in
       let q = settledAt (h .ordinal .0) t s in
       let line = lineOpenFor (s .net) n in
-      ap (λ (a : Plan). firstOf a (applyChange t h q (num i) line u) (planOf s n 3 i true) (applyRollback t h q (num i) line true))
-      (begin-present t (s .committed .head) (s .change) (restOf s) (num i) v (s .committed .values))
-      ∙ ap₂ (λ (a b : Plan). firstOf (planOf s n 1 i v) a (planOf s n 3 i true) b) (next-change t h s (num i) line u) (next-rollback t h s (num i) line true)
+      ap (λ (a : ℕ). firstOf a (applyChange t h q (num i) line u .answer) (planOf s n 3 i true .answer) (applyRollback t h q (num i) line true .answer))
+      (answer-same t (s .committed .head) (num i) o (rule1 v) four (present (s .committed .values) t))
+      ∙ ap₂ (λ (a b : Plan). firstOf (planOf s n 1 i v .answer) (a .answer) (planOf s n 3 i true .answer) (b .answer)) (next-change t h s (num i) line u)
+      (next-rollback t h s (num i) line true)
+
+  -- the plan of a job, by the two outcomes of its number
+  plans-by : (j v u : ℕ) → plansBy j t (num i) (sceneOf s n) (settledAt (s .applied .head .ordinal .0) t s) (eqb v 0) (eqb u 0) (presentAt (s .change .0) i (s .committed .values) t)
+      ≡ planOf s n j i (eqb (cond (eqb j 1) v (cond (eqb j 2) u 0)) 0)
+  unfolding planOf plansBy
+  plans-by j v u = go (eqb j 1) (eqb j 2) (eqb j 3)
+    where
+      go : (a b d : Bool)
+          → (let h = s .applied .head in
+          let q = settledAt (h .ordinal .0) t s in
+          let line = lineOpenFor (s .net) n in
+          let ok = eqb (cond a v (cond b u 0)) 0 in
+          cond a (job1.commitChange t (s .committed .head) (s .change) (restOf s) (num i) (eqb v 0) (presentAt (s .change .0) i (s .committed .values) t))
+          (cond b (applyChange t h q (num i) line (eqb u 0))
+          (cond d (job3.commitRollback t (s .committed .head) (restOf s) (num i)) (applyRollback t h q (num i) line true)))
+          ≡ cond a (job1.commitChange t (s .committed .head) (s .change) (restOf s) (num i) ok (present (s .committed .values) t))
+          (cond b (applyChange t h (settled s) (num i) line ok)
+          (cond d (job3.commitRollback t (s .committed .head) (restOf s) (num i)) (applyRollback t h (settled s) (num i) line ok))))
+      go true b d = begin-present t (s .committed .head) (s .change) (restOf s) (num i) (eqb v 0) (s .committed .values)
+      go false true d = next-change t (s .applied .head) s (num i) (lineOpenFor (s .net) n) (eqb u 0)
+      go false false true = refl
+      go false false false = next-rollback t (s .applied .head) s (num i) (lineOpenFor (s .net) n) true
 
   never-12-1 : (v : Bool) → eqb (planOf s n 1 i v .answer) 12 ≡ false
   unfolding planOf
@@ -269,7 +316,6 @@ Scan l n os b h i x = (b ≤ i) × ((i ≤ h) × Scanned (view l) os n (i - b) (
 pub record Here (l : List ℕ) (n : ℕ) (os : List ℕ) (b h i : ℕ) (x : Bool) (f : Tried) : Type 0 where
   pub more : f .job ≡ 0 → Scan l n os b h (i + 1) (x || f .lacks)
   pub done : (f .job ≡ 0 → ⊥) → turn (view l) os n ≡ work n (f .job) (i + 1) (outcomeIn (view l) os (f .job) (i + 1)) 0 ∷ []
-  pub plan : (f .job ≡ 0 → ⊥) → f .plan ≡ planOf (view l) n (f .job) (i + 1) (eqb (outcomeIn (view l) os (f .job) (i + 1)) 0)
 
 module _ (l : List ℕ) (n : ℕ) (os : List ℕ) (w : Awake l n os) (b h : ℕ) (eb : b ≡ foldedOf l) (eh : h ≡ lastOf l) where
   abbrev s : State
@@ -361,26 +407,20 @@ module _ (l : List ℕ) (n : ℕ) (os : List ℕ) (w : Awake l n os) (b h : ℕ)
     says-here : (j : ℕ) → 1 ≤ j → j ≤ 4 → answer j (suc k) ≡ planOf s n j (at + suc k) (eqb (machine.outcomeAt os j (suc k)) 0) .answer
     says-here = says k (omega (arith, v .0))
 
-    abbrev plan-of : ℕ → Plan
-    plan-of j = planOf s n j (at + suc k) (eqb (machine.outcomeAt os j (suc k)) 0)
-
-    zero-is : (j : ℕ) → 1 ≤ j → j ≤ 4 → (z : Bool) → eqb (plan-of j .answer) 0 ≡ z → eqb (answer j (suc k)) 0 ≡ z
-    zero-is j y u z e = ap (λ (a : ℕ). eqb a 0) (says-here j y u) ∙ e
-
-    plans-are : (t : Transaction) (c : Number) (y : Scene) (q : Bool) (vs : List ℕ) (f : Tried) → t ≡ entryAt l (i + 1) → c ≡ num (i + 1) → y ≡ sceneOf s n
-        → q ≡ settledAt (y .applied .ordinal .0) t s → vs ≡ presentAt (y .change .0) (c .0) (tableOf l ofCommitted) t → f ≡ tries t c y q (eqb valid 0) (eqb taken 0) vs
-        → f ≡ firstOf (plan-of 1) (plan-of 2) (plan-of 3) (plan-of 4)
-    unfolding view tableOf
-    plans-are t c y q vs f et ec ey eq ev ef =
-        let ws = s .committed .values in
+    answers-are : (t : Transaction) (c : Number) (y : Scene) (q : Bool) (f : Tried) → t ≡ entryAt l (i + 1) → c ≡ num (i + 1) → y ≡ sceneOf s n
+        → q ≡ settledAt (y .applied .ordinal .0) t s → f ≡ tries t c y q (eqb valid 0) (eqb taken 0)
+        → f ≡ firstOf (answer 1 (suc k)) (answer 2 (suc k)) (answer 3 (suc k)) (answer 4 (suc k))
+    answers-are t c y q f et ec ey eq ef =
         let r : t ≡ entryOf (s .log) (i + 1) = et ∙ sym (entry-of l (i + 1) (omega (arith, v .0)) (omega arith)) in
-        ef ∙ ap₂ (λ (d : Bool) (e : List ℕ). tries t c y d (eqb valid 0) (eqb taken 0) e) eq ev
-        ∙ ap₂ (λ (a : Transaction) (d : Number). tries a d y (settledAt (y .applied .ordinal .0) a s) (eqb valid 0) (eqb taken 0) (presentAt (y .change .0) (d .0) ws a)) r ec
-        ∙ ap (λ (d : Scene). tries (entryOf (s .log) (i + 1)) (num (i + 1)) d (settledAt (d .applied .ordinal .0) (entryOf (s .log) (i + 1)) s) (eqb valid 0) (eqb taken 0)
-        (presentAt (d .change .0) (i + 1) ws (entryOf (s .log) (i + 1)))) ey
-        ∙ ap (λ (d : ℕ). tries (entryOf (s .log) d) (num d) (sceneOf s n) (settledAt (s .applied .head .ordinal .0) (entryOf (s .log) d) s) (eqb valid 0) (eqb taken 0)
-        (presentAt (s .change .0) d ws (entryOf (s .log) d))) (sym number-is)
+        ef ∙ ap (λ (d : Bool). tries t c y d (eqb valid 0) (eqb taken 0)) eq
+        ∙ ap₂ (λ (a : Transaction) (d : Number). tries a d y (settledAt (y .applied .ordinal .0) a s) (eqb valid 0) (eqb taken 0)) r ec
+        ∙ ap (λ (d : Scene). tries (entryOf (s .log) (i + 1)) (num (i + 1)) d (settledAt (d .applied .ordinal .0) (entryOf (s .log) (i + 1)) s) (eqb valid 0) (eqb taken 0)) ey
+        ∙ ap (λ (d : ℕ). tries (entryOf (s .log) d) (num d) (sceneOf s n) (settledAt (s .applied .head .ordinal .0) (entryOf (s .log) d) s) (eqb valid 0) (eqb taken 0)) (sym number-is)
         ∙ tries-plans s n (at + suc k) (eqb valid 0) (eqb taken 0)
+        ∙ sym
+        (ap₂ (λ (a d : ℕ). firstOf a d (answer 3 (suc k)) (answer 4 (suc k))) (says-here 1 (omega arith) (omega arith)) (says-here 2 (omega arith) (omega arith))
+        ∙ ap₂ (λ (a d : ℕ). firstOf (planOf s n 1 (at + suc k) (eqb valid 0) .answer) (planOf s n 2 (at + suc k) (eqb taken 0) .answer) a d) (says-here 3 (omega arith) (omega arith))
+        (says-here 4 (omega arith) (omega arith)))
 
     -- one left of those that are left
     left : Scanned s os n k (suc (h - suc i)) x
@@ -396,50 +436,55 @@ module _ (l : List ℕ) (n : ℕ) (os : List ℕ) (w : Awake l n os) (b h : ℕ)
     job-is : (j : ℕ) → turn s os n ≡ trial os at n j (suc k) ∷ [] → turn s os n ≡ work n j (i + 1) (outcomeIn s os j (i + 1)) 0 ∷ []
     job-is j e = e ∙ ap₂ (λ (m r : ℕ). work n j m (machine.outcomeAt os j r) 0 ∷ []) number-is place-is
 
-    plan-is : (j : ℕ) → plan-of j ≡ planOf s n j (i + 1) (eqb (outcomeIn s os j (i + 1)) 0)
-    plan-is j = ap₂ (λ (m r : ℕ). planOf s n j m (eqb (machine.outcomeAt os j r) 0)) number-is place-is
-
-    here-is : (f : Tried) → f ≡ firstOf (plan-of 1) (plan-of 2) (plan-of 3) (plan-of 4) → Here l n os b h i x f
+    here-is : (f : Tried) → f ≡ firstOf (answer 1 (suc k)) (answer 2 (suc k)) (answer 3 (suc k)) (answer 4 (suc k)) → Here l n os b h i x f
     unfolding firstOf
-    here-is f e = subst (λ (y : Tried). Here l n os b h i x y) (sym e) (go (eqb (plan-of 1 .answer) 0) (eqb (plan-of 2 .answer) 0) (eqb (plan-of 3 .answer) 0) (eqb (plan-of 4 .answer) 0) refl refl refl refl)
+    here-is f e = subst (λ (y : Tried). Here l n os b h i x y) (sym e) (go (eqb (answer 1 (suc k)) 0) (eqb (answer 2 (suc k)) 0) (eqb (answer 3 (suc k)) 0) (eqb (answer 4 (suc k)) 0) refl refl refl refl)
       where
-        none-12 : (eqb (answer 1 (suc k)) 12 || (eqb (answer 2 (suc k)) 12 || (eqb (answer 3 (suc k)) 12 || eqb (answer 4 (suc k)) 12))) ≡ (eqb (plan-of 2 .answer) 12 || eqb (plan-of 4 .answer) 12)
+        none-12 : (eqb (answer 1 (suc k)) 12 || (eqb (answer 2 (suc k)) 12 || (eqb (answer 3 (suc k)) 12 || eqb (answer 4 (suc k)) 12))) ≡ (eqb (answer 2 (suc k)) 12 || eqb (answer 4 (suc k)) 12)
         none-12 =
             let a : eqb (answer 1 (suc k)) 12 ≡ false = ap (λ (d : ℕ). eqb d 12) (says-here 1 (omega arith) (omega arith)) ∙ never-12-1 s n (at + suc k) (eqb valid 0) in
             let c : eqb (answer 3 (suc k)) 12 ≡ false = ap (λ (d : ℕ). eqb d 12) (says-here 3 (omega arith) (omega arith)) ∙ never-12-3 s n (at + suc k) true in
             ap₂ (λ (d r : Bool). d || (eqb (answer 2 (suc k)) 12 || (r || eqb (answer 4 (suc k)) 12))) a c
-            ∙ ap₂ (λ (d r : ℕ). eqb d 12 || eqb r 12) (says-here 2 (omega arith) (omega arith)) (says-here 4 (omega arith) (omega arith))
 
-        found : (j : ℕ) → (j ≡ 0 → ⊥) → turn s os n ≡ trial os at n j (suc k) ∷ [] → Here l n os b h i x (goes j (plan-of j))
-        found j d q = record { more = λ z. absurd (d z); done = λ z. job-is j q; plan = λ z. plan-is j }
+        found : (j : ℕ) → (j ≡ 0 → ⊥) → turn s os n ≡ trial os at n j (suc k) ∷ [] → Here l n os b h i x (record { job = j; lacks = false })
+        found j d q = record { more = λ z. absurd (d z); done = λ z. job-is j q }
 
-        go : (p q r t : Bool) → eqb (plan-of 1 .answer) 0 ≡ p → eqb (plan-of 2 .answer) 0 ≡ q → eqb (plan-of 3 .answer) 0 ≡ r → eqb (plan-of 4 .answer) 0 ≡ t
-            → Here l n os b h i x (firstOf (plan-of 1) (plan-of 2) (plan-of 3) (plan-of 4))
-        go p q r t ep eq er et = by p q r t ep eq er et (zero-is 1 (omega arith) (omega arith) p ep) (zero-is 2 (omega arith) (omega arith) q eq) (zero-is 3 (omega arith) (omega arith) r er) (zero-is 4 (omega arith) (omega arith) t et)
-          where
-            by : (p q r t : Bool) → eqb (plan-of 1 .answer) 0 ≡ p → eqb (plan-of 2 .answer) 0 ≡ q → eqb (plan-of 3 .answer) 0 ≡ r → eqb (plan-of 4 .answer) 0 ≡ t
-                → eqb (answer 1 (suc k)) 0 ≡ p → eqb (answer 2 (suc k)) 0 ≡ q → eqb (answer 3 (suc k)) 0 ≡ r → eqb (answer 4 (suc k)) 0 ≡ t
-                → Here l n os b h i x (firstOf (plan-of 1) (plan-of 2) (plan-of 3) (plan-of 4))
-            by true q r t ep eq er et zp zq zr zt = rw ep (found 1 (λ z. omega arith) (found-1 s os n k (h - suc i) x left zp))
-            by false true r t ep eq er et zp zq zr zt = rw (ep, eq) (found 2 (λ z. omega arith) (found-2 s os n k (h - suc i) x left zp zq))
-            by false false true t ep eq er et zp zq zr zt = rw (ep, eq, er) (found 3 (λ z. omega arith) (found-3 s os n k (h - suc i) x left zp zq zr))
-            by false false false true ep eq er et zp zq zr zt = rw (ep, eq, er, et) (found 4 (λ z. omega arith) (found-4 s os n k (h - suc i) x left zp zq zr zt))
-            by false false false false ep eq er et zp zq zr zt =
-                rw (ep, eq, er, et)
-                (record {
-                  more = λ z. next _ (subst (λ (y : Bool). Scanned s os n (suc k) (h - suc i) (x || y)) none-12 (scanned-more s os n k (h - suc i) x left zp zq zr zt));
-                  done = λ z. absurd (z refl);
-                  plan = λ z. absurd (z refl);
-                })
+        go : (p q r t : Bool) → eqb (answer 1 (suc k)) 0 ≡ p → eqb (answer 2 (suc k)) 0 ≡ q → eqb (answer 3 (suc k)) 0 ≡ r → eqb (answer 4 (suc k)) 0 ≡ t
+            → Here l n os b h i x (firstOf (answer 1 (suc k)) (answer 2 (suc k)) (answer 3 (suc k)) (answer 4 (suc k)))
+        go true q r t ep eq er et = rw ep (found 1 (λ z. omega arith) (found-1 s os n k (h - suc i) x left ep))
+        go false true r t ep eq er et = rw (ep, eq) (found 2 (λ z. omega arith) (found-2 s os n k (h - suc i) x left ep eq))
+        go false false true t ep eq er et = rw (ep, eq, er) (found 3 (λ z. omega arith) (found-3 s os n k (h - suc i) x left ep eq er))
+        go false false false true ep eq er et = rw (ep, eq, er, et) (found 4 (λ z. omega arith) (found-4 s os n k (h - suc i) x left ep eq er et))
+        go false false false false ep eq er et =
+            rw (ep, eq, er, et)
+            (record {
+              more = λ z. next _ (subst (λ (y : Bool). Scanned s os n (suc k) (h - suc i) (x || y)) none-12 (scanned-more s os n k (h - suc i) x left ep eq er et));
+              done = λ z. absurd (z refl);
+            })
 
-    pub here : (t : Transaction) (c : Number) (y : Scene) (q : Bool) (vs : List ℕ) (f : Tried) → t ≡ entryAt l (i + 1) → c ≡ num (i + 1) → y ≡ sceneOf s n
-        → q ≡ settledAt (y .applied .ordinal .0) t s → vs ≡ presentAt (y .change .0) (c .0) (tableOf l ofCommitted) t → f ≡ tries t c y q (eqb valid 0) (eqb taken 0) vs
-        → Here l n os b h i x f
-    here t c y q vs f et ec ey eq ev ef = here-is f (plans-are t c y q vs f et ec ey eq ev ef)
+    pub here : (t : Transaction) (c : Number) (y : Scene) (q : Bool) (f : Tried) → t ≡ entryAt l (i + 1) → c ≡ num (i + 1) → y ≡ sceneOf s n
+        → q ≡ settledAt (y .applied .ordinal .0) t s → f ≡ tries t c y q (eqb valid 0) (eqb taken 0) → Here l n os b h i x f
+    here t c y q f et ec ey eq ef = here-is f (answers-are t c y q f et ec ey eq ef)
+
+    pub plan-is : (j : ℕ) (t : Transaction) (c : Number) (y : Scene) (q : Bool) (g : Plan) → t ≡ entryAt l (i + 1) → c ≡ num (i + 1) → y ≡ sceneOf s n
+        → q ≡ settledAt (y .applied .ordinal .0) t s
+        → g ≡ plansBy j t c y q (eqb valid 0) (eqb taken 0) (presentAt (y .change .0) (c .0) (tableOf l ofCommitted) t)
+        → g ≡ planOf s n j (i + 1) (eqb (outcomeIn s os j (i + 1)) 0)
+    unfolding view tableOf
+    plan-is j t c y q g et ec ey eq ep =
+        let ws = s .committed .values in
+        let r : t ≡ entryOf (s .log) (i + 1) = et ∙ sym (entry-of l (i + 1) (omega (arith, v .0)) (omega arith)) in
+        ep ∙ ap (λ (d : Bool). plansBy j t c y d (eqb valid 0) (eqb taken 0) (presentAt (y .change .0) (c .0) ws t)) eq
+        ∙ ap₂ (λ (a : Transaction) (d : Number). plansBy j a d y (settledAt (y .applied .ordinal .0) a s) (eqb valid 0) (eqb taken 0) (presentAt (y .change .0) (d .0) ws a)) r ec
+        ∙ ap (λ (d : Scene). plansBy j (entryOf (s .log) (i + 1)) (num (i + 1)) d (settledAt (d .applied .ordinal .0) (entryOf (s .log) (i + 1)) s) (eqb valid 0) (eqb taken 0)
+        (presentAt (d .change .0) (i + 1) ws (entryOf (s .log) (i + 1)))) ey
+        ∙ plans-by s n (i + 1) j valid taken
+        ∙ ap (λ (d : ℕ). planOf s n j (i + 1) (eqb (machine.outcomeAt os j d) 0)) place-is
 
     -- a job is found
-    pub here-done : (f : Tried) → Here l n os b h i x f → 0 < f .job → Finds s n os (record { job = f .job; number = i + 1; lacks = false; plan = f .plan })
-    here-done f y q = record { some = y .done; plan = y .plan; none = λ z. absurd (omega arith) }
+    pub here-done : (f : Tried) (p : Plan) → Here l n os b h i x f → 0 < f .job → p ≡ planOf s n (f .job) (i + 1) (eqb (outcomeIn s os (f .job) (i + 1)) 0)
+        → Finds s n os (record { job = f .job; number = i + 1; lacks = false; plan = p })
+    here-done f p y q e = record { some = y .done; plan = λ z. e; none = λ z. absurd (omega arith) }
 
 -- ---- numbers of which nothing is left
 pub idle-is : (t : Transaction) (c a i : ℕ) (x y z u : Bool) (k m o p : ℕ) → x ≡ stands (t .change .commit) → y ≡ stands (t .change .apply)

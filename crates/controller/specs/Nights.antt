@@ -140,22 +140,26 @@ pub record Quiet (l : List ℕ) (i : ℕ) : Type 0 where
   pub idle : (k : ℕ) → foldedOf l < k → k ≤ i → idleIn (view l) k ≡ true
 
 -- ---- a turn
--- a job that goes, with its plan
-abbrev pub goes : ℕ → Plan → Tried
-goes j p = record { job = j; lacks = false; plan = p }
-
--- the first of four plans that answers 0; where none does, whether that of job 2 or 4 answers 12
-unfoldable pub firstOf : (a b c d : Plan) → Tried
+-- the first of four answers that is 0; where none is, whether that of job 2 or 4 is 12
+unfoldable pub firstOf : (a b c d : ℕ) → Tried
 firstOf a b c d =
-    cond (eqb (a .answer) 0) (goes 1 a)
-    (cond (eqb (b .answer) 0) (goes 2 b)
-    (cond (eqb (c .answer) 0) (goes 3 c) (cond (eqb (d .answer) 0) (goes 4 d) (record { job = 0; lacks = eqb (b .answer) 12 || eqb (d .answer) 12; plan = d }))))
+    cond (eqb a 0) (record { job = 1; lacks = false })
+    (cond (eqb b 0) (record { job = 2; lacks = false })
+    (cond (eqb c 0) (record { job = 3; lacks = false })
+    (cond (eqb d 0) (record { job = 4; lacks = false }) (record { job = 0; lacks = eqb b 12 || eqb d 12 }))))
 
--- the plans of the four jobs
-abbrev pub tries : Transaction → Number → Scene → (settled valid taken : Bool) → (values : List ℕ) → Tried
-tries t i x q v u vs =
-    firstOf (commitChange t (x .committed) (x .change) (x .rest) i v vs) (applyChange t (x .applied) q i (x .line) u)
-    (commitRollback t (x .committed) (x .rest) i) (applyRollback t (x .applied) q i (x .line) true)
+-- the answers of the four jobs; what job 1 would keep does not change its answer
+abbrev pub tries : Transaction → Number → Scene → (settled valid taken : Bool) → Tried
+tries t i x q v u =
+    firstOf (commitChange t (x .committed) (x .change) (x .rest) i v four .answer) (applyChange t (x .applied) q i (x .line) u .answer)
+    (commitRollback t (x .committed) (x .rest) i .answer) (applyRollback t (x .applied) q i (x .line) true .answer)
+
+-- the plan of one of them
+unfoldable pub plansBy : (job : ℕ) → Transaction → Number → Scene → (settled valid taken : Bool) → (values : List ℕ) → Plan
+plansBy j t i x q v u vs =
+    cond (eqb j 1) (commitChange t (x .committed) (x .change) (x .rest) i v vs)
+    (cond (eqb j 2) (applyChange t (x .applied) q i (x .line) u)
+    (cond (eqb j 3) (commitRollback t (x .committed) (x .rest) i) (applyRollback t (x .applied) q i (x .line) true)))
 
 -- the outcome of a job of number i, by the table
 abbrev pub outcomeIn : State → List ℕ → (job number : ℕ) → ℕ

@@ -10,7 +10,7 @@ ghost use Rattle.machine.specs.Night.{bits, tableOk, nightOk};
 ghost use Rattle.image.specs.Layout.{imageLength};
 ghost use Rattle.image.specs.View.{view, tableOf};
 ghost use Rattle.image.specs.Formed.{formed};
-ghost use Rattle.controller.specs.Nights.{putEvent, fitting, refuses, Awake, sceneOf, isNext, settledAt, presentAt, stands, idle, Quiet, goes, tries, Finds, stoppedAt, Through, Nighted};
+ghost use Rattle.controller.specs.Nights.{putEvent, fitting, refuses, Awake, sceneOf, isNext, settledAt, presentAt, stands, idle, Quiet, tries, plansBy, Finds, stoppedAt, Through, Nighted};
 use crate::calls::is_node;
 use crate::calls::of_commit;
 use crate::deciding::line;
@@ -73,26 +73,13 @@ struct Scene {
     line: bool,
 }
 
-// The first job of an entry that is not refused with its plan, or 0; where it is 0, whether one is refused with 12.
+// The first job of an entry that is not refused, or 0; where it is 0, whether one is refused with 12.
 struct Tried {
     job: u16,
     lacks: bool,
-    plan: Plan,
 }
 
-impl Tried {
-    fn goes(job: u16, plan: Plan) -> Tried
-        ensures { λ r. ⌜ r ≡ goes job plan ⌝ }
-    {
-        Tried {
-            job,
-            lacks: false,
-            plan,
-        }
-    }
-}
-
-// The same of a turn, with the job's number.
+// The same of a turn, with the job's number and plan.
 struct Found {
     job: u16,
     number: u16,
@@ -257,43 +244,75 @@ fn skip(s: &[u8], from: u16) -> u16
     i
 }
 
-// The four jobs of entry t, numbered i. Handed in: whether the applied side is settled, what the validation and the push of
-// the change would answer, and the values that it would keep.
-fn try_jobs(
+// The four jobs of entry t, numbered i: what the validation and the push of the change would answer is handed in.
+fn try_jobs(t: Transaction, i: Number, x: Scene, settled: bool, valid: bool, taken: bool) -> Tried
+    ensures { λ r. ⌜ r ≡ tries t i x settled valid taken ⌝ }
+{
+    let committed = x.committed;
+    let applied = x.applied;
+    let change = x.change;
+    let a = commit_change(t, committed, change, x.rest, i, valid, [0u16, 0, 0, 0]);
+    if a.answer == 0 {
+        return Tried {
+            job: 1,
+            lacks: false,
+        };
+    }
+    let b = apply_change(t, applied, settled, i, x.line, taken);
+    if b.answer == 0 {
+        return Tried {
+            job: 2,
+            lacks: false,
+        };
+    }
+    let c = commit_rollback(t, committed, x.rest, i);
+    if c.answer == 0 {
+        return Tried {
+            job: 3,
+            lacks: false,
+        };
+    }
+    let d = apply_rollback(t, applied, settled, i, x.line, true);
+    if d.answer == 0 {
+        return Tried {
+            job: 4,
+            lacks: false,
+        };
+    }
+    Tried {
+        job: 0,
+        lacks: (b.answer == 12) | (d.answer == 12),
+    }
+}
+
+// The plan of a job of entry t that goes; the rules are asked once more, since a plan that waits is not worth making.
+fn plan_at(
+    s: &[u8],
+    job: u16,
     t: Transaction,
     i: Number,
     x: Scene,
     settled: bool,
     valid: bool,
     taken: bool,
-    values: [u16; 4],
-) -> Tried
-    ensures { λ r. ⌜ r ≡ tries t i x settled valid taken values ⌝ }
+) -> Plan
+    requires { ⌜ imageLength ≤ length (now s) ⌝ }
+    ensures { λ r. ⌜ r ≡ plansBy job t i x settled valid taken (presentAt (x .change .0) (i .0) (tableOf (now (s .entry)) ofCommitted) t) ⌝ }
 {
     let committed = x.committed;
     let applied = x.applied;
     let change = x.change;
-    let a = commit_change(t, committed, change, x.rest, i, valid, values);
-    if a.answer == 0 {
-        return Tried::goes(1, a);
+    if job == 1 {
+        let values = present_at(s, t, i, x);
+        return commit_change(t, committed, change, x.rest, i, valid, values);
     }
-    let b = apply_change(t, applied, settled, i, x.line, taken);
-    if b.answer == 0 {
-        return Tried::goes(2, b);
+    if job == 2 {
+        return apply_change(t, applied, settled, i, x.line, taken);
     }
-    let c = commit_rollback(t, committed, x.rest, i);
-    if c.answer == 0 {
-        return Tried::goes(3, c);
+    if job == 3 {
+        return commit_rollback(t, committed, x.rest, i);
     }
-    let d = apply_rollback(t, applied, settled, i, x.line, true);
-    if d.answer == 0 {
-        return Tried::goes(4, d);
-    }
-    Tried {
-        job: 0,
-        lacks: (b.answer == 12) | (d.answer == 12),
-        plan: d,
-    }
+    apply_rollback(t, applied, settled, i, x.line, true)
 }
 
 // What stands for a plan where no job goes: it answers 11 and stores nothing.
@@ -345,12 +364,12 @@ fn find(s: &[u8], node: u8, outcomes: &[u8], from: u16) -> Found
         let taken = outcomes[k + 1];
         let at = Number::of(number);
         let quiet = settled_at(s, t, x);
-        let values = present_at(s, t, at, x);
-        let f = try_jobs(t, at, x, quiet, valid == 0, taken == 0, values);
-        if 0 < f.job {
-            let plan = f.plan;
+        let f = try_jobs(t, at, x, quiet, valid == 0, taken == 0);
+        let job = f.job;
+        if 0 < job {
+            let plan = plan_at(s, job, t, at, x, quiet, valid == 0, taken == 0);
             return Found {
-                job: f.job,
+                job,
                 number,
                 lacks: false,
                 plan,

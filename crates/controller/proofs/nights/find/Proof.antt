@@ -3,7 +3,7 @@ use Prim.Native.Nat.{_-_}
 use native.Mathlib.Omega.{arith}
 use borrow.Author.Needs.{needs}
 use Rattle.controller.proofs.Decided.{size, room}
-use Rattle.controller.proofs.Turned.{Scan, scan-from, in-table, scan-end, here, here-done, awake-node}
+use Rattle.controller.proofs.Turned.{Scan, scan-from, in-table, scan-end, here, plan-is, here-done, awake-node}
 use Rattle.controller.proofs.nights.find.Statement.{statement}
 use Rattle.controller.proofs.nights.find.Tie as tie
 
@@ -55,23 +55,23 @@ of-requires c κs = search needs
 settled-at-requires : tie.Need-settled-at-requires Inv-loop μ-loop
 settled-at-requires c κs = c .before .before .before .before .before .before .before .before .before .before .before .pre .0 .formed
 
-present-at-requires : tie.Need-present-at-requires Inv-loop μ-loop
-present-at-requires c κs = size _ (c .before .before .before .before .before .before .before .before .before .before .before .before .pre .0 .formed)
-
 try-jobs-requires : tie.Need-try-jobs-requires Inv-loop μ-loop
 try-jobs-requires c κs = search needs
 
+plan-at-requires : tie.Need-plan-at-requires Inv-loop μ-loop
+plan-at-requires c κs = size _ (c .before .before .before .before .before .before .before .before .before .before .before .before .before .before .pre .0 .formed)
+
 returns : tie.Need-returns Inv-loop μ-loop
-returns c = here-done _ _ _ (c .before .before .before .before .before .before .before .before .before .before .before .before .before .before .before .before .before .pre .0) _ _ (c .before .before .before .before .before .before .before .before .before .before .before .before .before .last-fold .ensures) (c .before .before .before .before .before .before .before .before .before .before .before .before .last-number .ensures) _ _ (c .before .before .before .before .before .before .before .before .before .before .before .loop .inv) (c .before .before .before .before .before .before .before .before .before .before .loop-test .taken) _ (here _ _ _ (c .before .before .before .before .before .before .before .before .before .before .before .before .before .before .before .before .before .pre .0) _ _ (c .before .before .before .before .before .before .before .before .before .before .before .before .before .last-fold .ensures) (c .before .before .before .before .before .before .before .before .before .before .before .before .last-number .ensures) _ _ (c .before .before .before .before .before .before .before .before .before .before .before .loop .inv) (c .before .before .before .before .before .before .before .before .before .before .loop-test .taken) _ _ _ _ _ _ (c .before .before .before .before .before .before .before .before .before .load-entry .ensures) (c .before .before .before .before .before .before .of .ensures) (c .before .before .before .before .before .before .before .before .before .before .before .before .before .before .load-scene .ensures) (c .before .before .before .before .before .settled-at .ensures) (c .before .before .before .before .present-at .ensures) (c .before .before .before .try-jobs .ensures)) (c .before .if1 .taken)
+returns c = here-done _ _ _ (c .before .before .before .before .before .before .before .before .before .before .before .before .before .before .before .pre .0) _ _ (c .before .before .before .before .before .before .before .before .before .before .before .last-fold .ensures) (c .before .before .before .before .before .before .before .before .before .before .last-number .ensures) _ _ (c .before .before .before .before .before .before .before .before .before .loop .inv) (c .before .before .before .before .before .before .before .before .loop-test .taken) _ _ (here _ _ _ (c .before .before .before .before .before .before .before .before .before .before .before .before .before .before .before .pre .0) _ _ (c .before .before .before .before .before .before .before .before .before .before .before .last-fold .ensures) (c .before .before .before .before .before .before .before .before .before .before .last-number .ensures) _ _ (c .before .before .before .before .before .before .before .before .before .loop .inv) (c .before .before .before .before .before .before .before .before .loop-test .taken) _ _ _ _ _ (c .before .before .before .before .before .before .before .load-entry .ensures) (c .before .before .before .before .of .ensures) (c .before .before .before .before .before .before .before .before .before .before .before .before .load-scene .ensures) (c .before .before .before .settled-at .ensures) (c .before .before .try-jobs .ensures)) (c .before .if1 .taken) (plan-is _ _ _ (c .before .before .before .before .before .before .before .before .before .before .before .before .before .before .before .pre .0) _ _ (c .before .before .before .before .before .before .before .before .before .before .before .last-fold .ensures) (c .before .before .before .before .before .before .before .before .before .before .last-number .ensures) _ _ (c .before .before .before .before .before .before .before .before .before .loop .inv) (c .before .before .before .before .before .before .before .before .loop-test .taken) _ _ _ _ _ _ (c .before .before .before .before .before .before .before .load-entry .ensures) (c .before .before .before .before .of .ensures) (c .before .before .before .before .before .before .before .before .before .before .before .before .load-scene .ensures) (c .before .before .before .settled-at .ensures) (c .plan-at .ensures))
 
 add-i : tie.Need-add-i Inv-loop μ-loop
-add-i c = omega (arith, c .before .before .before .before .before .before .before .before .before .before .loop-test .taken, c .before .before .before .before .before .before .before .before .before .before .before .before .last-number .ensures, room _ (c .before .before .before .before .before .before .before .before .before .before .before .before .before .before .before .before .before .pre .0 .formed) .1 .1)
+add-i c = omega (arith, c .before .before .before .before .before .before .before .before .loop-test .taken, c .before .before .before .before .before .before .before .before .before .before .last-number .ensures, room _ (c .before .before .before .before .before .before .before .before .before .before .before .before .before .before .before .pre .0 .formed) .1 .1)
 
 loop-less : tie.Need-loop-less Inv-loop μ-loop
-loop-less c = omega (arith, c .before .before .before .before .before .before .before .before .before .before .loop-test .taken)
+loop-less c = omega (arith, c .before .before .before .before .before .before .before .before .loop-test .taken)
 
 loop-again : tie.Need-loop-again Inv-loop μ-loop
-loop-again c = here _ _ _ (c .before .before .before .before .before .before .before .before .before .before .before .before .before .before .before .before .before .pre .0) _ _ (c .before .before .before .before .before .before .before .before .before .before .before .before .before .last-fold .ensures) (c .before .before .before .before .before .before .before .before .before .before .before .before .last-number .ensures) _ _ (c .before .before .before .before .before .before .before .before .before .before .before .loop .inv) (c .before .before .before .before .before .before .before .before .before .before .loop-test .taken) _ _ _ _ _ _ (c .before .before .before .before .before .before .before .before .before .load-entry .ensures) (c .before .before .before .before .before .before .of .ensures) (c .before .before .before .before .before .before .before .before .before .before .before .before .before .before .load-scene .ensures) (c .before .before .before .before .before .settled-at .ensures) (c .before .before .before .before .present-at .ensures) (c .before .before .before .try-jobs .ensures) .more (omega (arith, c .before .if1 .left))
+loop-again c = here _ _ _ (c .before .before .before .before .before .before .before .before .before .before .before .before .before .before .before .pre .0) _ _ (c .before .before .before .before .before .before .before .before .before .before .before .last-fold .ensures) (c .before .before .before .before .before .before .before .before .before .before .last-number .ensures) _ _ (c .before .before .before .before .before .before .before .before .before .loop .inv) (c .before .before .before .before .before .before .before .before .loop-test .taken) _ _ _ _ _ (c .before .before .before .before .before .before .before .load-entry .ensures) (c .before .before .before .before .of .ensures) (c .before .before .before .before .before .before .before .before .before .before .before .before .load-scene .ensures) (c .before .before .before .settled-at .ensures) (c .before .before .try-jobs .ensures) .more (omega (arith, c .before .if1 .left))
 
 no-plan-requires : tie.Need-no-plan-requires Inv-loop μ-loop
 no-plan-requires c κs = search needs
@@ -99,8 +99,8 @@ find-spec =
     shared-slice-read-taken
     of-requires
     settled-at-requires
-    present-at-requires
     try-jobs-requires
+    plan-at-requires
     returns
     add-i
     loop-less
