@@ -16,7 +16,8 @@ use Rattle.machine.specs.State.{Log, unfolded, blank, placeOf, putPlace,
 use Rattle.machine.specs.Stores.{withBase}
 use Rattle.kinds.specs.Numbers.{num}
 use Rattle.machine.specs.WellFormed.{allFrom, allEntries}
-use Rattle.machine.proofs.Next.{laying, over, laidOver, layingIf, baseOver}
+use Rattle.machine.specs.Laid.{laying, over, laidOver}
+use Rattle.machine.proofs.Next.{layingIf, baseOver}
 use Rattle.machine.proofs.Cases.{and-left, and-right}
 
 -- ---- what holds of every element, and of the new one, holds of every element after it is stored

@@ -20,7 +20,7 @@ use Rattle.kinds.specs.Records.{withChange, withRollback}
 use Rattle.kinds.specs.Events.{noEvent, refusal}
 use Rattle.rules.specs.declared.Plan.{Plan}
 use Rattle.rules.specs.declared.Order.{Order}
-use Rattle.rules.specs.declared.Order.the-variants.{Neither, EntryOnly, HeadOnly, EntryThenHead, HeadThenEntry}
+use Rattle.rules.specs.declared.Order.the-variants.{Neither, EntryOnly, HeadOnly, EntryThenHead, HeadThenEntry, TargetThenHeadThenEntry}
 use Rattle.rules.specs.Heads.{aimed, landed, passed, closed}
 use Rattle.rules.specs.declared.CommitChangeRule.the-variants as change
 use Rattle.rules.specs.declared.CommitRollbackRule.the-variants as rollback
@@ -38,7 +38,8 @@ use Rattle.machine.specs.WellFormed.{allFrom, allEntries, pairsOk, entry
 use Rattle.machine.specs.LiveList.{live}
 use Rattle.machine.specs.Calls.{Pair, Call, validChange, appended, pathOf, valuesOk, present}
 use Rattle.machine.specs.Step.{step, run}
-use Rattle.machine.proofs.Next.{putting, changeIf, heading, performedBy, layingIf, baseOver, folding}
+use Rattle.machine.proofs.Next.{putting, changeIf, heading, targeting, performedBy, layingIf, baseOver, folding}
+use Rattle.machine.specs.Notes.{Note}
 use Rattle.machine.proofs.Cases.{and-left, and-right}
 use Rattle.machine.proofs.Entries.{put-all, add-all, last-fold, entry-fold, length-base, length-place, last-put, length-add, last-add, entry-add, entries-true, true-entries, and-both, length-laid}
 use Rattle.machine.proofs.ByCall.{Calls, HasRoom, by-call, syncing, synced}
@@ -56,7 +57,7 @@ refuses s a b = record { refused = λ x. (refl, refl); one = λ x. absurd (omega
 
 answered : (s : State) (c : Call) → Answered s (step s c .reply) (step s c .next)
 answered s c =
-    by-call s (Answered s) (λ e. record { refused = λ x. (refl, refl); one = λ x. e })
+    by-call s (λ x r next. Answered s r next) (λ e. record { refused = λ x. (refl, refl); one = λ x. e })
     (λ w. record {
       refused = refuses s;
       append = λ ps e f. accepts s _ _ refl;
@@ -69,7 +70,7 @@ answered s c =
       resign = accepts s _ _ refl;
       syncing = accepts s _ _ refl;
       synced = accepts s _ _ refl;
-      job1 = λ i p q cut. record {
+      job1 = λ i p q cut second. record {
         wait = refuses s 11 (omega arith);
         full = λ a b d. refuses s 9 (omega arith);
         begin = λ a b d. accepts s _ _ refl;
@@ -79,7 +80,7 @@ answered s c =
         finish = λ a b. accepts s _ _ refl;
         close = λ a b. accepts s _ _ refl;
       };
-      job2 = λ n i p q cut. record {
+      job2 = λ n i p q cut second. record {
         wait = refuses s 11 (omega arith);
         noLine = refuses s 12 (omega arith);
         begin = λ a b d. accepts s _ _ refl;
@@ -91,7 +92,7 @@ answered s c =
         fail = λ a b. accepts s _ _ refl;
         push = λ a b d. accepts s _ _ refl;
       };
-      job3 = λ i p q cut. record {
+      job3 = λ i p q cut second. record {
         wait = refuses s 11 (omega arith);
         full = λ a b d. refuses s 9 (omega arith);
         begin = λ a b d. accepts s _ _ refl;
@@ -99,7 +100,7 @@ answered s c =
         land = λ a b d o e. accepts s _ _ refl;
         finish = λ a b d. accepts s _ _ refl;
       };
-      job4 = λ n i p q cut. record {
+      job4 = λ n i p q cut second. record {
         wait = refuses s 11 (omega arith);
         noLine = refuses s 12 (omega arith);
         rejected = refuses s 13 (omega arith);
@@ -300,41 +301,63 @@ module _ (s : State) (f : Formed s) where
         applied = h;
         committedValues = f .committedValues;
         appliedValues = length-laid (p .lay) (p .entry) (s .applied .values) ∙ f .appliedValues;
-        net = record {
-          master = f .net .master;
-          values = length-laid (p .lay) (p .entry) (s .net .values) ∙ f .net .values;
-          connections = f .net .connections;
-        };
+        net = f .net;
       }
 
+  net-formed : (w : Net) → NetFormed w → Formed (withNet s w)
+  net-formed w n =
+      record {
+        log = f .log;
+        entries = f .entries;
+        committed = f .committed;
+        change = f .change;
+        applied = f .applied;
+        committedValues = f .committedValues;
+        appliedValues = f .appliedValues;
+        net = n;
+      }
+
+  target-formed : (p : Plan) → Formed (targeting s p)
+  target-formed p =
+      net-formed _ (record { master = f .net .master; values = length-laid (p .lay) (p .entry) (s .net .values) ∙ f .net .values; connections = f .net .connections })
+
 module _ (s : State) (f : Formed s) (i : ℕ) where
-  commit-formed : (o : Order) (p : Plan) (cut : Bool) → EntryFormed i (p .entry) → HeadFormed (last (s .log)) (p .head)
+  commit-formed : (o : Order) (p : Plan) (first second : Bool) → EntryFormed i (p .entry) → HeadFormed (last (s .log)) (p .head)
       → ChangeFormed (last (s .log)) (changeIf (p .change) i (s .change) .0) (p .head)
-      → Formed (performedBy o true s p i cut)
-  commit-formed Neither p cut e h c = f
-  commit-formed EntryOnly p cut e h c = put-formed s f i (p .entry) e
-  commit-formed HeadOnly p cut e h c = committed-formed s f p i h c
-  commit-formed EntryThenHead p true e h c = put-formed s f i (p .entry) e
-  commit-formed EntryThenHead p false e h c =
+      → Formed (performedBy o true s p i first second)
+  commit-formed Neither p first second e h c = f
+  commit-formed EntryOnly p first second e h c = put-formed s f i (p .entry) e
+  commit-formed HeadOnly p first second e h c = committed-formed s f p i h c
+  commit-formed EntryThenHead p true second e h c = put-formed s f i (p .entry) e
+  commit-formed EntryThenHead p false second e h c =
       let n : last (putEntry (s .log) i (p .entry)) ≡ last (s .log) = last-put (s .log) i (p .entry) in
       committed-formed (putting s i (p .entry)) (put-formed s f i (p .entry) e) p i (rw n h) (rw n c)
-  commit-formed HeadThenEntry p true e h c = committed-formed s f p i h c
-  commit-formed HeadThenEntry p false e h c = put-formed (heading true s p i) (committed-formed s f p i h c) i (p .entry) e
+  commit-formed HeadThenEntry p true second e h c = committed-formed s f p i h c
+  commit-formed HeadThenEntry p false second e h c = put-formed (heading true s p i) (committed-formed s f p i h c) i (p .entry) e
+  commit-formed TargetThenHeadThenEntry p true second e h c = target-formed s f p
+  commit-formed TargetThenHeadThenEntry p false true e h c = committed-formed (targeting s p) (target-formed s f p) p i h c
+  commit-formed TargetThenHeadThenEntry p false false e h c =
+      put-formed (heading true (targeting s p) p i) (committed-formed (targeting s p) (target-formed s f p) p i h c) i (p .entry) e
 
-  apply-formed : (o : Order) (p : Plan) (cut : Bool) → EntryFormed i (p .entry) → HeadFormed (last (s .log)) (p .head) → Formed (performedBy o false s p i cut)
-  apply-formed Neither p cut e h = f
-  apply-formed EntryOnly p cut e h = put-formed s f i (p .entry) e
-  apply-formed HeadOnly p cut e h = applied-formed s f p i h
-  apply-formed EntryThenHead p true e h = put-formed s f i (p .entry) e
-  apply-formed EntryThenHead p false e h =
+  apply-formed : (o : Order) (p : Plan) (first second : Bool) → EntryFormed i (p .entry) → HeadFormed (last (s .log)) (p .head)
+      → Formed (performedBy o false s p i first second)
+  apply-formed Neither p first second e h = f
+  apply-formed EntryOnly p first second e h = put-formed s f i (p .entry) e
+  apply-formed HeadOnly p first second e h = applied-formed s f p i h
+  apply-formed EntryThenHead p true second e h = put-formed s f i (p .entry) e
+  apply-formed EntryThenHead p false second e h =
       let n : last (putEntry (s .log) i (p .entry)) ≡ last (s .log) = last-put (s .log) i (p .entry) in
       applied-formed (putting s i (p .entry)) (put-formed s f i (p .entry) e) p i (rw n h)
-  apply-formed HeadThenEntry p true e h = applied-formed s f p i h
-  apply-formed HeadThenEntry p false e h = put-formed (heading false s p i) (applied-formed s f p i h) i (p .entry) e
+  apply-formed HeadThenEntry p true second e h = applied-formed s f p i h
+  apply-formed HeadThenEntry p false second e h = put-formed (heading false s p i) (applied-formed s f p i h) i (p .entry) e
+  apply-formed TargetThenHeadThenEntry p true second e h = target-formed s f p
+  apply-formed TargetThenHeadThenEntry p false true e h = applied-formed (targeting s p) (target-formed s f p) p i h
+  apply-formed TargetThenHeadThenEntry p false false e h =
+      put-formed (heading false (targeting s p) p i) (applied-formed (targeting s p) (target-formed s f p) p i h) i (p .entry) e
 
 -- ---- every call
-abbrev Next : Reply → State → Type 0
-Next r s = Formed s
+abbrev Next : Note → Reply → State → Type 0
+Next x r s = Formed s
 
 appended-formed : (k : ℕ) (ps : List Pair) → 1 ≤ k → validChange ps ≡ true → EntryFormed k (appended ps)
 unfolding pairsOk
@@ -349,19 +372,6 @@ grown-head : (n : ℕ) (h : Head) → HeadFormed n h → HeadFormed (suc n) h
 grown-head n h f = record { index = omega (arith, f .index); target = omega (arith, f .target); revision = omega (arith, f .revision); ordinal = f .ordinal }
 
 module _ (s : State) (f : Formed s) where
-  net-formed : (w : Net) → NetFormed w → Formed (withNet s w)
-  net-formed w n =
-      record {
-        log = f .log;
-        entries = f .entries;
-        committed = f .committed;
-        change = f .change;
-        applied = f .applied;
-        committedValues = f .committedValues;
-        appliedValues = f .appliedValues;
-        net = n;
-      }
-
   append-formed : (ps : List Pair) → validChange ps ≡ true → length (s .log .entries) < 128 → last (s .log) < 65535 → Formed (withLog s (grown (s .log) (appended ps)))
   append-formed ps e b c =
       let n : last (grown (s .log) (appended ps)) ≡ suc (last (s .log)) = last-add (s .log) (appended ps) in
@@ -437,54 +447,54 @@ module _ (s : State) (f : Formed s) where
         refused = λ a n. f;
         append = λ ps e r. append-formed ps e (r .0) (r .1);
         rollback = λ i p q e. put-formed s f i _ (let g = f .entries i p q in record { phase = (omega arith, omega arith); below = g .below; change = g .change; rollback = g .rollback; pairs = g .pairs });
-        start = λ e. net-formed _ (record { master = f .net .master; values = f .net .values; connections = f .net .connections });
-        stop = net-formed _ (record { master = f .net .master; values = refl; connections = length-map (s .net .connections) outside.off ∙ f .net .connections });
-        connect = λ n p e. net-formed _ (record { master = f .net .master; values = f .net .values; connections = length-node (s .net .connections) n _ ∙ f .net .connections });
-        disconnect = λ n. net-formed _ (record { master = f .net .master; values = f .net .values; connections = length-node (s .net .connections) n _ ∙ f .net .connections });
-        elect = λ n b t e. net-formed _ (record { master = b; values = f .net .values; connections = f .net .connections });
-        resign = net-formed _ (record { master = omega arith; values = f .net .values; connections = f .net .connections });
-        syncing = net-formed _ (record { master = f .net .master; values = f .net .values; connections = f .net .connections });
-        synced = net-formed _ (record { master = f .net .master; values = f .appliedValues; connections = f .net .connections });
-        job1 = λ i p q cut. let e = f .entries i p q in let t = entryOf (s .log) i in let h = s .committed .head in let vs = present (s .committed .values) t in let begins : i ≡ suc (s .change .0) → EntryFormed i (beginning (entryOf (s .log) i) (s .committed .head .revision) (present (s .committed .values) (entryOf (s .log) i))) = λ b. remade i p q _ _ _ _ (e .change) (e .rollback) (omega (arith, f .change .behind)) in record {
+        start = λ e. net-formed s f _ (record { master = f .net .master; values = f .net .values; connections = f .net .connections });
+        stop = net-formed s f _ (record { master = f .net .master; values = refl; connections = length-map (s .net .connections) outside.off ∙ f .net .connections });
+        connect = λ n p e. net-formed s f _ (record { master = f .net .master; values = f .net .values; connections = length-node (s .net .connections) n _ ∙ f .net .connections });
+        disconnect = λ n. net-formed s f _ (record { master = f .net .master; values = f .net .values; connections = length-node (s .net .connections) n _ ∙ f .net .connections });
+        elect = λ n b t e. net-formed s f _ (record { master = b; values = f .net .values; connections = f .net .connections });
+        resign = net-formed s f _ (record { master = omega arith; values = f .net .values; connections = f .net .connections });
+        syncing = net-formed s f _ (record { master = f .net .master; values = f .net .values; connections = f .net .connections });
+        synced = net-formed s f _ (record { master = f .net .master; values = f .appliedValues; connections = f .net .connections });
+        job1 = λ i p q cut second. let e = f .entries i p q in let t = entryOf (s .log) i in let h = s .committed .head in let vs = present (s .committed .values) t in let begins : i ≡ suc (s .change .0) → EntryFormed i (beginning (entryOf (s .log) i) (s .committed .head .revision) (present (s .committed .values) (entryOf (s .log) i))) = λ b. remade i p q _ _ _ _ (e .change) (e .rollback) (omega (arith, f .change .behind)) in record {
           wait = f;
           full = λ a b d. f;
           begin = λ a b d. put-formed s f i _ (begins b);
-          aim = λ a b d. commit-formed s f i HeadThenEntry (job1.plans change.Aim t h (num i) (ord 0) vs) cut (begins b) (turned i p q (s .committed .head) (num i) (f .committed) q) (record { inLog = f .change .inLog; behind = f .change .behind });
-          land = λ a b d o g. let x : o .0 ≤ 131070 = omega arith in let y : i ≤ i = omega arith in commit-formed s f i HeadThenEntry (job1.plans change.Land t h (num i) o vs) cut (changed i p q _ x) (came i p q (s .committed .head) (num i) o (f .committed) q x) (record { inLog = q; behind = y });
-          reject = λ a b. let x : s .committed .head .revision .0 ≤ i = omega (arith, f .change .behind) in commit-formed s f i EntryThenHead (job1.plans change.Reject t h (num i) (ord 0) vs) cut (changed i p q _ (e .change)) (gone i p q) (record { inLog = q; behind = x });
+          aim = λ a b d. commit-formed s f i HeadThenEntry (job1.plans change.Aim t h (num i) (ord 0) vs) cut second (begins b) (turned i p q (s .committed .head) (num i) (f .committed) q) (record { inLog = f .change .inLog; behind = f .change .behind });
+          land = λ a b d o g. let x : o .0 ≤ 131070 = omega arith in let y : i ≤ i = omega arith in commit-formed s f i HeadThenEntry (job1.plans change.Land t h (num i) o vs) cut second (changed i p q _ x) (came i p q (s .committed .head) (num i) o (f .committed) q x) (record { inLog = q; behind = y });
+          reject = λ a b. let x : s .committed .head .revision .0 ≤ i = omega (arith, f .change .behind) in commit-formed s f i EntryThenHead (job1.plans change.Reject t h (num i) (ord 0) vs) cut second (changed i p q _ (e .change)) (gone i p q) (record { inLog = q; behind = x });
           finish = λ a b. put-formed s f i _ (changed i p q _ (f .committed .ordinal));
           close = λ a b. let x : s .committed .head .revision .0 ≤ i = omega (arith, f .change .behind) in committed-formed s f (job1.plans change.Close t h (num i) (ord 0) vs) i (gone i p q) (record { inLog = q; behind = x });
         };
-        job2 = λ n i p q cut. let e = f .entries i p q in let t = entryOf (s .log) i in let h = s .applied .head in record {
+        job2 = λ n i p q cut second. let e = f .entries i p q in let t = entryOf (s .log) i in let h = s .applied .head in record {
           wait = f;
           noLine = f;
           begin = λ a b d. put-formed s f i _ (changed i p q _ (e .change));
-          aim = λ a b d g. apply-formed s f i HeadThenEntry (job2.plans apply.Aim t h (num i)) cut (changed i p q _ (e .change)) (turned i p q (s .applied .head) (num i) (f .applied) q);
-          abort = λ a b d g. apply-formed s f i EntryThenHead (job2.plans apply.Abort t h (num i)) cut (changed i p q _ (e .change)) (shut i p q (num i) _ q (e .change));
+          aim = λ a b d g. apply-formed s f i HeadThenEntry (job2.plans apply.Aim t h (num i)) cut second (changed i p q _ (e .change)) (turned i p q (s .applied .head) (num i) (f .applied) q);
+          abort = λ a b d g. apply-formed s f i EntryThenHead (job2.plans apply.Abort t h (num i)) cut second (changed i p q _ (e .change)) (shut i p q (num i) _ q (e .change));
           closeAborted = λ a b. applied-formed s f (job2.plans apply.Close t h (num i)) i (shut i p q (num i) _ q (e .change));
           closeFailed = λ a b. applied-formed s f (job2.plans apply.Close t h (num i)) i (shut i p q (num i) _ q (e .change));
           finish = λ a b d. put-formed s f i _ (changed i p q _ (e .change));
-          fail = λ a b. apply-formed s f i EntryThenHead (job2.plans apply.Fail t h (num i)) cut (changed i p q _ (e .change)) (shut i p q (num i) _ q (e .change));
-          push = λ a b d. apply-formed s f i HeadThenEntry (job2.plans apply.Push t h (num i)) cut (changed i p q _ (e .change)) (came i p q (s .applied .head) (num i) _ (f .applied) q (e .change));
+          fail = λ a b. apply-formed s f i EntryThenHead (job2.plans apply.Fail t h (num i)) cut second (changed i p q _ (e .change)) (shut i p q (num i) _ q (e .change));
+          push = λ a b d. apply-formed s f i TargetThenHeadThenEntry (job2.plans apply.Push t h (num i)) cut second (changed i p q _ (e .change)) (came i p q (s .applied .head) (num i) _ (f .applied) q (e .change));
         };
-        job3 = λ i p q cut. let e = f .entries i p q in let t = entryOf (s .log) i in let h = s .committed .head in record {
+        job3 = λ i p q cut second. let e = f .entries i p q in let t = entryOf (s .log) i in let h = s .committed .head in record {
           wait = f;
           full = λ a b d. f;
           begin = λ a b d. put-formed s f i _ (returned i p q _ (e .rollback));
-          aim = λ a b d. commit-formed s f i HeadThenEntry (job3.plans rollback.Aim t h (num i) (ord 0)) cut (returned i p q _ (e .rollback)) (turned i p q (s .committed .head) _ (f .committed) (back i p q)) (record { inLog = f .change .inLog; behind = f .change .behind });
-          land = λ a b d o g. let x : o .0 ≤ 131070 = omega arith in let y : entryOf (s .log) i .index .0 ≤ s .change .0 = omega (arith, f .change .behind, e .below) in commit-formed s f i HeadThenEntry (job3.plans rollback.Land t h (num i) o) cut (returned i p q _ x) (came i p q (s .committed .head) _ o (f .committed) (back i p q) x) (record { inLog = f .change .inLog; behind = y });
+          aim = λ a b d. commit-formed s f i HeadThenEntry (job3.plans rollback.Aim t h (num i) (ord 0)) cut second (returned i p q _ (e .rollback)) (turned i p q (s .committed .head) _ (f .committed) (back i p q)) (record { inLog = f .change .inLog; behind = f .change .behind });
+          land = λ a b d o g. let x : o .0 ≤ 131070 = omega arith in let y : entryOf (s .log) i .index .0 ≤ s .change .0 = omega (arith, f .change .behind, e .below) in commit-formed s f i HeadThenEntry (job3.plans rollback.Land t h (num i) o) cut second (returned i p q _ x) (came i p q (s .committed .head) _ o (f .committed) (back i p q) x) (record { inLog = f .change .inLog; behind = y });
           finish = λ a b d. put-formed s f i _ (returned i p q _ (f .committed .ordinal));
         };
-        job4 = λ n i p q cut. let e = f .entries i p q in let t = entryOf (s .log) i in let h = s .applied .head in record {
+        job4 = λ n i p q cut second. let e = f .entries i p q in let t = entryOf (s .log) i in let h = s .applied .head in record {
           wait = f;
           noLine = f;
           rejected = f;
           begin = λ a b d g. put-formed s f i _ (returned i p q _ (e .rollback));
-          aim = λ a b d g. apply-formed s f i HeadThenEntry (job4.plans return.Aim t h (num i)) cut (returned i p q _ (e .rollback)) (turned i p q (s .applied .head) _ (f .applied) (back i p q));
-          cancel = λ a b d g. apply-formed s f i EntryThenHead (job4.plans return.Cancel t h (num i)) cut (returned i p q _ (e .rollback)) (shut i p q _ _ (back i p q) (e .rollback));
+          aim = λ a b d g. apply-formed s f i HeadThenEntry (job4.plans return.Aim t h (num i)) cut second (returned i p q _ (e .rollback)) (turned i p q (s .applied .head) _ (f .applied) (back i p q));
+          cancel = λ a b d g. apply-formed s f i EntryThenHead (job4.plans return.Cancel t h (num i)) cut second (returned i p q _ (e .rollback)) (shut i p q _ _ (back i p q) (e .rollback));
           close = λ a b. applied-formed s f (job4.plans return.Close t h (num i)) i (shut i p q _ _ (back i p q) (e .rollback));
           finish = λ a b d. put-formed s f i _ (returned i p q _ (e .rollback));
-          push = λ a b d. apply-formed s f i HeadThenEntry (job4.plans return.Push t h (num i)) cut (returned i p q _ (e .rollback)) (came i p q (s .applied .head) _ _ (f .applied) (back i p q) (e .rollback));
+          push = λ a b d. apply-formed s f i TargetThenHeadThenEntry (job4.plans return.Push t h (num i)) cut second (returned i p q _ (e .rollback)) (came i p q (s .applied .head) _ _ (f .applied) (back i p q) (e .rollback));
         };
       }
 

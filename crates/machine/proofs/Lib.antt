@@ -4,12 +4,14 @@ pub mod Cases
 pub mod Onward
 pub mod ByCall
 pub mod Entries
+pub mod Overlay
 pub mod Kept
 pub mod LiveEnds
 pub mod Unreached
 pub mod FoldWitnesses
 pub mod WhyWitnesses
 pub mod NightWitnesses
+pub mod PushWitnesses
 pub mod Traps
 pub mod Reconnected
 pub mod Retried

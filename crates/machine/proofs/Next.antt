@@ -1,7 +1,7 @@
 -- The state after each row of stores, as a record (Stores, Rows, Calls say which rows there are). Assumes nothing.
 use Prim.Native.Nat.{ℕ, _-_}
 use mathlib.Core.List.{List, [], _∷_, _++_}
-use mathlib.Core.Bool.{Bool, true, false}
+use mathlib.Core.Bool.{Bool, true, false, _&&_, cond}
 use mathlib.Core.Path.{_≡_, refl, ap, _∙_}
 use lib.Dec.{ltb, leb}
 use lib.ListN.{getD, set, drop}
@@ -12,32 +12,26 @@ use Rattle.kinds.specs.declared.Mastership.{Mastership}
 use Rattle.kinds.specs.declared.Connection.{Connection}
 use Rattle.kinds.specs.declared.Target.{Target}
 use Rattle.kinds.specs.Numbers.{num}
+use Rattle.rules.specs.Plans.{isPush}
 use Rattle.rules.specs.declared.Plan.{Plan}
 use Rattle.rules.specs.declared.Lay.{Lay}
 use Rattle.rules.specs.declared.Lay.the-variants.{Nothing, Values, Kept}
 use Rattle.rules.specs.declared.Order.{Order}
-use Rattle.rules.specs.declared.Order.the-variants.{Neither, EntryOnly, HeadOnly, EntryThenHead, HeadThenEntry}
+use Rattle.rules.specs.declared.Order.the-variants.{Neither, EntryOnly, HeadOnly, EntryThenHead, HeadThenEntry, TargetThenHeadThenEntry}
 use Rattle.machine.specs.State.{State, Net, Log, entryOf, putEntry, foldedTo}
 use Rattle.machine.specs.Stores.{Table, ofCommitted, ofApplied, ofTarget, ofBase, Store, fold, withLog, withBase, withCommitted, withApplied, withNet, withTargetValues, after, afters}
 use Rattle.machine.specs.LiveList.{live}
 use Rattle.machine.specs.Folding.{baseIf, baseRow}
-use Rattle.machine.specs.Rows.{layOne, layAt, overlay, laid, changeRow, headRow, entryRow, rowsBy, rowsOf}
+use Rattle.machine.specs.Laid.{laying, layingAt, over, laidOver}
+use Rattle.machine.specs.Rows.{layOne, layAt, overlay, laid, changeRow, headRow, targetRow, entryRow, rowsBy, rowsOf, eventOf}
 
--- ---- values with the first n pairs laid over them, place by place
-abbrev pub laying : Bool → List ℕ → ℕ → ℕ → List ℕ
-laying true l p v = set l p v
-laying false l p v = l
-
-abbrev pub layingAt : List ℕ → List ℕ → ℕ → List ℕ → ℕ → List ℕ
-layingAt ps vs n l k = laying (ltb k n) l (getD ps k 0) (getD vs k 0)
-
-unfoldable pub over : List ℕ → List ℕ → ℕ → List ℕ → List ℕ
-over ps vs n l = layingAt ps vs n (layingAt ps vs n (layingAt ps vs n (layingAt ps vs n l 0) 1) 2) 3
-
-abbrev pub laidOver : Lay → Transaction → List ℕ → List ℕ
-laidOver Nothing t l = l
-laidOver Values t l = over (t .paths) (t .values) (t .count) l
-laidOver Kept t l = over (t .paths) (t .kept) (t .count) l
+-- ---- a plan's event, where the call is not cut at its first store
+pub eventOf-whole : (p : Plan) → eventOf p false ≡ p .event
+eventOf-whole p = rw (never (isPush (p .order))) refl
+  where
+    never : (b : Bool) → b && false ≡ false
+    never true = refl
+    never false = refl
 
 -- ---- a plan's stores
 abbrev pub putting : State → ℕ → Transaction → State
@@ -47,7 +41,7 @@ abbrev pub changeIf : Bool → ℕ → Number → Number
 changeIf true i n = num i
 changeIf false i n = n
 
--- the head, with Committed's change and values, or with Applied's values and the target's
+-- the head, with Committed's change and values, or with Applied's values
 abbrev pub heading : Bool → State → Plan → ℕ → State
 heading true s p i =
     record {
@@ -63,21 +57,28 @@ heading false s p i =
       change = s .change;
       committed = s .committed;
       applied = record { head = p .head; values = laidOver (p .lay) (p .entry) (s .applied .values) };
-      net = withTargetValues (s .net) (laidOver (p .lay) (p .entry) (s .net .values));
+      net = s .net;
     }
 
-abbrev pub performedBy : Order → Bool → State → Plan → ℕ → Bool → State
-performedBy Neither commits s p i cut = s
-performedBy EntryOnly commits s p i cut = putting s i (p .entry)
-performedBy HeadOnly commits s p i cut = heading commits s p i
-performedBy EntryThenHead commits s p i true = putting s i (p .entry)
-performedBy EntryThenHead commits s p i false = heading commits (putting s i (p .entry)) p i
-performedBy HeadThenEntry commits s p i true = heading commits s p i
-performedBy HeadThenEntry commits s p i false = putting (heading commits s p i) i (p .entry)
+-- the push itself
+abbrev pub targeting : State → Plan → State
+targeting s p = withNet s (withTargetValues (s .net) (laidOver (p .lay) (p .entry) (s .net .values)))
 
--- the state after job's plan p for number i, cut or not
-abbrev pub performed : Bool → State → Plan → ℕ → Bool → State
-performed commits s p i cut = performedBy (p .order) commits s p i cut
+abbrev pub performedBy : Order → Bool → State → Plan → ℕ → (first second : Bool) → State
+performedBy Neither commits s p i first second = s
+performedBy EntryOnly commits s p i first second = putting s i (p .entry)
+performedBy HeadOnly commits s p i first second = heading commits s p i
+performedBy EntryThenHead commits s p i true second = putting s i (p .entry)
+performedBy EntryThenHead commits s p i false second = heading commits (putting s i (p .entry)) p i
+performedBy HeadThenEntry commits s p i true second = heading commits s p i
+performedBy HeadThenEntry commits s p i false second = putting (heading commits s p i) i (p .entry)
+performedBy TargetThenHeadThenEntry commits s p i true second = targeting s p
+performedBy TargetThenHeadThenEntry commits s p i false true = heading commits (targeting s p) p i
+performedBy TargetThenHeadThenEntry commits s p i false false = putting (heading commits (targeting s p) p i) i (p .entry)
+
+-- the state after job's plan p for number i, cut after its first store, after its second, or not
+abbrev pub performed : Bool → State → Plan → ℕ → (first second : Bool) → State
+performed commits s p i first second = performedBy (p .order) commits s p i first second
 
 -- ---- a fold: the base with the live ones up to b laid over it, and the entries after b
 abbrev pub layingIf : Bool → Transaction → List ℕ → List ℕ
@@ -176,27 +177,35 @@ head-heading true s p i = go (p .change)
         (record { log = s .log; change = num i; committed = record { head = p .head; values = s .committed .values }; applied = s .applied; net = s .net })
         ofCommitted (p .lay) (p .entry)
     go false = laid-over (withCommitted s (record { head = p .head; values = s .committed .values })) ofCommitted (p .lay) (p .entry)
-head-heading false s p i =
-    let w = withNet s (withTargetValues (s .net) (laidOver (p .lay) (p .entry) (s .net .values))) in
-    afters-append s (laid ofTarget (p .lay) (p .entry)) _
-    ∙ ap (λ x. afters x (Rattle.machine.specs.Stores.appliedHead (p .head) ∷ laid ofApplied (p .lay) (p .entry))) (laid-over s ofTarget (p .lay) (p .entry))
-    ∙ laid-over (withApplied w (record { head = p .head; values = s .applied .values })) ofApplied (p .lay) (p .entry)
+head-heading false s p i = laid-over (withApplied s (record { head = p .head; values = s .applied .values })) ofApplied (p .lay) (p .entry)
+
+target-targeting : (s : State) (p : Plan) → afters s (targetRow p) ≡ targeting s p
+target-targeting s p = laid-over s ofTarget (p .lay) (p .entry)
 
 -- what a plan's rows do
-pub rows-performed : (c : Bool) (s : State) (p : Plan) (i : ℕ) (cut : Bool) → afters s (rowsOf c p i cut) ≡ performed c s p i cut
+pub rows-performed : (c : Bool) (s : State) (p : Plan) (i : ℕ) (first second : Bool) → afters s (rowsOf c p i first second) ≡ performed c s p i first second
 unfolding rowsOf afters
-rows-performed c s p i cut = go (p .order) cut
+rows-performed c s p i first second = go (p .order) first second
   where
-    go : (o : Order) (cut : Bool) → afters s (rowsBy o c p i cut) ≡ performedBy o c s p i cut
-    go Neither cut = refl
-    go EntryOnly cut = entry-putting s p i
-    go HeadOnly cut = head-heading c s p i
-    go EntryThenHead true = entry-putting s p i
-    go EntryThenHead false =
+    head-entry : (u : State) → afters u (headRow c p i ++ entryRow p i) ≡ putting (heading c u p i) i (p .entry)
+    head-entry u =
+        afters-append u (headRow c p i) (entryRow p i) ∙ ap (λ x. afters x (entryRow p i)) (head-heading c u p i) ∙ entry-putting (heading c u p i) p i
+
+    after-target : (es : List Store) → afters s (targetRow p ++ es) ≡ afters (targeting s p) es
+    after-target es = afters-append s (targetRow p) es ∙ ap (λ x. afters x es) (target-targeting s p)
+
+    go : (o : Order) (first second : Bool) → afters s (rowsBy o c p i first second) ≡ performedBy o c s p i first second
+    go Neither first second = refl
+    go EntryOnly first second = entry-putting s p i
+    go HeadOnly first second = head-heading c s p i
+    go EntryThenHead true second = entry-putting s p i
+    go EntryThenHead false second =
         afters-append s (entryRow p i) (headRow c p i) ∙ ap (λ x. afters x (headRow c p i)) (entry-putting s p i) ∙ head-heading c (putting s i (p .entry)) p i
-    go HeadThenEntry true = head-heading c s p i
-    go HeadThenEntry false =
-        afters-append s (headRow c p i) (entryRow p i) ∙ ap (λ x. afters x (entryRow p i)) (head-heading c s p i) ∙ entry-putting (heading c s p i) p i
+    go HeadThenEntry true second = head-heading c s p i
+    go HeadThenEntry false second = head-entry s
+    go TargetThenHeadThenEntry true second = target-targeting s p
+    go TargetThenHeadThenEntry false true = after-target (headRow c p i) ∙ head-heading c (targeting s p) p i
+    go TargetThenHeadThenEntry false false = after-target (headRow c p i ++ entryRow p i) ∙ head-entry (targeting s p)
 
 -- what a fold's row does
 base-over : (s : State) (l : Log) (b : ℕ) (ks : List ℕ) → afters s (baseRow l b ks) ≡ withTable s ofBase (baseOver l b ks (s .log .base))

@@ -7,7 +7,7 @@ use lib.Dec.{eqb}
 use borrow.Author.Tests.{eqb-true}
 use Rattle.rules.specs.declared.Plan.{Plan}
 use Rattle.rules.specs.declared.Order.{Order}
-use Rattle.rules.specs.declared.Order.the-variants.{Neither, EntryOnly, HeadOnly, EntryThenHead, HeadThenEntry}
+use Rattle.rules.specs.declared.Order.the-variants.{Neither, EntryOnly, HeadOnly, EntryThenHead, HeadThenEntry, TargetThenHeadThenEntry}
 use Rattle.machine.specs.State.{State, entryOf, lineOpenFor}
 use Rattle.machine.specs.Settled.{settled}
 use Rattle.machine.specs.Rest.{restOf}
@@ -25,18 +25,23 @@ module _ (s : State) (i : ℕ) where
   HeadOn true p = s .change .0 ≤ changeIf (p .change) i (s .change) .0
   HeadOn false p = s .applied .head .ordinal .0 ≤ p .head .ordinal .0
 
-  performed-on : (o : Order) (b : Bool) (p : Plan) → HeadOn b p → (cut : Bool) → Onward s (performedBy o b s p i cut)
-  performed-on Neither b p h cut = record { change = omega arith; ordinal = omega arith }
-  performed-on EntryOnly b p h cut = record { change = omega arith; ordinal = omega arith }
-  performed-on HeadOnly true p h cut = record { change = h; ordinal = omega arith }
-  performed-on HeadOnly false p h cut = record { change = omega arith; ordinal = h }
-  performed-on EntryThenHead b p h true = record { change = omega arith; ordinal = omega arith }
-  performed-on EntryThenHead true p h false = record { change = h; ordinal = omega arith }
-  performed-on EntryThenHead false p h false = record { change = omega arith; ordinal = h }
-  performed-on HeadThenEntry true p h true = record { change = h; ordinal = omega arith }
-  performed-on HeadThenEntry false p h true = record { change = omega arith; ordinal = h }
-  performed-on HeadThenEntry true p h false = record { change = h; ordinal = omega arith }
-  performed-on HeadThenEntry false p h false = record { change = omega arith; ordinal = h }
+  performed-on : (o : Order) (b : Bool) (p : Plan) → HeadOn b p → (first second : Bool) → Onward s (performedBy o b s p i first second)
+  performed-on Neither b p h first second = record { change = omega arith; ordinal = omega arith }
+  performed-on EntryOnly b p h first second = record { change = omega arith; ordinal = omega arith }
+  performed-on HeadOnly true p h first second = record { change = h; ordinal = omega arith }
+  performed-on HeadOnly false p h first second = record { change = omega arith; ordinal = h }
+  performed-on EntryThenHead b p h true second = record { change = omega arith; ordinal = omega arith }
+  performed-on EntryThenHead true p h false second = record { change = h; ordinal = omega arith }
+  performed-on EntryThenHead false p h false second = record { change = omega arith; ordinal = h }
+  performed-on HeadThenEntry true p h true second = record { change = h; ordinal = omega arith }
+  performed-on HeadThenEntry false p h true second = record { change = omega arith; ordinal = h }
+  performed-on HeadThenEntry true p h false second = record { change = h; ordinal = omega arith }
+  performed-on HeadThenEntry false p h false second = record { change = omega arith; ordinal = h }
+  performed-on TargetThenHeadThenEntry b p h true second = record { change = omega arith; ordinal = omega arith }
+  performed-on TargetThenHeadThenEntry true p h false true = record { change = h; ordinal = omega arith }
+  performed-on TargetThenHeadThenEntry false p h false true = record { change = omega arith; ordinal = h }
+  performed-on TargetThenHeadThenEntry true p h false false = record { change = h; ordinal = omega arith }
+  performed-on TargetThenHeadThenEntry false p h false false = record { change = omega arith; ordinal = h }
 
   on-1 : (y : Bool) → HeadOn true (job1 s i y)
   on-1 y =
@@ -95,9 +100,9 @@ module _ (s : State) (i : ℕ) where
         push = λ m e x. omega (arith, m .1);
       })
 
-  pub onward : (n j : ℕ) (y cut : Bool) → Onward s (performed (commits j) s (planOf s n j i y) i cut)
+  pub onward : (n j : ℕ) (y first second : Bool) → Onward s (performed (commits j) s (planOf s n j i y) i first second)
   unfolding planOf
-  onward n j y cut = performed-on (planOf s n j i y .order) (commits j) (planOf s n j i y) (go (eqb j 1) (eqb j 2) refl (eqb j 3) refl) cut
+  onward n j y first second = performed-on (planOf s n j i y .order) (commits j) (planOf s n j i y) (go (eqb j 1) (eqb j 2) refl (eqb j 3) refl) first second
     where
       go : (x b : Bool) → eqb j 2 ≡ b → (d : Bool) → eqb j 3 ≡ d
           → HeadOn (sideIf x d) (cond x (job1 s i y) (cond b (job2 s n i y) (cond d (job3 s i) (job4 s n i y))))

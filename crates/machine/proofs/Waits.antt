@@ -294,10 +294,10 @@ module _ (s : State) (n i : ℕ) where
           (record { wait = refl; noLine = refl; rejected = refl; begin = λ a b c d. refl; aim = λ a b c d. refl; cancel = λ a b c d. refl; close = λ a b. refl; finish = λ a b c. refl; push = λ a b c. refl })
 
   -- a reason is given exactly when the job answers 11, with any outcome and cut; 1, 2, 5, 18 and 10 are as the job's; else 15
-  pub why-answers : (j r c : ℕ) → leb r 1 ≡ true → leb c 1 ≡ true → why s n j i .answer ≡ asks (step s (work n j i r c) .reply .answer)
+  pub why-answers : (j r c : ℕ) → leb r 1 ≡ true → leb c 2 ≡ true → why s n j i .answer ≡ asks (step s (work n j i r c) .reply .answer)
   unfolding why step outcome decide
   why-answers j r c er ec =
-      go (wellFormed s) (isNode n && (leb 1 j && leb j 4)) (leb r 1 && leb c 1) (rw (er, ec)) (inLog s i) (isKept s i) (isMaster (s .net) n)
+      go (wellFormed s) (isNode n && (leb 1 j && leb j 4)) (leb r 1 && leb c 2) (rw (er, ec)) (inLog s i) (isKept s i) (isMaster (s .net) n)
       (plan-asks j (eqb r 0) ∙ ap (λ b. cond b 0 15) (eleven-same j (eqb r 0)))
     where
       go : (w v x : Bool) → x ≡ true → (l k m : Bool) → asks (planOf s n j i (eqb r 0) .answer) ≡ cond (eqb (planOf s n j i false .answer) 11) 0 15

@@ -9,7 +9,7 @@ use lib.Dec.{eqb, leb}
 use borrow.Author.Tests.{eqb-true, leb-true, ltb-true}
 use Rattle.rules.specs.declared.Plan.{Plan}
 use Rattle.rules.specs.declared.Order.{Order}
-use Rattle.rules.specs.declared.Order.the-variants.{Neither, EntryOnly, HeadOnly, EntryThenHead, HeadThenEntry}
+use Rattle.rules.specs.declared.Order.the-variants.{Neither, EntryOnly, HeadOnly, EntryThenHead, HeadThenEntry, TargetThenHeadThenEntry}
 use Rattle.machine.specs.State.{State, last, inLog, isKept, isNode, isMaster, lineOpenFor}
 use Rattle.machine.specs.Stores.{afters}
 use Rattle.machine.specs.Rows.{rowsOf}
@@ -25,8 +25,8 @@ pub record Worked (s : State) (n j i r c : ℕ) : Type 0 where
   pub job : (1 ≤ j) × (j ≤ 4)
   pub master : s .net .mastership .master ≡ n
   pub plan : planOf s n j i (eqb r 0) .answer ≡ 0
-  pub stores : outcome s (work n j i r c) .stores ≡ rowsOf (commits j) (planOf s n j i (eqb r 0)) i (eqb c 1)
-  pub next : step s (work n j i r c) .next ≡ performed (commits j) s (planOf s n j i (eqb r 0)) i (eqb c 1)
+  pub stores : outcome s (work n j i r c) .stores ≡ rowsOf (commits j) (planOf s n j i (eqb r 0)) i (eqb c 1) (eqb c 2)
+  pub next : step s (work n j i r c) .next ≡ performed (commits j) s (planOf s n j i (eqb r 0)) i (eqb c 1) (eqb c 2)
 
 pub worked : (s : State) (n j i r c : ℕ) → step s (work n j i r c) .reply .answer ≡ 0 → Worked s n j i r c
 unfolding step outcome decide
@@ -40,7 +40,7 @@ worked s n j i r c e =
       master = eqb-true _ n (k .3);
       plan = k .4;
       stores = k .5;
-      next = ap (afters s) (k .5) ∙ rows-performed (commits j) s p i (eqb c 1);
+      next = ap (afters s) (k .5) ∙ rows-performed (commits j) s p i (eqb c 1) (eqb c 2);
     }
   where
     go : (w v l z m : Bool)
@@ -61,21 +61,26 @@ pub record Leaves (s next : State) : Type 0 where
   pub line : (n : ℕ) → lineOpenFor (next .net) n ≡ lineOpenFor (s .net) n
   pub size : last (next .log) ≡ last (s .log)
 
-pub performed-leaves : (b : Bool) (s : State) (p : Plan) (i : ℕ) (cut : Bool) → Leaves s (performed b s p i cut)
-performed-leaves b s p i cut = go (p .order) b cut
+pub performed-leaves : (b : Bool) (s : State) (p : Plan) (i : ℕ) (first second : Bool) → Leaves s (performed b s p i first second)
+performed-leaves b s p i first second = go (p .order) b first second
   where
-    go : (o : Order) (b cut : Bool) → Leaves s (performedBy o b s p i cut)
-    go Neither b cut = record { master = λ n. refl; line = λ n. refl; size = refl }
-    go EntryOnly b cut = record { master = λ n. refl; line = λ n. refl; size = last-put (s .log) i (p .entry) }
-    go HeadOnly true cut = record { master = λ n. refl; line = λ n. refl; size = refl }
-    go HeadOnly false cut = record { master = λ n. refl; line = λ n. refl; size = refl }
-    go EntryThenHead b true = record { master = λ n. refl; line = λ n. refl; size = last-put (s .log) i (p .entry) }
-    go EntryThenHead true false = record { master = λ n. refl; line = λ n. refl; size = last-put (s .log) i (p .entry) }
-    go EntryThenHead false false = record { master = λ n. refl; line = λ n. refl; size = last-put (s .log) i (p .entry) }
-    go HeadThenEntry true true = record { master = λ n. refl; line = λ n. refl; size = refl }
-    go HeadThenEntry false true = record { master = λ n. refl; line = λ n. refl; size = refl }
-    go HeadThenEntry true false = record { master = λ n. refl; line = λ n. refl; size = last-put (s .log) i (p .entry) }
-    go HeadThenEntry false false = record { master = λ n. refl; line = λ n. refl; size = last-put (s .log) i (p .entry) }
+    go : (o : Order) (b first second : Bool) → Leaves s (performedBy o b s p i first second)
+    go Neither b first second = record { master = λ n. refl; line = λ n. refl; size = refl }
+    go EntryOnly b first second = record { master = λ n. refl; line = λ n. refl; size = last-put (s .log) i (p .entry) }
+    go HeadOnly true first second = record { master = λ n. refl; line = λ n. refl; size = refl }
+    go HeadOnly false first second = record { master = λ n. refl; line = λ n. refl; size = refl }
+    go EntryThenHead b true second = record { master = λ n. refl; line = λ n. refl; size = last-put (s .log) i (p .entry) }
+    go EntryThenHead true false second = record { master = λ n. refl; line = λ n. refl; size = last-put (s .log) i (p .entry) }
+    go EntryThenHead false false second = record { master = λ n. refl; line = λ n. refl; size = last-put (s .log) i (p .entry) }
+    go HeadThenEntry true true second = record { master = λ n. refl; line = λ n. refl; size = refl }
+    go HeadThenEntry false true second = record { master = λ n. refl; line = λ n. refl; size = refl }
+    go HeadThenEntry true false second = record { master = λ n. refl; line = λ n. refl; size = last-put (s .log) i (p .entry) }
+    go HeadThenEntry false false second = record { master = λ n. refl; line = λ n. refl; size = last-put (s .log) i (p .entry) }
+    go TargetThenHeadThenEntry b true second = record { master = λ n. refl; line = λ n. refl; size = refl }
+    go TargetThenHeadThenEntry true false true = record { master = λ n. refl; line = λ n. refl; size = refl }
+    go TargetThenHeadThenEntry false false true = record { master = λ n. refl; line = λ n. refl; size = refl }
+    go TargetThenHeadThenEntry true false false = record { master = λ n. refl; line = λ n. refl; size = last-put (s .log) i (p .entry) }
+    go TargetThenHeadThenEntry false false false = record { master = λ n. refl; line = λ n. refl; size = last-put (s .log) i (p .entry) }
 
 pub worked-leaves : (s : State) (n j i r c : ℕ) → Worked s n j i r c → Leaves s (step s (work n j i r c) .next)
-worked-leaves s n j i r c w = subst (Leaves s) (sym (w .next)) (performed-leaves (commits j) s (planOf s n j i (eqb r 0)) i (eqb c 1))
+worked-leaves s n j i r c w = subst (Leaves s) (sym (w .next)) (performed-leaves (commits j) s (planOf s n j i (eqb r 0)) i (eqb c 1) (eqb c 2))

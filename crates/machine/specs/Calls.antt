@@ -18,7 +18,7 @@ use Rattle.rules.specs.ApplyRollback.{applyRollback}
 use Rattle.rules.specs.Outside as outside
 use Rattle.machine.specs.State.{State, absent, four, entryOf, last, inLog, isKept, isNode, nodeOf, putNode, isMaster, reachesTarget, lineOpenFor}
 use Rattle.machine.specs.Stores.{Store, grow, entry, fold, targetValues, configuration, mastership, connections, target}
-use Rattle.machine.specs.Rows.{rowsOf}
+use Rattle.machine.specs.Rows.{rowsOf, eventOf}
 use Rattle.machine.specs.WellFormed.{pairsOk}
 use Rattle.machine.specs.LiveList.{live}
 use Rattle.machine.specs.Settled.{settled}
@@ -130,11 +130,12 @@ abbrev pub commits : ℕ → Bool
 commits j = sideIf (eqb j 1) (eqb j 3)
 
 abbrev pub planned : ℕ → Plan → ℕ → ℕ → Outcome
-planned j p i cut = record { reply = record { answer = p .answer; event = p .event }; stores = rowsOf (commits j) p i (eqb cut 1) }
+planned j p i cut =
+    record { reply = record { answer = p .answer; event = eventOf p (eqb cut 1) }; stores = rowsOf (commits j) p i (eqb cut 1) (eqb cut 2) }
 
 -- node, job, outcome and cut in range
 abbrev pub workOk : ℕ → ℕ → ℕ → ℕ → Bool
-workOk n j r c = (isNode n && (leb 1 j && leb j 4)) && (leb r 1 && leb c 1)
+workOk n j r c = (isNode n && (leb 1 j && leb j 4)) && (leb r 1 && leb c 2)
 
 -- ---- synchronise: the configuration, and where it copies, the applied values in the target
 abbrev pub copyRow : Bool → List ℕ → List Store

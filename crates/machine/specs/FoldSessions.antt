@@ -71,6 +71,10 @@ undoes i = accepts (rollback i) ∷ (commitsRollback i ++ appliesRollback i)
 abbrev cuts : (phase stage job outcome number : ℕ) → Status → Line
 cuts p g j r i x = gives (work 1 j i r 1) (record { answer = 0; event = event p g (num i) x })
 
+-- a push whose third store, the status, is cut off
+abbrev pushes : (phase job number : ℕ) → Line
+pushes p j i = gives (work 1 j i 0 2) (record { answer = 0; event = event p 2 (num i) Complete })
+
 -- 1 and 2, both of path 3
 abbrev two : List Line
 two = adds 1 3 7 ∷ adds 2 3 9 ∷ opened
@@ -155,7 +159,7 @@ resting-hold = refl
 pushed : List Piece
 pushed =
     says
-    (two ++ (takes 1 ++ (commitsChange 2 ++ (does 1 2 2 0 2 InProgress ∷ cuts 1 2 2 0 2 Complete ∷ refuses 17 (foldTo 1) ∷ accepts (work 1 2 2 0 0) ∷ accepts (foldTo 1) ∷ []))))
+    (two ++ (takes 1 ++ (commitsChange 2 ++ (does 1 2 2 0 2 InProgress ∷ pushes 1 2 2 ∷ refuses 17 (foldTo 1) ∷ accepts (work 1 2 2 0 0) ∷ accepts (foldTo 1) ∷ []))))
     ∷ []
 
 returning : List Piece
@@ -165,7 +169,7 @@ returning =
     ++ (takes 1
     ++ (takes 2
     ++ (accepts (rollback 2)
-    ∷ (commitsRollback 2 ++ (does 2 2 4 0 2 InProgress ∷ cuts 2 2 4 0 2 Complete ∷ refuses 17 (foldTo 1) ∷ accepts (work 1 4 2 0 0) ∷ accepts (foldTo 2) ∷ []))))))
+    ∷ (commitsRollback 2 ++ (does 2 2 4 0 2 InProgress ∷ pushes 2 4 2 ∷ refuses 17 (foldTo 1) ∷ accepts (work 1 4 2 0 0) ∷ accepts (foldTo 2) ∷ []))))))
     ∷ []
 
 pub settling : List (List Piece)

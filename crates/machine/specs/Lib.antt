@@ -2,6 +2,7 @@
 pub mod State
 pub mod Stores
 pub mod Rows
+pub mod Laid
 pub mod WellFormed
 pub mod Settled
 pub mod Rest
@@ -10,6 +11,7 @@ pub mod LiveList
 pub mod Reads
 pub mod Calls
 pub mod Step
+pub mod Notes
 pub mod Retry
 pub mod Built
 pub mod Sessions
@@ -19,3 +21,4 @@ pub mod Why
 pub mod WhySessions
 pub mod Night
 pub mod NightSessions
+pub mod PushSessions

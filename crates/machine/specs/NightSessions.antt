@@ -232,7 +232,8 @@ pub closing : List Row
 closing =
     sleeps (work 1 1 1 0 1 ∷ one) 2 accepted 2 2 (does 1 1 0 Complete ∷ closes 1 1 0 ∷ []) (shows 1 1 1 Complete ∷ stand 1 1 1 1 1 0 0 0 0 ∷ [])
     ∷ sleeps (work 1 1 1 1 1 ∷ work 1 1 1 0 0 ∷ one) 9 accepted 1 0 (closes 1 1 0 ∷ []) (shows 1 1 1 Failed ∷ stand 1 1 1 0 0 0 0 0 0 ∷ [])
-    ∷ sleeps (work 1 2 1 0 1 ∷ work 1 2 1 0 0 ∷ rolling line) 9 accepted 5 0 (goes 4 1 (goes 3 1 (closes 2 1 0 ∷ []))) (shows 1 2 1 Complete ∷ shows 2 2 1 Complete ∷ []) ∷ []
+    ∷ sleeps (work 1 2 1 0 2 ∷ work 1 2 1 0 0 ∷ rolling line) 9 accepted 5 0 (goes 4 1 (goes 3 1 (closes 2 1 0 ∷ []))) (shows 1 2 1 Complete ∷ shows 2 2 1 Complete ∷ [])
+    ∷ sleeps (work 1 2 1 0 1 ∷ work 1 2 1 0 0 ∷ rolling line) 9 accepted 5 0 (goes 4 1 (goes 3 1 (does 2 1 0 Complete ∷ []))) (reads 3 0 0 0 ∷ shows 1 2 1 Complete ∷ shows 2 2 1 Complete ∷ []) ∷ []
 
 pub closing-hold : slept closing ≡ true
 unfolding slept sameCalls sameEvents night turns trials firstDone needsLine bits stateFrom eventsFrom step outcome decide planOf afters after overlay rowsOf allFrom pairsOk entryOk headOk wellFormed valuesOk present hops baseRow agrees begins stateNumbers closing

@@ -60,12 +60,15 @@ line = sync 1 ∷ sync 1 ∷ led
 abbrev change : ℕ → Call
 change v = append (record { path = 3; value = v } ∷ [])
 
--- a job whole, cut, rejected, and both
+-- a job whole, cut after its first store, cut after its second, rejected, and rejected and cut
 abbrev job : ℕ → ℕ → Call
 job j i = work 1 j i 0 0
 
 abbrev cut : ℕ → ℕ → Call
 cut j i = work 1 j i 0 1
+
+abbrev unmarked : ℕ → ℕ → Call
+unmarked j i = work 1 j i 0 2
 
 abbrev rejected : ℕ → ℕ → Call
 rejected j i = work 1 j i 1 0
@@ -95,7 +98,7 @@ pub finished : List Row
 finished =
     row (through 1 1 three) (waits 1 1 1 0 ∷ goes 2 1 ∷ []) ∷ row (cut 1 1 ∷ job 1 1 ∷ three) (goes 1 1 ∷ [])
     ∷ row (rejected 1 1 ∷ job 1 1 ∷ three) (waits 1 1 1 0 ∷ waits 2 1 1 0 ∷ []) ∷ row (dropped 1 1 ∷ job 1 1 ∷ three) (closes 1 1 ∷ waits 2 1 1 0 ∷ [])
-    ∷ row (through 2 1 committed) (waits 2 1 1 0 ∷ []) ∷ row (cut 2 1 ∷ job 2 1 ∷ committed) (goes 2 1 ∷ [])
+    ∷ row (through 2 1 committed) (waits 2 1 1 0 ∷ []) ∷ row (unmarked 2 1 ∷ job 2 1 ∷ committed) (goes 2 1 ∷ [])
     ∷ row (rejected 2 1 ∷ job 2 1 ∷ committed) (waits 2 1 1 0 ∷ []) ∷ row (dropped 2 1 ∷ job 2 1 ∷ committed) (closes 2 1 ∷ [])
     ∷ row (job 2 2 ∷ rejected 2 1 ∷ job 2 1 ∷ committed) (waits 2 2 1 0 ∷ []) ∷ row (cut 2 2 ∷ rejected 2 1 ∷ job 2 1 ∷ committed) (closes 2 2 ∷ [])
     ∷ row (job 2 2 ∷ through 2 1 returned) (waits 3 2 1 0 ∷ []) ∷ row (cut 3 2 ∷ job 3 2 ∷ rollback 2 ∷ committed) (goes 3 2 ∷ [])
@@ -165,9 +168,9 @@ uncommitted-hold = refl
 pub unsettled : List Row
 unsettled =
     row (through 1 3 committed) (goes 2 1 ∷ waits 2 2 7 1 ∷ waits 2 3 7 1 ∷ []) ∷ row (job 2 1 ∷ through 1 3 committed) (goes 2 1 ∷ waits 2 2 7 1 ∷ [])
-    ∷ row (cut 2 1 ∷ job 2 1 ∷ through 1 3 committed) (goes 2 1 ∷ waits 2 2 7 1 ∷ waits 2 3 7 1 ∷ []) ∷ row (through 2 1 (through 1 3 committed)) (goes 2 2 ∷ waits 2 3 7 2 ∷ [])
-    ∷ row returned (waits 4 2 7 1 ∷ []) ∷ row (cut 2 1 ∷ job 2 1 ∷ returned) (waits 4 2 7 1 ∷ []) ∷ row (through 2 1 returned) (goes 2 2 ∷ waits 4 2 7 2 ∷ [])
-    ∷ row (through 3 2 (rollback 2 ∷ cut 2 2 ∷ job 2 2 ∷ through 2 1 committed)) (goes 2 2 ∷ waits 4 2 7 2 ∷ []) ∷ row (job 2 2 ∷ through 2 1 returned) (goes 4 2 ∷ []) ∷ []
+    ∷ row (unmarked 2 1 ∷ job 2 1 ∷ through 1 3 committed) (goes 2 1 ∷ waits 2 2 7 1 ∷ waits 2 3 7 1 ∷ []) ∷ row (through 2 1 (through 1 3 committed)) (goes 2 2 ∷ waits 2 3 7 2 ∷ [])
+    ∷ row returned (waits 4 2 7 1 ∷ []) ∷ row (unmarked 2 1 ∷ job 2 1 ∷ returned) (waits 4 2 7 1 ∷ []) ∷ row (through 2 1 returned) (goes 2 2 ∷ waits 4 2 7 2 ∷ [])
+    ∷ row (through 3 2 (rollback 2 ∷ unmarked 2 2 ∷ job 2 2 ∷ through 2 1 committed)) (goes 2 2 ∷ waits 4 2 7 2 ∷ []) ∷ row (job 2 2 ∷ through 2 1 returned) (goes 4 2 ∷ []) ∷ []
 
 pub unsettled-hold : all unsettled ≡ true
 unfolding all agrees why stateFrom step outcome decide planOf afters after overlay rowsOf allFrom pairsOk entryOk headOk wellFormed valuesOk present firstOf lowest hops baseRow unsettled

@@ -151,11 +151,11 @@ leading-hold = refl
 -- ---- the order of a job's refusals, and of a rollback request's: each line is met by two of them, or by one alone
 ordered : List Line
 ordered =
-    no 2 (work 0 1 1 0 0) ∷ no 2 (work 9 1 1 0 0) ∷ no 2 (work 1 0 1 0 0) ∷ no 2 (work 1 5 1 0 0) ∷ no 2 (work 1 1 1 2 0) ∷ no 2 (work 1 1 1 0 2)
+    no 2 (work 0 1 1 0 0) ∷ no 2 (work 9 1 1 0 0) ∷ no 2 (work 1 0 1 0 0) ∷ no 2 (work 1 5 1 0 0) ∷ no 2 (work 1 1 1 2 0) ∷ no 2 (work 1 1 1 0 3)
     ∷ no 5 (work 1 1 1 0 0) ∷ no 5 (work 1 1 0 0 0) ∷ no 5 (rollback 0) ∷ no 5 (rollback 1)
     ∷ adding 1 (pair 3 7 ∷ []) ∷ adding 2 (pair 3 9 ∷ []) ∷ no 5 (work 1 1 0 0 0) ∷ no 5 (work 1 1 3 0 0) ∷ no 10 (work 1 1 1 0 0) ∷ no 10 (work 1 1 2 0 0) ∷ no 10 (work 1 2 1 0 0)
     ∷ (led
-    ++ (yes (connect 2) ∷ no 2 (work 0 1 1 0 0) ∷ no 2 (work 1 0 1 0 0) ∷ no 2 (work 1 5 1 0 0) ∷ no 2 (work 1 1 1 2 0) ∷ no 2 (work 1 1 1 0 2)
+    ++ (yes (connect 2) ∷ no 2 (work 0 1 1 0 0) ∷ no 2 (work 1 0 1 0 0) ∷ no 2 (work 1 5 1 0 0) ∷ no 2 (work 1 1 1 2 0) ∷ no 2 (work 1 1 1 0 3)
     ∷ no 10 (work 2 1 1 0 0) ∷ no 10 (work 2 1 2 0 0) ∷ no 5 (work 2 1 3 0 0) ∷ no 11 (work 1 1 2 0 0) ∷ no 6 (rollback 1)
     ∷ (commit 1
     ++ (job2 1 0 0 2 ∷ no 12 (work 1 2 1 0 0) ∷ no 12 (work 1 2 1 1 0) ∷ no 10 (work 2 2 1 0 0) ∷ no 11 (work 1 4 1 0 0)
@@ -180,7 +180,8 @@ cut =
     ∷ yes (work 1 1 1 1 1) ∷ heads (1 ∷ 1 ∷ 1 ∷ 1 ∷ 1 ∷ 0 ∷ []) ∷ marks 1 (1 ∷ 3 ∷ 1 ∷ 1 ∷ 0 ∷ 0 ∷ 0 ∷ 0 ∷ 4 ∷ 3 ∷ []) ∷ wait 1 1
     ∷ job2 1 0 1 2 ∷ heads (1 ∷ 1 ∷ 1 ∷ 1 ∷ 1 ∷ 0 ∷ 1 ∷ 0 ∷ 0 ∷ []) ∷ marks 1 (1 ∷ 3 ∷ 1 ∷ 1 ∷ 0 ∷ []) ∷ reads 3 7 0 0
     ∷ quiet 2 1 ∷ heads (1 ∷ 1 ∷ 1 ∷ 1 ∷ 1 ∷ 0 ∷ 1 ∷ 0 ∷ 0 ∷ []) ∷ marks 1 (1 ∷ 3 ∷ 2 ∷ 1 ∷ 0 ∷ 0 ∷ 0 ∷ 0 ∷ 4 ∷ [])
-    ∷ job2 1 0 1 3 ∷ heads (1 ∷ 1 ∷ 1 ∷ 1 ∷ 1 ∷ 1 ∷ 1 ∷ 1 ∷ 1 ∷ []) ∷ marks 1 (1 ∷ 3 ∷ 2 ∷ 1 ∷ 0 ∷ []) ∷ reads 3 7 7 7 ∷ reads 4 8 8 8 ∷ reads 5 9 9 9 ∷ reads 6 10 10 10
+    ∷ yes (work 1 2 1 0 1) ∷ heads (1 ∷ 1 ∷ 1 ∷ 1 ∷ 1 ∷ 0 ∷ 1 ∷ 0 ∷ 0 ∷ []) ∷ marks 1 (1 ∷ 3 ∷ 2 ∷ 1 ∷ 0 ∷ []) ∷ reads 3 7 0 7 ∷ reads 4 8 0 8 ∷ reads 5 9 0 9 ∷ reads 6 10 0 10
+    ∷ job2 1 0 2 3 ∷ heads (1 ∷ 1 ∷ 1 ∷ 1 ∷ 1 ∷ 1 ∷ 1 ∷ 1 ∷ 1 ∷ []) ∷ marks 1 (1 ∷ 3 ∷ 2 ∷ 1 ∷ 0 ∷ []) ∷ reads 3 7 7 7 ∷ reads 4 8 8 8 ∷ reads 5 9 9 9 ∷ reads 6 10 10 10
     ∷ yes (work 1 2 1 1 1) ∷ heads (1 ∷ 1 ∷ 1 ∷ 1 ∷ 1 ∷ 1 ∷ 1 ∷ 1 ∷ 1 ∷ []) ∷ marks 1 (1 ∷ 3 ∷ 3 ∷ 1 ∷ 0 ∷ []) ∷ wait 2 1 ∷ wait 3 1 ∷ wait 4 1
     ∷ yes (rollback 1) ∷ marks 1 (2 ∷ 3 ∷ 3 ∷ 1 ∷ 1 ∷ 1 ∷ 0 ∷ 0 ∷ 4 ∷ 3 ∷ 4 ∷ 5 ∷ 6 ∷ 7 ∷ 8 ∷ 9 ∷ 10 ∷ 0 ∷ 0 ∷ 0 ∷ 0 ∷ []) ∷ wait 4 1
     ∷ job3 1 1 1 2 ∷ heads (1 ∷ 1 ∷ 0 ∷ 1 ∷ 1 ∷ 1 ∷ 1 ∷ 1 ∷ 1 ∷ []) ∷ marks 1 (2 ∷ 3 ∷ 3 ∷ 1 ∷ 1 ∷ 1 ∷ 0 ∷ [])
@@ -189,7 +190,8 @@ cut =
     ∷ quiet 3 1 ∷ heads (1 ∷ 1 ∷ 0 ∷ 0 ∷ 2 ∷ 1 ∷ []) ∷ marks 1 (2 ∷ 3 ∷ 3 ∷ 1 ∷ 3 ∷ 1 ∷ 2 ∷ 0 ∷ 4 ∷ []) ∷ wait 3 1
     ∷ job4 1 1 1 2 ∷ heads (1 ∷ 1 ∷ 0 ∷ 0 ∷ 2 ∷ 1 ∷ 0 ∷ 1 ∷ 1 ∷ []) ∷ marks 1 (2 ∷ 3 ∷ 3 ∷ 1 ∷ 3 ∷ 1 ∷ 2 ∷ []) ∷ reads 3 0 7 7
     ∷ quiet 4 1 ∷ heads (1 ∷ 1 ∷ 0 ∷ 0 ∷ 2 ∷ 1 ∷ 0 ∷ 1 ∷ 1 ∷ []) ∷ marks 1 (2 ∷ 3 ∷ 3 ∷ 1 ∷ 3 ∷ 2 ∷ 2 ∷ 0 ∷ 4 ∷ []) ∷ no 13 (work 1 4 1 1 0) ∷ no 13 (work 1 4 1 1 1)
-    ∷ job4 1 0 1 3 ∷ heads (1 ∷ 1 ∷ 0 ∷ 0 ∷ 2 ∷ 1 ∷ 0 ∷ 0 ∷ 2 ∷ []) ∷ marks 1 (2 ∷ 3 ∷ 3 ∷ 1 ∷ 3 ∷ 2 ∷ 2 ∷ []) ∷ reads 3 0 0 0 ∷ reads 4 0 0 0 ∷ reads 5 0 0 0 ∷ reads 6 0 0 0
+    ∷ yes (work 1 4 1 0 1) ∷ heads (1 ∷ 1 ∷ 0 ∷ 0 ∷ 2 ∷ 1 ∷ 0 ∷ 1 ∷ 1 ∷ []) ∷ marks 1 (2 ∷ 3 ∷ 3 ∷ 1 ∷ 3 ∷ 2 ∷ 2 ∷ []) ∷ reads 3 0 7 0 ∷ reads 4 0 8 0 ∷ reads 5 0 9 0 ∷ reads 6 0 10 0
+    ∷ job4 1 0 2 3 ∷ heads (1 ∷ 1 ∷ 0 ∷ 0 ∷ 2 ∷ 1 ∷ 0 ∷ 0 ∷ 2 ∷ []) ∷ marks 1 (2 ∷ 3 ∷ 3 ∷ 1 ∷ 3 ∷ 2 ∷ 2 ∷ []) ∷ reads 3 0 0 0 ∷ reads 4 0 0 0 ∷ reads 5 0 0 0 ∷ reads 6 0 0 0
     ∷ yes (work 1 4 1 1 1) ∷ heads (1 ∷ 1 ∷ 0 ∷ 0 ∷ 2 ∷ 1 ∷ 0 ∷ 0 ∷ 2 ∷ []) ∷ marks 1 (2 ∷ 3 ∷ 3 ∷ 1 ∷ 3 ∷ 3 ∷ 2 ∷ 0 ∷ 4 ∷ 3 ∷ 4 ∷ 5 ∷ 6 ∷ 7 ∷ 8 ∷ 9 ∷ 10 ∷ []) ∷ wait 4 1 ∷ []))
 
 -- the same whole, a change of two pairs on top of one of four: r.index and r.values are what stood there, and come back

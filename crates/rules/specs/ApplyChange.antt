@@ -17,7 +17,7 @@ use Rattle.rules.specs.declared.ApplyChangeTests.{ApplyChangeTests}
 use Rattle.rules.specs.declared.ApplyChangeRule.{ApplyChangeRule}
 use Rattle.rules.specs.declared.ApplyChangeRule.the-variants.{Begin, Aim, Abort, Close, Finish, Fail, Push, NoLine, Wait}
 use Rattle.rules.specs.declared.Lay.the-variants.{Nothing, Values}
-use Rattle.rules.specs.Plans.{refuse, entryOnly, headOnly, headThenEntry, entryThenHead}
+use Rattle.rules.specs.Plans.{refuse, entryOnly, headOnly, headThenEntry, entryThenHead, threeStores}
 use Rattle.rules.specs.Sides.{applyAt}
 use Rattle.rules.specs.Heads.{aimed, landed, closed}
 
@@ -70,7 +70,7 @@ plans Abort t h i = entryThenHead (event 1 2 i Aborted) (withChange t (applyAt (
 plans Close t h i = headOnly t (closed h i i (t .change .ordinal)) false
 plans Finish t h i = entryOnly (withChange t (applyAt (t .change) Complete)) h
 plans Fail t h i = entryThenHead (event 1 2 i Failed) (withChange t (applyAt (t .change) Failed)) (closed h i i (t .change .ordinal)) false
-plans Push t h i = headThenEntry (event 1 2 i Complete) (landed h i i (t .change .ordinal)) false Values (withChange t (applyAt (t .change) Complete))
+plans Push t h i = threeStores (event 1 2 i Complete) (landed h i i (t .change .ordinal)) Values (withChange t (applyAt (t .change) Complete))
 plans NoLine t h i = refuse 12 t h
 plans Wait t h i = refuse 11 t h
 

@@ -16,7 +16,7 @@ use Rattle.rules.specs.declared.ApplyRollbackTests.{ApplyRollbackTests}
 use Rattle.rules.specs.declared.ApplyRollbackRule.{ApplyRollbackRule}
 use Rattle.rules.specs.declared.ApplyRollbackRule.the-variants.{Begin, Aim, Cancel, Close, Finish, Push, NoLine, Rejected, Wait}
 use Rattle.rules.specs.declared.Lay.the-variants.{Nothing, Kept}
-use Rattle.rules.specs.Plans.{refuse, entryOnly, headOnly, headThenEntry, entryThenHead}
+use Rattle.rules.specs.Plans.{refuse, entryOnly, headOnly, headThenEntry, entryThenHead, threeStores}
 use Rattle.rules.specs.Sides.{applyAt}
 use Rattle.rules.specs.Heads.{aimed, landed, closed}
 use Rattle.rules.specs.ApplyChange.{reached}
@@ -83,7 +83,7 @@ plans Aim t h i = headThenEntry (event 2 2 i InProgress) (aimed h (t .index)) fa
 plans Cancel t h i = entryThenHead (event 2 2 i Canceled) (withRollback t (applyAt (t .rollback) Canceled)) (closed h i (t .index) (t .rollback .ordinal)) false
 plans Close t h i = headOnly t (closed h i (t .index) (t .rollback .ordinal)) false
 plans Finish t h i = entryOnly (withRollback t (applyAt (t .rollback) Complete)) h
-plans Push t h i = headThenEntry (event 2 2 i Complete) (landed h i (t .index) (t .rollback .ordinal)) false Kept (withRollback t (applyAt (t .rollback) Complete))
+plans Push t h i = threeStores (event 2 2 i Complete) (landed h i (t .index) (t .rollback .ordinal)) Kept (withRollback t (applyAt (t .rollback) Complete))
 plans NoLine t h i = refuse 12 t h
 plans Rejected t h i = refuse 13 t h
 plans Wait t h i = refuse 11 t h

@@ -1,8 +1,8 @@
--- A plan is what a rule of a job decides: the answer, the event, and which of its two stores come, in which order
+-- A plan is what a rule of a job decides: the answer, the event, and which of its stores come, in which order
 -- (paper: The four jobs). What a store lays over values is said here too; the cut is applied where a plan becomes rows
 -- of stores (crate machine, Rows). Assumes nothing.
 use Prim.Native.Nat.{ℕ}
-use mathlib.Core.Bool.{Bool, false}
+use mathlib.Core.Bool.{Bool, true, false}
 use Rattle.kinds.specs.declared.Transaction.{Transaction}
 use Rattle.kinds.specs.declared.Head.{Head}
 use Rattle.kinds.specs.declared.Event.{Event}
@@ -10,7 +10,8 @@ use Rattle.kinds.specs.Events.{noEvent}
 use Rattle.rules.specs.declared.Plan.{Plan}
 use Rattle.rules.specs.declared.Lay.{Lay}
 use Rattle.rules.specs.declared.Lay.the-variants.{Nothing}
-use Rattle.rules.specs.declared.Order.the-variants.{Neither, EntryOnly, HeadOnly, EntryThenHead, HeadThenEntry}
+use Rattle.rules.specs.declared.Order.{Order}
+use Rattle.rules.specs.declared.Order.the-variants.{Neither, EntryOnly, HeadOnly, EntryThenHead, HeadThenEntry, TargetThenHeadThenEntry}
 
 -- a refusal stores nothing
 abbrev pub refuse : ℕ → Transaction → Head → Plan
@@ -30,3 +31,15 @@ headThenEntry e h c v t = record { answer = 0; event = e; order = HeadThenEntry;
 
 abbrev pub entryThenHead : Event → Transaction → Head → Bool → Plan
 entryThenHead e t h c = record { answer = 0; event = e; order = EntryThenHead; entry = t; head = h; change = c; lay = Nothing }
+
+-- an accepted push: target, then applied with the event, then status (order 8)
+abbrev pub threeStores : Event → Head → Lay → Transaction → Plan
+threeStores e h v t = record { answer = 0; event = e; order = TargetThenHeadThenEntry; entry = t; head = h; change = false; lay = v }
+
+abbrev pub isPush : Order → Bool
+isPush Neither = false
+isPush EntryOnly = false
+isPush HeadOnly = false
+isPush EntryThenHead = false
+isPush HeadThenEntry = false
+isPush TargetThenHeadThenEntry = true

@@ -8,7 +8,7 @@ use kinds::Mastership;
 use kinds::Target;
 use kinds::Transaction;
 
-mod plans; // plans.rt: the five kinds of plan
+mod plans; // plans.rt: the six kinds of plan
 mod sides; // sides.rt: what a store writes into a side of an entry
 mod heads; // heads.rt: what a store writes into a head
 mod jobs; // jobs/: at rest, and the four jobs
@@ -31,13 +31,14 @@ pub use outside::start;
 pub use outside::stop;
 pub use outside::synchronise;
 
-// Which of a rule's two stores come, and in which order.
+// Which of a rule's stores come, and in which order; an accepted push stores the target's values first.
 pub enum Order {
     Neither,
     EntryOnly,
     HeadOnly,
     EntryThenHead,
     HeadThenEntry,
+    TargetThenHeadThenEntry,
 }
 
 // Which values the head's store lays over those at the entry's paths: none, the change's, or r.values.

@@ -1,4 +1,4 @@
-// A plan is what a rule of a job decides: its answer, its event, and which of its two stores come in which order.
+// A plan is what a rule of a job decides: its answer, its event, and which of its stores come in which order.
 use crate::Lay;
 use crate::Order;
 use crate::Plan;
@@ -6,7 +6,7 @@ use kinds::Event;
 use kinds::Head;
 use kinds::Transaction;
 ghost use mathlib.Core.Path.{_≡_};
-ghost use Rattle.rules.specs.Plans.{refuse, entryOnly, headOnly, headThenEntry, entryThenHead};
+ghost use Rattle.rules.specs.Plans.{refuse, entryOnly, headOnly, headThenEntry, entryThenHead, threeStores};
 
 // The plan that answers a refusal's number and stores nothing.
 pub fn refuse(answer: u8, t: Transaction, h: Head) -> Plan
@@ -80,5 +80,21 @@ pub fn entry_then_head(event: Event, t: Transaction, h: Head, change: bool) -> P
         head: h,
         change,
         lay: Lay::Nothing,
+    }
+}
+
+// The plan of an accepted push: the values it lays over the target's, then the head and the same values over Applied's, with
+// the event, then the entry.
+pub fn three_stores(event: Event, h: Head, lay: Lay, t: Transaction) -> Plan
+    ensures { λ r. ⌜ r ≡ threeStores event h lay t ⌝ }
+{
+    Plan {
+        answer: 0,
+        event,
+        order: Order::TargetThenHeadThenEntry,
+        entry: t,
+        head: h,
+        change: false,
+        lay,
     }
 }

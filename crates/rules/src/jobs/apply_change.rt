@@ -11,6 +11,7 @@ use crate::plans::entry_then_head;
 use crate::plans::head_only;
 use crate::plans::head_then_entry;
 use crate::plans::refuse;
+use crate::plans::three_stores;
 use crate::sides::apply_at;
 use kinds::Event;
 use kinds::Head;
@@ -196,10 +197,9 @@ pub fn plans(rule: Rule, t: Transaction, h: Head, i: Number) -> Plan
         Rule::Close => head_only(t, closed(h, i, i, o), false),
         Rule::Finish => entry_only(entry_at(t, Status::Complete), h),
         Rule::Fail => ended(t, h, i, Status::Failed),
-        Rule::Push => head_then_entry(
+        Rule::Push => three_stores(
             event(i, Status::Complete),
             landed(h, i, i, o),
-            false,
             Lay::Values,
             entry_at(t, Status::Complete),
         ),

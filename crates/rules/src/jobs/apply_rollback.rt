@@ -12,6 +12,7 @@ use crate::plans::entry_then_head;
 use crate::plans::head_only;
 use crate::plans::head_then_entry;
 use crate::plans::refuse;
+use crate::plans::three_stores;
 use crate::sides::apply_at;
 use kinds::Event;
 use kinds::Head;
@@ -199,10 +200,9 @@ pub fn plans(rule: Rule, t: Transaction, h: Head, i: Number) -> Plan
         ),
         Rule::Close => head_only(t, close, false),
         Rule::Finish => entry_only(entry_at(t, Status::Complete), h),
-        Rule::Push => head_then_entry(
+        Rule::Push => three_stores(
             event(i, Status::Complete),
             landed(h, i, index, o),
-            false,
             Lay::Kept,
             entry_at(t, Status::Complete),
         ),

@@ -69,8 +69,8 @@ landed-requires c κs = search needs
 entry-at-requires-4 : tie.Need-entry-at-requires-4
 entry-at-requires-4 c κs = search needs
 
-head-then-entry-requires-2 : tie.Need-head-then-entry-requires-2
-head-then-entry-requires-2 c κs = search needs
+three-stores-requires : tie.Need-three-stores-requires
+three-stores-requires c κs = search needs
 
 enum-told-8 : tie.Need-enum-told-8
 enum-told-8 c = search needs
@@ -103,7 +103,7 @@ returns-6 : tie.Need-returns-6
 returns-6 c = simp (c .ended2 .ensures, c .before .enum-told6 .given .1)
 
 returns-7 : tie.Need-returns-7
-returns-7 c = simp (c .head-then-entry2 .ensures, c .before .entry-at4 .ensures, c .before .before .landed .ensures, c .before .before .before .event2 .ensures, c .before .before .before .before .enum-told7 .given .1)
+returns-7 c = simp (c .three-stores .ensures, c .before .entry-at4 .ensures, c .before .before .landed .ensures, c .before .before .before .event2 .ensures, c .before .before .before .before .enum-told7 .given .1)
 
 returns-8 : tie.Need-returns-8
 returns-8 c = simp (c .refuse .ensures, c .before .enum-told8 .given .1)
@@ -137,7 +137,7 @@ plans-spec =
     event-requires-2
     landed-requires
     entry-at-requires-4
-    head-then-entry-requires-2
+    three-stores-requires
     enum-told-8
     refuse-requires
     enum-told-9

@@ -69,8 +69,8 @@ landed-requires c κs = search needs
 entry-at-requires-5 : tie.Need-entry-at-requires-5
 entry-at-requires-5 c κs = search needs
 
-head-then-entry-requires-2 : tie.Need-head-then-entry-requires-2
-head-then-entry-requires-2 c κs = search needs
+three-stores-requires : tie.Need-three-stores-requires
+three-stores-requires c κs = search needs
 
 enum-told-7 : tie.Need-enum-told-7
 enum-told-7 c = search needs
@@ -106,7 +106,7 @@ returns-5 : tie.Need-returns-5
 returns-5 c = simp (c .entry-only2 .ensures, c .before .entry-at4 .ensures, c .before .before .enum-told5 .given .1)
 
 returns-6 : tie.Need-returns-6
-returns-6 c = simp (c .head-then-entry2 .ensures, c .before .entry-at5 .ensures, c .before .before .landed .ensures, c .before .before .before .event3 .ensures, c .before .before .before .before .enum-told6 .given .1)
+returns-6 c = simp (c .three-stores .ensures, c .before .entry-at5 .ensures, c .before .before .landed .ensures, c .before .before .before .event3 .ensures, c .before .before .before .before .enum-told6 .given .1)
 
 returns-7 : tie.Need-returns-7
 returns-7 c = simp (c .refuse .ensures, c .before .enum-told7 .given .1)
@@ -143,7 +143,7 @@ plans-spec =
     event-requires-3
     landed-requires
     entry-at-requires-5
-    head-then-entry-requires-2
+    three-stores-requires
     enum-told-7
     refuse-requires
     enum-told-8
