@@ -19,10 +19,11 @@ use Rattle.rules.specs.Heads.{aimed, landed, closed}
 use Rattle.rules.specs.Sides.{applyAt}
 use Rattle.rules.specs.ApplyRollback.{wasTried, isAborted}
 use Rattle.machine.specs.State.{Part, Log, blank, entryOf, putEntry, grown, last}
-use Rattle.machine.proofs.Next.{over}
+use Rattle.machine.specs.Laid.{over}
 use Rattle.machine.proofs.Cases.{and-left}
 use Rattle.machine.proofs.Entries.{put-all, add-all, entry-past, length-over}
-use Rattle.history.specs.Values.{at-over, back-again}
+use Rattle.machine.proofs.Overlay.{at-over}
+use Rattle.history.specs.Values.{back-again}
 use Rattle.history.specs.Ops.{Op, push, pop, none, pushed, popped, top, tail, stack, newest, Rising, Falls, stack-low, stack-falls, mem, opAt, opAt-in, first, first-next, first-more, first-rises, first-low, Sub, keep, skip, without, without-none, held, holding, clash, crash, mem-first}
 use Rattle.history.specs.Invariant.{val, Link, Linked, says, returns, isGoing, complete, Numbered, isEnded, isStarted, changeTouched, rollbackTouched, applyView, ApplyEntry, Still, Quiet, Calm, Fell, led, Applied, wasPushed}
 use Rattle.history.specs.Frames.{Same, same, val-same, put-same, LinkedStack, stack-linked, not-going, complete-no, complete-same, by-eq}
@@ -88,7 +89,7 @@ touched Aborted e = refl
 touched Canceled e = e
 touched Failed e = refl
 
-failed-is : (c : Status) → wasTried c ≡ true → isEnded c ≡ true → c ≡ Failed
+pub failed-is : (c : Status) → wasTried c ≡ true → isEnded c ≡ true → c ≡ Failed
 failed-is None x y = clash (sym x)
 failed-is Pending x y = clash (sym x)
 failed-is InProgress x y = clash (sym x)

@@ -13,7 +13,7 @@ use Rattle.kinds.specs.declared.Reply.{Reply}
 use Rattle.kinds.specs.Events.{numbered, refusal}
 use Rattle.rules.specs.declared.Plan.{Plan}
 use Rattle.rules.specs.declared.Order.{Order}
-use Rattle.rules.specs.declared.Order.the-variants.{Neither, EntryOnly, HeadOnly, EntryThenHead, HeadThenEntry}
+use Rattle.rules.specs.declared.Order.the-variants.{Neither, EntryOnly, HeadOnly, EntryThenHead, HeadThenEntry, TargetThenHeadThenEntry}
 use Rattle.kinds.specs.declared.Head.{Head}
 use Rattle.kinds.specs.declared.Number.{Number}
 use Rattle.kinds.specs.declared.Ordinal.{Ordinal}
@@ -35,6 +35,7 @@ use Rattle.machine.specs.Stores.{grow, withLog, after, afters}
 use Rattle.machine.specs.WellFormed.{wellFormed}
 use Rattle.machine.specs.Calls.{Pair, Call, Outcome, append, rollback, start, stop, connect, disconnect, master, sync, work, foldTo, refused, unless, validChange, appended, present, decide}
 use Rattle.machine.specs.Step.{outcome, step, run}
+use Rattle.machine.specs.Notes.{Note}
 use Rattle.machine.proofs.Next.{performedBy, performed}
 use Rattle.machine.proofs.Entries.{put-all, add-all, last-put, last-add, entry-add}
 use Rattle.machine.proofs.ByCall.{Does, Calls}
@@ -44,7 +45,8 @@ use Rattle.history.specs.Frames.{by-eq}
 use Rattle.history.proofs.ByNumber.{highest-same}
 use Rattle.history.specs.Whole.{unlessFold, whole}
 use Rattle.history.specs.Given.{givenBy, given, ByGiven}
-use Rattle.history.proofs.Reached.{folded, by-history, demand-3-whole}
+use Rattle.history.proofs.Reached.{folded, by-history}
+use Rattle.history.proofs.Switched.{demand-3-whole}
 
 abbrev isAppend : Call → Bool
 isAppend (append ps) = true
@@ -147,40 +149,45 @@ pairs4 return.Rejected t h i = record { count = refl; paths = refl; values = ref
 pairs4 return.Wait t h i = record { count = refl; paths = refl; values = refl }
 
 module _ (w : State) (i : ℕ) where
-  performed-alike : (o : Order) (c : Bool) (p : Plan) (cut : Bool) → SamePairs (entryOf (w .log) i) (p .entry) → Alike (w .log) (performedBy o c w p i cut .log)
-  performed-alike Neither c p cut s = alike (w .log)
-  performed-alike EntryOnly c p cut s = put-alike (w .log) i (p .entry) s
-  performed-alike HeadOnly true p cut s = alike (w .log)
-  performed-alike HeadOnly false p cut s = alike (w .log)
-  performed-alike EntryThenHead c p true s = put-alike (w .log) i (p .entry) s
-  performed-alike EntryThenHead true p false s = put-alike (w .log) i (p .entry) s
-  performed-alike EntryThenHead false p false s = put-alike (w .log) i (p .entry) s
-  performed-alike HeadThenEntry true p true s = alike (w .log)
-  performed-alike HeadThenEntry false p true s = alike (w .log)
-  performed-alike HeadThenEntry true p false s = put-alike (w .log) i (p .entry) s
-  performed-alike HeadThenEntry false p false s = put-alike (w .log) i (p .entry) s
+  performed-alike : (o : Order) (c : Bool) (p : Plan) (first second : Bool) → SamePairs (entryOf (w .log) i) (p .entry) → Alike (w .log) (performedBy o c w p i first second .log)
+  performed-alike Neither c p first second s = alike (w .log)
+  performed-alike EntryOnly c p first second s = put-alike (w .log) i (p .entry) s
+  performed-alike HeadOnly true p first second s = alike (w .log)
+  performed-alike HeadOnly false p first second s = alike (w .log)
+  performed-alike EntryThenHead c p true second s = put-alike (w .log) i (p .entry) s
+  performed-alike EntryThenHead true p false second s = put-alike (w .log) i (p .entry) s
+  performed-alike EntryThenHead false p false second s = put-alike (w .log) i (p .entry) s
+  performed-alike HeadThenEntry true p true second s = alike (w .log)
+  performed-alike HeadThenEntry false p true second s = alike (w .log)
+  performed-alike HeadThenEntry true p false second s = put-alike (w .log) i (p .entry) s
+  performed-alike HeadThenEntry false p false second s = put-alike (w .log) i (p .entry) s
+  performed-alike TargetThenHeadThenEntry c p true second s = alike (w .log)
+  performed-alike TargetThenHeadThenEntry true p false true s = alike (w .log)
+  performed-alike TargetThenHeadThenEntry false p false true s = alike (w .log)
+  performed-alike TargetThenHeadThenEntry true p false false s = put-alike (w .log) i (p .entry) s
+  performed-alike TargetThenHeadThenEntry false p false false s = put-alike (w .log) i (p .entry) s
 
 module _ (w : State) (c : Call) (n : (ps : List Pair) → c ≡ append ps → ⊥) where
-  abbrev Pairs : Reply → State → Type 0
-  Pairs r next = Alike (w .log) (next .log)
+  abbrev Pairs : Note → Reply → State → Type 0
+  Pairs x r next = Alike (w .log) (next .log)
 
-  plan : (i : ℕ) (b cut : Bool) (p : Plan) → SamePairs (entryOf (w .log) i) (p .entry) → Does w Pairs b i cut p
-  plan i b cut p s = performed-alike w i (p .order) b p cut s
+  plan : (i : ℕ) (b cut second : Bool) (p : Plan) → SamePairs (entryOf (w .log) i) (p .entry) → Does w Pairs b i cut second p
+  plan i b cut second p s = performed-alike w i (p .order) b p cut second s
 
   abbrev en : ℕ → Transaction
   en i = entryOf (w .log) i
 
-  by1 : (i : ℕ) (cut : Bool) (r : CommitChangeRule) (o : Ordinal) → Does w Pairs true i cut (job1.plans r (en i) (w .committed .head) (num i) o (present (w .committed .values) (en i)))
-  by1 i cut r o = plan i true cut (job1.plans r (en i) (w .committed .head) (num i) o (present (w .committed .values) (en i))) (pairs1 r (en i) (w .committed .head) (num i) o (present (w .committed .values) (en i)))
+  by1 : (i : ℕ) (cut second : Bool) (r : CommitChangeRule) (o : Ordinal) → Does w Pairs true i cut second (job1.plans r (en i) (w .committed .head) (num i) o (present (w .committed .values) (en i)))
+  by1 i cut second r o = plan i true cut second (job1.plans r (en i) (w .committed .head) (num i) o (present (w .committed .values) (en i))) (pairs1 r (en i) (w .committed .head) (num i) o (present (w .committed .values) (en i)))
 
-  by2 : (i : ℕ) (cut : Bool) (r : ApplyChangeRule) → Does w Pairs false i cut (job2.plans r (en i) (w .applied .head) (num i))
-  by2 i cut r = plan i false cut (job2.plans r (en i) (w .applied .head) (num i)) (pairs2 r (en i) (w .applied .head) (num i))
+  by2 : (i : ℕ) (cut second : Bool) (r : ApplyChangeRule) → Does w Pairs false i cut second (job2.plans r (en i) (w .applied .head) (num i))
+  by2 i cut second r = plan i false cut second (job2.plans r (en i) (w .applied .head) (num i)) (pairs2 r (en i) (w .applied .head) (num i))
 
-  by3 : (i : ℕ) (cut : Bool) (r : CommitRollbackRule) (o : Ordinal) → Does w Pairs true i cut (job3.plans r (en i) (w .committed .head) (num i) o)
-  by3 i cut r o = plan i true cut (job3.plans r (en i) (w .committed .head) (num i) o) (pairs3 r (en i) (w .committed .head) (num i) o)
+  by3 : (i : ℕ) (cut second : Bool) (r : CommitRollbackRule) (o : Ordinal) → Does w Pairs true i cut second (job3.plans r (en i) (w .committed .head) (num i) o)
+  by3 i cut second r o = plan i true cut second (job3.plans r (en i) (w .committed .head) (num i) o) (pairs3 r (en i) (w .committed .head) (num i) o)
 
-  by4 : (i : ℕ) (cut : Bool) (r : ApplyRollbackRule) → Does w Pairs false i cut (job4.plans r (en i) (w .applied .head) (num i))
-  by4 i cut r = plan i false cut (job4.plans r (en i) (w .applied .head) (num i)) (pairs4 r (en i) (w .applied .head) (num i))
+  by4 : (i : ℕ) (cut second : Bool) (r : ApplyRollbackRule) → Does w Pairs false i cut second (job4.plans r (en i) (w .applied .head) (num i))
+  by4 i cut second r = plan i false cut second (job4.plans r (en i) (w .applied .head) (num i)) (pairs4 r (en i) (w .applied .head) (num i))
 
   calls : Calls w Pairs (λ ps. c ≡ append ps)
   calls =
@@ -196,46 +203,46 @@ module _ (w : State) (c : Call) (n : (ps : List Pair) → c ≡ append ps → �
         resign = alike (w .log);
         syncing = alike (w .log);
         synced = alike (w .log);
-        job1 = λ i p q cut. record {
+        job1 = λ i p q cut second. record {
           wait = alike (w .log);
           full = λ a b d. alike (w .log);
-          begin = λ a b d. by1 i cut change.Begin (ord 0);
-          aim = λ a b d. by1 i cut change.Aim (ord 0);
-          land = λ a b d o e. by1 i cut change.Land o;
-          reject = λ a b. by1 i cut change.Reject (ord 0);
-          finish = λ a b. by1 i cut change.Finish (ord 0);
+          begin = λ a b d. by1 i cut second change.Begin (ord 0);
+          aim = λ a b d. by1 i cut second change.Aim (ord 0);
+          land = λ a b d o e. by1 i cut second change.Land o;
+          reject = λ a b. by1 i cut second change.Reject (ord 0);
+          finish = λ a b. by1 i cut second change.Finish (ord 0);
           close = λ a b. alike (w .log);
         };
-        job2 = λ n i p q cut. record {
+        job2 = λ n i p q cut second. record {
           wait = alike (w .log);
           noLine = alike (w .log);
-          begin = λ a b d. by2 i cut apply.Begin;
-          aim = λ a b d e. by2 i cut apply.Aim;
-          abort = λ a b d e. by2 i cut apply.Abort;
+          begin = λ a b d. by2 i cut second apply.Begin;
+          aim = λ a b d e. by2 i cut second apply.Aim;
+          abort = λ a b d e. by2 i cut second apply.Abort;
           closeAborted = λ a b. alike (w .log);
           closeFailed = λ a b. alike (w .log);
-          finish = λ a b d. by2 i cut apply.Finish;
-          fail = λ a b. by2 i cut apply.Fail;
-          push = λ a b d. by2 i cut apply.Push;
+          finish = λ a b d. by2 i cut second apply.Finish;
+          fail = λ a b. by2 i cut second apply.Fail;
+          push = λ a b d. by2 i cut second apply.Push;
         };
-        job3 = λ i p q cut. record {
+        job3 = λ i p q cut second. record {
           wait = alike (w .log);
           full = λ a b d. alike (w .log);
-          begin = λ a b d. by3 i cut back.Begin (ord 0);
-          aim = λ a b d. by3 i cut back.Aim (ord 0);
-          land = λ a b d o e. by3 i cut back.Land o;
-          finish = λ a b d. by3 i cut back.Finish (ord 0);
+          begin = λ a b d. by3 i cut second back.Begin (ord 0);
+          aim = λ a b d. by3 i cut second back.Aim (ord 0);
+          land = λ a b d o e. by3 i cut second back.Land o;
+          finish = λ a b d. by3 i cut second back.Finish (ord 0);
         };
-        job4 = λ n i p q cut. record {
+        job4 = λ n i p q cut second. record {
           wait = alike (w .log);
           noLine = alike (w .log);
           rejected = alike (w .log);
-          begin = λ a b d e. by4 i cut return.Begin;
-          aim = λ a b d e. by4 i cut return.Aim;
-          cancel = λ a b d e. by4 i cut return.Cancel;
+          begin = λ a b d e. by4 i cut second return.Begin;
+          aim = λ a b d e. by4 i cut second return.Aim;
+          cancel = λ a b d e. by4 i cut second return.Cancel;
           close = λ a b. alike (w .log);
-          finish = λ a b d. by4 i cut return.Finish;
-          push = λ a b d. by4 i cut return.Push;
+          finish = λ a b d. by4 i cut second return.Finish;
+          push = λ a b d. by4 i cut second return.Push;
         };
       }
 

@@ -15,7 +15,8 @@ use Rattle.machine.specs.Folding.{stays}
 use Rattle.machine.proofs.Next.{layingIf, baseOver}
 use Rattle.machine.proofs.Entries.{length-base}
 use Rattle.history.specs.Demand3.{sets, valueAt, highest, listIf, newestFirst, hopped}
-use Rattle.history.specs.Values.{at-over, look-sets}
+use Rattle.machine.proofs.Overlay.{at-over}
+use Rattle.history.specs.Values.{look-sets}
 use Rattle.history.specs.Ops.{top, Falls, mem, mem-above, mem-first}
 use Rattle.history.specs.Invariant.{val, says}
 use Rattle.history.specs.Frames.{LinkedStack, by-eq}

@@ -22,11 +22,11 @@ use Rattle.rules.specs.Sides.{begun, committed, invalid}
 use Rattle.rules.specs.Outside.{rolledBack}
 use Rattle.rules.specs.AtRest.{atRest}
 use Rattle.machine.specs.State.{Part, Log, entryOf, putEntry, grown, last}
-use Rattle.machine.proofs.Next.{over}
+use Rattle.machine.specs.Laid.{over}
 use Rattle.machine.proofs.Cases.{and-left, and-right, or-cases}
 use Rattle.machine.proofs.Entries.{put-all, add-all, entry-cases, last-put, last-add, length-over}
 use Rattle.machine.specs.Rest.{markOf}
-use Rattle.history.specs.Values.{at-over}
+use Rattle.machine.proofs.Overlay.{at-over}
 use Rattle.history.specs.Ops.{Op, push, pop, pushed, popped, top, tail, stack, newest, Rising, Falls, stack-low, stack-falls, pushed-above, popped-above, on-top, opAt-last, clash}
 use Rattle.history.specs.Invariant.{val, Linked, says, returns, isGoing, complete, commitView, CommitEntry, Committed, isEnded}
 use Rattle.history.specs.Frames.{Same, same, val-same, linked-same, put-same, LinkedStack, stack-linked, not-going, complete-same, by-eq}

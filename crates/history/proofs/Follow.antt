@@ -8,14 +8,14 @@ use mathlib.Core.Path.{_≡_, refl, sym, ap, _∙_, subst}
 use lib.Dec.{eqb, ltb, leb}
 use lib.ListN.{length, getD, set, drop}
 use lib.Seq.{drop-set-add, drop-append-le, drop-drop}
-use borrow.Author.Tests.{leb-true, ltb-true}
+use borrow.Author.Tests.{ne-eqb, leb-true, ltb-true}
 use Rattle.kinds.specs.declared.Transaction.{Transaction}
 use Rattle.kinds.specs.declared.Reply.{Reply}
 use Rattle.kinds.specs.Numbers.{num}
 use Rattle.kinds.specs.Events.{numbered, refusal}
 use Rattle.rules.specs.declared.Plan.{Plan}
 use Rattle.rules.specs.declared.Order.{Order}
-use Rattle.rules.specs.declared.Order.the-variants.{Neither, EntryOnly, HeadOnly, EntryThenHead, HeadThenEntry}
+use Rattle.rules.specs.declared.Order.the-variants.{Neither, EntryOnly, HeadOnly, EntryThenHead, HeadThenEntry, TargetThenHeadThenEntry}
 use Rattle.rules.specs.CommitChange.{commitChange}
 use Rattle.rules.specs.CommitRollback.{commitRollback}
 use Rattle.rules.specs.ApplyChange.{applyChange}
@@ -30,11 +30,12 @@ use Rattle.machine.specs.LiveList.{live}
 use Rattle.machine.specs.Folding.{stays, finished, mayFold}
 use Rattle.machine.specs.Calls.{Pair, Call, Outcome, append, rollback, start, stop, connect, disconnect, master, sync, work, foldTo, refused, accepted, unless, answers, validChange, appended, present, planOf, commits, planned, workOk, copyRow, decide}
 use Rattle.machine.specs.Step.{outcome, step}
-use Rattle.machine.proofs.Next.{putting, heading, performedBy, performed, rows-performed, baseOver, folding, row-folding}
+use Rattle.machine.specs.Notes.{Note, nothing, pushNote, syncNote, noteOf, note}
+use Rattle.machine.proofs.Next.{putting, heading, targeting, performedBy, performed, rows-performed, baseOver, folding, row-folding}
 use Rattle.machine.proofs.Cases.{and-left, and-right}
 use Rattle.machine.proofs.Onward.{Onward, onward}
 use Rattle.machine.proofs.Entries.{put-all, add-all, entry-fold, last-fold, last-put, last-add}
-use Rattle.machine.proofs.ByCall.{Calls, Of, start-of, stop-of, connect-of, disconnect-of, master-of, sync-of, job-of}
+use Rattle.machine.proofs.ByCall.{noteAt, Calls, Of, start-of, stop-of, connect-of, disconnect-of, master-of, sync-of, job-of}
 use Rattle.history.specs.Demand3.{highest}
 use Rattle.history.proofs.ByNumber.{highest-entries}
 use Rattle.history.specs.Whole.{unlessFold, shownLog, shown, Front, EntryPassed, Passed}
@@ -122,33 +123,43 @@ module _ (w : State) (b : ℕ) (vs : List ℕ) (f : Front (w .log) b vs) where
   putting-seen i t p = ap (withLog w) (put-shown (w .log) b vs i t low p)
 
 module _ (w : State) (b : ℕ) (vs : List ℕ) (f : Front (w .log) b vs) (i : ℕ) (q : b < i) where
-  performed-seen : (o : Order) (c : Bool) (p : Plan) (cut : Bool) → performedBy o c (shown w b vs) p i cut ≡ shown (performedBy o c w p i cut) b vs
-  performed-seen Neither c p cut = refl
-  performed-seen EntryOnly c p cut = putting-seen w b vs f i (p .entry) q
-  performed-seen HeadOnly c p cut = heading-seen w b vs f c p i
-  performed-seen EntryThenHead c p true = putting-seen w b vs f i (p .entry) q
-  performed-seen EntryThenHead c p false =
-      ap (λ x. heading c x p i) (putting-seen w b vs f i (p .entry) q) ∙ heading-seen (putting w i (p .entry)) b vs (put-front f i (p .entry) q) c p i
-  performed-seen HeadThenEntry c p true = heading-seen w b vs f c p i
-  performed-seen HeadThenEntry c p false =
-      ap (λ x. putting x i (p .entry)) (heading-seen w b vs f c p i) ∙ putting-seen (heading c w p i) b vs (headed c p) i (p .entry) q
+  head-entry : (u : State) → Front (u .log) b vs → (c : Bool) (p : Plan) → putting (heading c (shown u b vs) p i) i (p .entry) ≡ shown (putting (heading c u p i) i (p .entry)) b vs
+  head-entry u g c p = ap (λ x. putting x i (p .entry)) (heading-seen u b vs g c p i) ∙ putting-seen (heading c u p i) b vs (headed c) i (p .entry) q
     where
-      headed : (c : Bool) (p : Plan) → Front (heading c w p i .log) b vs
-      headed true p = f
-      headed false p = f
+      headed : (c : Bool) → Front (heading c u p i .log) b vs
+      headed true = g
+      headed false = g
 
-  performed-front : (o : Order) (c : Bool) (p : Plan) (cut : Bool) → Front (performedBy o c w p i cut .log) b vs
-  performed-front Neither c p cut = f
-  performed-front EntryOnly c p cut = put-front f i (p .entry) q
-  performed-front HeadOnly true p cut = f
-  performed-front HeadOnly false p cut = f
-  performed-front EntryThenHead c p true = put-front f i (p .entry) q
-  performed-front EntryThenHead true p false = put-front f i (p .entry) q
-  performed-front EntryThenHead false p false = put-front f i (p .entry) q
-  performed-front HeadThenEntry true p true = f
-  performed-front HeadThenEntry false p true = f
-  performed-front HeadThenEntry true p false = put-front f i (p .entry) q
-  performed-front HeadThenEntry false p false = put-front f i (p .entry) q
+  performed-seen : (o : Order) (c : Bool) (p : Plan) (first second : Bool) → performedBy o c (shown w b vs) p i first second ≡ shown (performedBy o c w p i first second) b vs
+  performed-seen Neither c p first second = refl
+  performed-seen EntryOnly c p first second = putting-seen w b vs f i (p .entry) q
+  performed-seen HeadOnly c p first second = heading-seen w b vs f c p i
+  performed-seen EntryThenHead c p true second = putting-seen w b vs f i (p .entry) q
+  performed-seen EntryThenHead c p false second =
+      ap (λ x. heading c x p i) (putting-seen w b vs f i (p .entry) q) ∙ heading-seen (putting w i (p .entry)) b vs (put-front f i (p .entry) q) c p i
+  performed-seen HeadThenEntry c p true second = heading-seen w b vs f c p i
+  performed-seen HeadThenEntry c p false second = head-entry w f c p
+  performed-seen TargetThenHeadThenEntry c p true second = refl
+  performed-seen TargetThenHeadThenEntry c p false true = heading-seen (targeting w p) b vs f c p i
+  performed-seen TargetThenHeadThenEntry c p false false = head-entry (targeting w p) f c p
+
+  performed-front : (o : Order) (c : Bool) (p : Plan) (first second : Bool) → Front (performedBy o c w p i first second .log) b vs
+  performed-front Neither c p first second = f
+  performed-front EntryOnly c p first second = put-front f i (p .entry) q
+  performed-front HeadOnly true p first second = f
+  performed-front HeadOnly false p first second = f
+  performed-front EntryThenHead c p true second = put-front f i (p .entry) q
+  performed-front EntryThenHead true p false second = put-front f i (p .entry) q
+  performed-front EntryThenHead false p false second = put-front f i (p .entry) q
+  performed-front HeadThenEntry true p true second = f
+  performed-front HeadThenEntry false p true second = f
+  performed-front HeadThenEntry true p false second = put-front f i (p .entry) q
+  performed-front HeadThenEntry false p false second = put-front f i (p .entry) q
+  performed-front TargetThenHeadThenEntry c p true second = f
+  performed-front TargetThenHeadThenEntry true p false true = f
+  performed-front TargetThenHeadThenEntry false p false true = f
+  performed-front TargetThenHeadThenEntry true p false false = put-front f i (p .entry) q
+  performed-front TargetThenHeadThenEntry false p false false = put-front f i (p .entry) q
 
 -- ---- what is passed stays so, where the entries up to b do and no head goes back
 on-passed : (w x : State) (b : ℕ) → Passed w b → ((k : ℕ) → k ≤ b → entryOf (x .log) k ≡ entryOf (w .log) k) → Onward w x → Passed x b
@@ -165,41 +176,50 @@ entries-put l b i t q = put-all (λ k u. k ≤ b → u ≡ entryOf l k) l i t (�
 entries-grown : (l : Log) (b : ℕ) (t : Transaction) → b ≤ last l → (k : ℕ) → k ≤ b → entryOf (grown l t) k ≡ entryOf l k
 entries-grown l b t q = add-all (λ k u. k ≤ b → u ≡ entryOf l k) l t (λ k r. refl) (λ r. absurd (omega arith))
 
-entries-performed : (w : State) (b i : ℕ) → b < i → (o : Order) (c : Bool) (p : Plan) (cut : Bool) (k : ℕ) → k ≤ b → entryOf (performedBy o c w p i cut .log) k ≡ entryOf (w .log) k
-entries-performed w b i q Neither c p cut k r = refl
-entries-performed w b i q EntryOnly c p cut k r = entries-put (w .log) b i (p .entry) q k r
-entries-performed w b i q HeadOnly true p cut k r = refl
-entries-performed w b i q HeadOnly false p cut k r = refl
-entries-performed w b i q EntryThenHead c p true k r = entries-put (w .log) b i (p .entry) q k r
-entries-performed w b i q EntryThenHead true p false k r = entries-put (w .log) b i (p .entry) q k r
-entries-performed w b i q EntryThenHead false p false k r = entries-put (w .log) b i (p .entry) q k r
-entries-performed w b i q HeadThenEntry true p true k r = refl
-entries-performed w b i q HeadThenEntry false p true k r = refl
-entries-performed w b i q HeadThenEntry true p false k r = entries-put (w .log) b i (p .entry) q k r
-entries-performed w b i q HeadThenEntry false p false k r = entries-put (w .log) b i (p .entry) q k r
+entries-performed : (w : State) (b i : ℕ) → b < i → (o : Order) (c : Bool) (p : Plan) (first second : Bool) (k : ℕ) → k ≤ b
+    → entryOf (performedBy o c w p i first second .log) k ≡ entryOf (w .log) k
+entries-performed w b i q Neither c p first second k r = refl
+entries-performed w b i q EntryOnly c p first second k r = entries-put (w .log) b i (p .entry) q k r
+entries-performed w b i q HeadOnly true p first second k r = refl
+entries-performed w b i q HeadOnly false p first second k r = refl
+entries-performed w b i q EntryThenHead c p true second k r = entries-put (w .log) b i (p .entry) q k r
+entries-performed w b i q EntryThenHead true p false second k r = entries-put (w .log) b i (p .entry) q k r
+entries-performed w b i q EntryThenHead false p false second k r = entries-put (w .log) b i (p .entry) q k r
+entries-performed w b i q HeadThenEntry true p true second k r = refl
+entries-performed w b i q HeadThenEntry false p true second k r = refl
+entries-performed w b i q HeadThenEntry true p false second k r = entries-put (w .log) b i (p .entry) q k r
+entries-performed w b i q HeadThenEntry false p false second k r = entries-put (w .log) b i (p .entry) q k r
+entries-performed w b i q TargetThenHeadThenEntry c p true second k r = refl
+entries-performed w b i q TargetThenHeadThenEntry true p false true k r = refl
+entries-performed w b i q TargetThenHeadThenEntry false p false true k r = refl
+entries-performed w b i q TargetThenHeadThenEntry true p false false k r = entries-put (w .log) b i (p .entry) q k r
+entries-performed w b i q TargetThenHeadThenEntry false p false false k r = entries-put (w .log) b i (p .entry) q k r
 
--- the state next shows the whole w, of which P holds with the reply
-pub record Followed (P : Reply → State → Type 0) (r : Reply) (next w : State) : Type 0 where
+-- the state next shows the whole w, of which P holds with what was done to the switch and the reply
+pub record Followed (P : Note → Reply → State → Type 0) (x : Note) (r : Reply) (next w : State) : Type 0 where
   pub fold : ℕ
   pub base : List ℕ
   pub shows : next ≡ shown w fold base
   pub front : Front (w .log) fold base
   pub passed : Passed w fold
-  pub holds : P r w
+  pub holds : P x r w
 
 module _ (w : State) (b : ℕ) (vs : List ℕ) (f : Front (w .log) b vs) (done : Passed w b) (rest : restOf (shown w b vs) ≡ restOf w) (still : settled (shown w b vs) ≡ settled w)
-    (P : Reply → State → Type 0) (same : (a : ℕ) → P (refusal a) w) (call : Call) (k : Calls w P (λ ps. call ≡ append ps)) where
+    (P : Note → Reply → State → Type 0) (same : (a : ℕ) → P nothing (refusal a) w) (call : Call) (k : Calls w P (λ ps. call ≡ append ps)) where
   -- the same stores, of both
-  abbrev Both : Outcome → Type 0
-  Both o = Followed P (o .reply) (afters (shown w b vs) (o .stores)) (afters w (o .stores))
+  abbrev Both : Note → Outcome → Type 0
+  Both x o = Followed P (cond (eqb (o .reply .answer) 0) x nothing) (o .reply) (afters (shown w b vs) (o .stores)) (afters w (o .stores))
 
-  refuses : (a : ℕ) → Both (refused a)
+  none-done : (a : ℕ) → 1 ≤ a → (x : Note) → cond (eqb a 0) x nothing ≡ nothing
+  none-done a n x = ap (λ z. cond z x nothing) (ne-eqb a 0 (λ z. omega arith))
+
+  refuses : (x : Note) (a : ℕ) → 1 ≤ a → Both x (refused a)
   unfolding afters
-  refuses a = record { fold = b; base = vs; shows = refl; front = f; passed = done; holds = same a }
+  refuses x a n = record { fold = b; base = vs; shows = refl; front = f; passed = done; holds = subst (λ z. P z (refusal a) w) (sym (none-done a n x)) (same a) }
 
-  unless-both : (a : ℕ) (t : Bool) (o : Outcome) → (t ≡ true → Both o) → Both (unless a t o)
-  unless-both a true o g = g refl
-  unless-both a false o g = refuses a
+  unless-both : (x : Note) (a : ℕ) → 1 ≤ a → (t : Bool) (o : Outcome) → (t ≡ true → Both x o) → Both x (unless a t o)
+  unless-both x a n true o g = g refl
+  unless-both x a n false o g = refuses x a n
 
   -- ---- the nodes' side
   record Apart (es : List Store) : Type 0 where
@@ -215,8 +235,8 @@ module _ (w : State) (b : ℕ) (vs : List ℕ) (f : Front (w .log) b vs) (done :
   apart-unless a true o g = g
   apart-unless a false o g = apart-none
 
-  apart-both : (o : Outcome) → Apart (o .stores) → Of w P o → Both o
-  apart-both o g h = record { fold = b; base = vs; shows = g .shows; front = subst (λ l. Front l b vs) (sym (g .log)) f; passed = g .stays done; holds = h }
+  apart-both : (x : Note) (o : Outcome) → Apart (o .stores) → Of w P x o → Both x o
+  apart-both x o g h = record { fold = b; base = vs; shows = g .shows; front = subst (λ l. Front l b vs) (sym (g .log)) f; passed = g .stays done; holds = h }
 
   answers-apart : (a : ℕ) (es : List Store) → Apart es → Apart (answers a es .stores)
   answers-apart a es g = apart-unless a (eqb a 0) (accepted es) g
@@ -226,72 +246,72 @@ module _ (w : State) (b : ℕ) (vs : List ℕ) (f : Front (w .log) b vs) (done :
   copy-apart g true us = record { shows = refl; log = refl; stays = λ x. record { change = x .change; entries = x .entries } }
   copy-apart g false us = record { shows = refl; log = refl; stays = λ x. record { change = x .change; entries = x .entries } }
 
-  start-both : Both (decide (shown w b vs) start)
+  start-both : Both nothing (decide (shown w b vs) start)
   unfolding decide afters after
   start-both =
       let x = outside.start (w .net .target) in
-      apart-both (decide w start) (answers-apart (x .answer) (target (x .target) ∷ []) (record { shows = refl; log = refl; stays = λ x. record { change = x .change; entries = x .entries } })) (start-of w P k)
+      apart-both nothing (decide w start) (answers-apart (x .answer) (target (x .target) ∷ []) (record { shows = refl; log = refl; stays = λ x. record { change = x .change; entries = x .entries } })) (start-of w P k)
 
-  stop-both : Both (decide (shown w b vs) stop)
+  stop-both : Both nothing (decide (shown w b vs) stop)
   unfolding decide afters after
   stop-both =
       let x = outside.stop (w .net .target) in
-      apart-both (decide w stop)
+      apart-both nothing (decide w stop)
       (answers-apart (x .answer) (target (x .target) ∷ targetValues absent ∷ connections (map outside.off (w .net .connections)) ∷ []) (record { shows = refl; log = refl; stays = λ x. record { change = x .change; entries = x .entries } }))
       (stop-of w P k)
 
   -- where the node is in range
-  node-both : (n a : ℕ) (es : List Store) → Apart es → Of w P (unless 2 (isNode n) (answers a es)) → Both (unless 2 (isNode n) (answers a es))
-  node-both n a es g = apart-both (unless 2 (isNode n) (answers a es)) (apart-unless 2 (isNode n) (answers a es) (answers-apart a es g))
+  node-both : (x : Note) (n a : ℕ) (es : List Store) → Apart es → Of w P x (unless 2 (isNode n) (answers a es)) → Both x (unless 2 (isNode n) (answers a es))
+  node-both x n a es g = apart-both x (unless 2 (isNode n) (answers a es)) (apart-unless 2 (isNode n) (answers a es) (answers-apart a es g))
 
-  connect-both : (n : ℕ) → Both (decide (shown w b vs) (connect n))
+  connect-both : (n : ℕ) → Both nothing (decide (shown w b vs) (connect n))
   unfolding decide afters after
   connect-both n =
       let x = outside.connect (nodeOf (w .net .connections) n) (w .net .target .running) in
-      node-both n (x .answer) (connections (putNode (w .net .connections) n (x .connection)) ∷ []) (record { shows = refl; log = refl; stays = λ x. record { change = x .change; entries = x .entries } }) (connect-of w P k n)
+      node-both nothing n (x .answer) (connections (putNode (w .net .connections) n (x .connection)) ∷ []) (record { shows = refl; log = refl; stays = λ x. record { change = x .change; entries = x .entries } }) (connect-of w P k n)
 
-  disconnect-both : (n : ℕ) → Both (decide (shown w b vs) (disconnect n))
+  disconnect-both : (n : ℕ) → Both nothing (decide (shown w b vs) (disconnect n))
   unfolding decide afters after
   disconnect-both n =
       let x = outside.disconnect (nodeOf (w .net .connections) n) in
-      node-both n (x .answer) (connections (putNode (w .net .connections) n (x .connection)) ∷ []) (record { shows = refl; log = refl; stays = λ x. record { change = x .change; entries = x .entries } }) (disconnect-of w P k n)
+      node-both nothing n (x .answer) (connections (putNode (w .net .connections) n (x .connection)) ∷ []) (record { shows = refl; log = refl; stays = λ x. record { change = x .change; entries = x .entries } }) (disconnect-of w P k n)
 
-  master-both : (n : ℕ) → Both (decide (shown w b vs) (master n))
+  master-both : (n : ℕ) → Both nothing (decide (shown w b vs) (master n))
   unfolding decide afters after
   master-both n =
       let x = outside.master (w .net .mastership) n (nodeOf (w .net .connections) n) in
-      node-both n (x .answer) (mastership (x .mastership) ∷ []) (record { shows = refl; log = refl; stays = λ x. record { change = x .change; entries = x .entries } }) (master-of w P k n)
+      node-both nothing n (x .answer) (mastership (x .mastership) ∷ []) (record { shows = refl; log = refl; stays = λ x. record { change = x .change; entries = x .entries } }) (master-of w P k n)
 
-  sync-both : (n : ℕ) → Both (decide (shown w b vs) (sync n))
+  sync-both : (n : ℕ) → Both (syncNote (w .net .configuration .state)) (decide (shown w b vs) (sync n))
   unfolding decide
   sync-both n =
       let x = outside.synchronise (w .net .configuration) (w .net .mastership .term) (isMaster (w .net) n) (reachesTarget (w .net) n) in
-      node-both n (x .answer) (configuration (x .configuration) ∷ copyRow (x .copies) (w .applied .values)) (copy-apart (x .configuration) (x .copies) (w .applied .values)) (sync-of w P k n)
+      node-both (syncNote (w .net .configuration .state)) n (x .answer) (configuration (x .configuration) ∷ copyRow (x .copies) (w .applied .values)) (copy-apart (x .configuration) (x .copies) (w .applied .values)) (sync-of w P k n)
 
   -- ---- the log
-  append-both : (ps : List Pair) → call ≡ append ps → Both (decide (shown w b vs) (append ps))
+  append-both : (ps : List Pair) → call ≡ append ps → Both nothing (decide (shown w b vs) (append ps))
   unfolding decide afters after
   append-both ps z =
-      unless-both 3 (validChange ps) _
-      (λ e. unless-both 4 (ltb (length (shown w b vs .log .entries)) 128) _
-      (λ g. unless-both 9 (ltb (last (shown w b vs .log)) 65535) _
+      unless-both nothing 3 (omega arith) (validChange ps) _
+      (λ e. unless-both nothing 4 (omega arith) (ltb (length (shown w b vs .log .entries)) 128) _
+      (λ g. unless-both nothing 9 (omega arith) (ltb (last (shown w b vs .log)) 65535) _
       (λ h. record {
         fold = b;
         base = vs;
         shows = ap (withLog w) (grow-shown (w .log) b vs (appended ps) (f .within));
         front = grow-front f (appended ps);
         passed = on-passed w _ b done (entries-grown (w .log) b (appended ps) (f .within)) (record { change = omega arith; ordinal = omega arith });
-        holds = subst (λ n. P (record { answer = 0; event = numbered (n + 1) }) (withLog w (grown (w .log) (appended ps)))) (sym (last-seen w b vs f)) (k .append ps e z);
+        holds = subst (λ n. P nothing (record { answer = 0; event = numbered (n + 1) }) (withLog w (grown (w .log) (appended ps)))) (sym (last-seen w b vs f)) (k .append ps e z);
       })))
 
-  rollback-both : (i : ℕ) → Both (decide (shown w b vs) (rollback i))
+  rollback-both : (i : ℕ) → Both nothing (decide (shown w b vs) (rollback i))
   unfolding decide afters after
   rollback-both i =
-      unless-both 5 (inLog (shown w b vs) i) _
-      (λ e. unless-both 18 (isKept (shown w b vs) i) _
+      unless-both nothing 5 (omega arith) (inLog (shown w b vs) i) _
+      (λ e. unless-both nothing 18 (omega arith) (isKept (shown w b vs) i) _
       (λ g. let q : b < i = ltb-true b i g in
-      subst (λ t. Both (unless 6 (outside.mayRollBack t) (accepted (entry i (outside.rolledBack t) ∷ [])))) (sym (entry-seen w b vs f i q))
-      (unless-both 6 (outside.mayRollBack (entryOf (w .log) i)) _
+      subst (λ t. Both nothing (unless 6 (outside.mayRollBack t) (accepted (entry i (outside.rolledBack t) ∷ [])))) (sym (entry-seen w b vs f i q))
+      (unless-both nothing 6 (omega arith) (outside.mayRollBack (entryOf (w .log) i)) _
       (λ h. record {
         fold = b;
         base = vs;
@@ -301,46 +321,49 @@ module _ (w : State) (b : ℕ) (vs : List ℕ) (f : Front (w .log) b vs) (done :
         holds = k .rollback i (omega (arith, f .whole)) (omega (arith, leb-true i _ (and-right (leb 1 i) _ e), last-seen w b vs f)) h;
       }))))
 
-  planned-both : (j : ℕ) (p : Plan) (i c : ℕ) → b < i → Onward w (performed (commits j) w p i (eqb c 1)) → Of w P (planned j p i c) → Both (planned j p i c)
+  planned-both : (j : ℕ) (p : Plan) (i c : ℕ) → b < i → Onward w (performed (commits j) w p i (eqb c 1) (eqb c 2)) → Of w P (noteAt p i c) (planned j p i c)
+      → Both (noteAt p i c) (planned j p i c)
   planned-both j p i c q o h =
       record {
         fold = b;
         base = vs;
-        shows = rows-performed (commits j) (shown w b vs) p i (eqb c 1) ∙ performed-seen w b vs f i q (p .order) (commits j) p (eqb c 1)
-            ∙ ap (λ x. shown x b vs) (sym (rows-performed (commits j) w p i (eqb c 1)));
-        front = subst (λ x. Front (x .log) b vs) (sym (rows-performed (commits j) w p i (eqb c 1))) (performed-front w b vs f i q (p .order) (commits j) p (eqb c 1));
-        passed = subst (λ x. Passed x b) (sym (rows-performed (commits j) w p i (eqb c 1)))
-            (on-passed w (performed (commits j) w p i (eqb c 1)) b done (entries-performed w b i q (p .order) (commits j) p (eqb c 1)) o);
+        shows = rows-performed (commits j) (shown w b vs) p i (eqb c 1) (eqb c 2) ∙ performed-seen w b vs f i q (p .order) (commits j) p (eqb c 1) (eqb c 2)
+            ∙ ap (λ x. shown x b vs) (sym (rows-performed (commits j) w p i (eqb c 1) (eqb c 2)));
+        front = subst (λ x. Front (x .log) b vs) (sym (rows-performed (commits j) w p i (eqb c 1) (eqb c 2))) (performed-front w b vs f i q (p .order) (commits j) p (eqb c 1) (eqb c 2));
+        passed = subst (λ x. Passed x b) (sym (rows-performed (commits j) w p i (eqb c 1) (eqb c 2)))
+            (on-passed w (performed (commits j) w p i (eqb c 1) (eqb c 2)) b done (entries-performed w b i q (p .order) (commits j) p (eqb c 1) (eqb c 2)) o);
         holds = h;
       }
 
-  work-both : (n j i r c : ℕ) → Both (decide (shown w b vs) (work n j i r c))
+  work-both : (n j i r c : ℕ) → Both (noteOf (shown w b vs) (work n j i r c)) (decide (shown w b vs) (work n j i r c))
   unfolding decide
   work-both n j i r c =
-      unless-both 2 (workOk n j r c) _
-      (λ e. unless-both 5 (inLog (shown w b vs) i) _
-      (λ g. unless-both 18 (isKept (shown w b vs) i) _
-      (λ u. unless-both 10 (isMaster (w .net) n) _
+      let x = noteOf (shown w b vs) (work n j i r c) in
+      unless-both x 2 (omega arith) (workOk n j r c) _
+      (λ e. unless-both x 5 (omega arith) (inLog (shown w b vs) i) _
+      (λ g. unless-both x 18 (omega arith) (isKept (shown w b vs) i) _
+      (λ u. unless-both x 10 (omega arith) (isMaster (w .net) n) _
       (λ m. let q : b < i = ltb-true b i u in
-      subst (λ p. Both (planned j p i c)) (sym (plan-seen w b vs f rest still n j i (eqb r 0) q))
-      (planned-both j _ i c q (onward w i n j (eqb r 0) (eqb c 1)) (job-of w P k n j i r c (omega (arith, f .whole)) (omega (arith, leb-true i _ (and-right (leb 1 i) _ g), last-seen w b vs f))))))))
+      subst (λ p. Both (noteAt p i c) (planned j p i c)) (sym (plan-seen w b vs f rest still n j i (eqb r 0) q))
+      (planned-both j _ i c q (onward w i n j (eqb r 0) (eqb c 1) (eqb c 2))
+      (job-of w P k n j i r c (omega (arith, f .whole)) (omega (arith, leb-true i _ (and-right (leb 1 i) _ g), last-seen w b vs f))))))))
 
   -- ---- a fold leaves the whole as it is
   abbrev Still : Outcome → Type 0
-  Still o = Followed P (o .reply) (afters (shown w b vs) (o .stores)) w
+  Still o = Followed P (cond (eqb (o .reply .answer) 0) nothing nothing) (o .reply) (afters (shown w b vs) (o .stores)) w
 
-  unless-still : (a : ℕ) (t : Bool) (o : Outcome) → (t ≡ true → Still o) → Still (unless a t o)
+  unless-still : (a : ℕ) → 1 ≤ a → (t : Bool) (o : Outcome) → (t ≡ true → Still o) → Still (unless a t o)
   unfolding afters
-  unless-still a true o g = g refl
-  unless-still a false o g = record { fold = b; base = vs; shows = refl; front = f; passed = done; holds = same a }
+  unless-still a n true o g = g refl
+  unless-still a n false o g = record { fold = b; base = vs; shows = refl; front = f; passed = done; holds = subst (λ z. P z (refusal a) w) (sym (none-done a n nothing)) (same a) }
 
   module _ (folds : (c : ℕ) → b < c → c ≤ last (w .log) → mayFold (shown w b vs) c ≡ true → Front (w .log) c (baseOver (shown w b vs .log) c (live (shown w b vs)) vs))
       (ends : (c : ℕ) → b < c → c ≤ last (w .log) → mayFold (shown w b vs) c ≡ true → Passed w c) where
     fold-still : (c : ℕ) → Still (decide (shown w b vs) (foldTo c))
     unfolding decide
     fold-still c =
-        unless-still 5 (isKept (shown w b vs) c && leb c (last (shown w b vs .log))) _
-        (λ e. unless-still 17 (mayFold (shown w b vs) c) _
+        unless-still 5 (omega arith) (isKept (shown w b vs) c && leb c (last (shown w b vs .log))) _
+        (λ e. unless-still 17 (omega arith) (mayFold (shown w b vs) c) _
         (λ g.
         let q : b < c = ltb-true b c (and-left (isKept (shown w b vs) c) _ e) in
         let r : c ≤ last (shown w b vs .log) = leb-true c _ (and-right (isKept (shown w b vs) c) _ e) in
@@ -354,7 +377,7 @@ module _ (w : State) (b : ℕ) (vs : List ℕ) (f : Front (w .log) b vs) (done :
           holds = same 0;
         }))
 
-    decided : (c : Call) → call ≡ c → Followed P (decide (shown w b vs) c .reply) (afters (shown w b vs) (decide (shown w b vs) c .stores)) (afters w (unlessFold c (decide (shown w b vs) c .stores)))
+    decided : (c : Call) → call ≡ c → Followed P (cond (eqb (decide (shown w b vs) c .reply .answer) 0) (noteOf (shown w b vs) c) nothing) (decide (shown w b vs) c .reply) (afters (shown w b vs) (decide (shown w b vs) c .stores)) (afters w (unlessFold c (decide (shown w b vs) c .stores)))
     unfolding afters
     decided (append ps) z = append-both ps z
     decided (rollback i) z = rollback-both i
@@ -379,10 +402,10 @@ module _ (w : State) (b : ℕ) (vs : List ℕ) (f : Front (w .log) b vs) (done :
     none-made (work n j i r c) = refl
     none-made (foldTo c) = refl
 
-    pub follow : Followed P (step (shown w b vs) call .reply) (step (shown w b vs) call .next) (afters w (unlessFold call (outcome (shown w b vs) call .stores)))
+    pub follow : Followed P (note (shown w b vs) call) (step (shown w b vs) call .reply) (step (shown w b vs) call .next) (afters w (unlessFold call (outcome (shown w b vs) call .stores)))
     unfolding step outcome afters
     follow = go (wellFormed (shown w b vs))
       where
-        go : (t : Bool) → (let o = unless 1 t (decide (shown w b vs) call) in Followed P (o .reply) (afters (shown w b vs) (o .stores)) (afters w (unlessFold call (o .stores))))
+        go : (t : Bool) → (let o = unless 1 t (decide (shown w b vs) call) in Followed P (cond (eqb (o .reply .answer) 0) (noteOf (shown w b vs) call) nothing) (o .reply) (afters (shown w b vs) (o .stores)) (afters w (unlessFold call (o .stores))))
         go true = decided call refl
-        go false = subst (λ es. Followed P (refusal 1) (shown w b vs) (afters w es)) (sym (none-made call)) (record { fold = b; base = vs; shows = refl; front = f; passed = done; holds = same 1 })
+        go false = subst (λ es. Followed P nothing (refusal 1) (shown w b vs) (afters w es)) (sym (none-made call)) (record { fold = b; base = vs; shows = refl; front = f; passed = done; holds = same 1 })

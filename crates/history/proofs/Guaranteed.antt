@@ -11,6 +11,8 @@ use Rattle.kinds.specs.declared.Transaction.{Transaction}
 use Rattle.kinds.specs.declared.Event.{Event}
 use Rattle.kinds.specs.declared.Status.{Status}
 use Rattle.kinds.specs.declared.Status.the-variants.{None, Pending, InProgress, Complete, Aborted, Canceled, Failed}
+use Rattle.kinds.specs.Numbers.{num}
+use Rattle.kinds.specs.Events.{noEvent, event}
 use Rattle.kinds.specs.Statuses.{codeOf, isFailed}
 use Rattle.machine.specs.State.{State, entryOf}
 use Rattle.machine.specs.Calls.{Pair, Call}
@@ -74,7 +76,12 @@ record Tells (s : State) (e : Event) : Type 0 where
 quiet : (s : State) (e : Event) → ((k : ℕ) → tells Complete e 1 2 k ≡ false) → ((k : ℕ) → tells Complete e 2 2 k ≡ false) → Tells s e
 quiet s e f g = record { change = λ k x. clash (sym x ∙ f k); rollback = λ k x. clash (sym x ∙ g k) }
 
-each-tells : (s : State) {R : List Pair → Type 0} → Calls s (λ r next. Tells s (r .event)) R
+-- a push cut at its first store gives no event
+unless-cut : (s : State) (first : Bool) (e : Event) → Tells s e → Tells s (cond first noEvent e)
+unless-cut s true e t = quiet s _ (λ k. refl) (λ k. refl)
+unless-cut s false e t = t
+
+each-tells : (s : State) {R : List Pair → Type 0} → Calls s (λ x r next. Tells s (r .event)) R
 each-tells s =
     record {
       refused = λ a n. quiet s _ (λ k. refl) (λ k. refl);
@@ -88,7 +95,7 @@ each-tells s =
       resign = quiet s _ (λ k. refl) (λ k. refl);
       syncing = quiet s _ (λ k. refl) (λ k. refl);
       synced = quiet s _ (λ k. refl) (λ k. refl);
-      job1 = λ i p q cut. record {
+      job1 = λ i p q cut second. record {
         wait = quiet s _ (λ k. refl) (λ k. refl);
         full = λ a b d. quiet s _ (λ k. refl) (λ k. refl);
         begin = λ a b d. quiet s _ (λ k. refl) (λ k. refl);
@@ -98,7 +105,7 @@ each-tells s =
         finish = λ a b. quiet s _ (λ k. refl) (λ k. refl);
         close = λ a b. quiet s _ (λ k. refl) (λ k. refl);
       };
-      job2 = λ n i p q cut. record {
+      job2 = λ n i p q cut second. record {
         wait = quiet s _ (λ k. refl) (λ k. refl);
         noLine = quiet s _ (λ k. refl) (λ k. refl);
         begin = λ a b d. quiet s _ (λ k. refl) (λ k. refl);
@@ -108,12 +115,12 @@ each-tells s =
         closeFailed = λ a b. quiet s _ (λ k. refl) (λ k. refl);
         finish = λ a b d. quiet s _ (λ k. refl) (λ k. refl);
         fail = λ a b. quiet s _ (λ k. refl) (λ k. refl);
-        push = λ m e l. record {
+        push = λ m e l. unless-cut s cut (event 1 2 (num i) Complete) (record {
           change = λ k x. let z : i ≡ k = eqb-true i k x in (rw (← z) e, rw (← z) (m .1));
           rollback = λ k x. crash x;
-        };
+        });
       };
-      job3 = λ i p q cut. record {
+      job3 = λ i p q cut second. record {
         wait = quiet s _ (λ k. refl) (λ k. refl);
         full = λ a b d. quiet s _ (λ k. refl) (λ k. refl);
         begin = λ a b d. quiet s _ (λ k. refl) (λ k. refl);
@@ -121,7 +128,7 @@ each-tells s =
         land = λ a b d o e. quiet s _ (λ k. refl) (λ k. refl);
         finish = λ a b d. quiet s _ (λ k. refl) (λ k. refl);
       };
-      job4 = λ n i p q cut. record {
+      job4 = λ n i p q cut second. record {
         wait = quiet s _ (λ k. refl) (λ k. refl);
         noLine = quiet s _ (λ k. refl) (λ k. refl);
         rejected = quiet s _ (λ k. refl) (λ k. refl);
@@ -130,15 +137,15 @@ each-tells s =
         cancel = λ a b d e. quiet s _ (λ k. refl) (λ k. refl);
         close = λ a b. quiet s _ (λ k. refl) (λ k. refl);
         finish = λ a b d. quiet s _ (λ k. refl) (λ k. refl);
-        push = λ m e l. record {
+        push = λ m e l. unless-cut s cut (event 2 2 (num i) Complete) (record {
           change = λ k x. crash x;
           rollback = λ k x. let z : i ≡ k = eqb-true i k x in (rw (← z) e, rw (← z) (m .1));
-        };
+        });
       };
     }
 
 step-tells : (cs : List Call) (c : Call) → Tells (whole cs) (step (run cs .state) c .reply .event)
-step-tells cs c = by-history cs (λ r next. Tells (whole cs) (r .event)) (λ a. quiet (whole cs) _ (λ k. refl) (λ k. refl)) c (each-tells (whole cs))
+step-tells cs c = by-history cs (λ x r next. Tells (whole cs) (r .event)) (λ a. quiet (whole cs) _ (λ k. refl) (λ k. refl)) c (each-tells (whole cs))
 
 -- ---- lists
 push-pushed : (x : Op) (xs : List Op) (k : ℕ) → x ≡ push k → pushed k (x ∷ xs) ≡ true
@@ -146,7 +153,7 @@ unfolding pushed
 push-pushed x xs k e = rw e (ap (λ b. b || pushed k xs) (eq-eqb k k refl))
 
 -- an op with an ordinal passed is among those passed
-pushed-first : (xs : List Op) (a o k : ℕ) → opAt xs o ≡ push k → o ≤ a → pushed k (first xs a) ≡ true
+pub pushed-first : (xs : List Op) (a o k : ℕ) → opAt xs o ≡ push k → o ≤ a → pushed k (first xs a) ≡ true
 unfolding opAt first
 pushed-first [] a o k e b = let z : _≡_ {A = ℕ} 0 1 = cc in absurd (omega arith)
 pushed-first (x ∷ xs) a o k e b = go (leb (suc (length xs)) a) refl (eqb o (suc (length xs))) refl e (λ f. pushed-first xs a o k f b)
@@ -246,7 +253,7 @@ passed-behind (x ∷ xs) a h i j e f = go (leb (suc (length xs)) a) e (passed-be
     go false e r w = r e (w e)
 
 -- ---- when an event is given
-failed-is : (c : Status) → isFailed c ≡ true → c ≡ Failed
+pub failed-is : (c : Status) → isFailed c ≡ true → c ≡ Failed
 failed-is None e = crash e
 failed-is Pending e = crash e
 failed-is InProgress e = crash e
@@ -255,7 +262,7 @@ failed-is Aborted e = crash e
 failed-is Canceled e = crash e
 failed-is Failed e = refl
 
-canceled-is : (c : Status) → isCanceled c ≡ true → c ≡ Canceled
+pub canceled-is : (c : Status) → isCanceled c ≡ true → c ≡ Canceled
 canceled-is None e = crash e
 canceled-is Pending e = crash e
 canceled-is InProgress e = crash e
@@ -265,7 +272,7 @@ canceled-is Canceled e = refl
 canceled-is Failed e = crash e
 
 -- a change tried and not taken has an ordinal
-failed-some : (c : Status) (o : ℕ) → Paired c Failed o → 1 ≤ o
+pub failed-some : (c : Status) (o : ℕ) → Paired c Failed o → 1 ≤ o
 failed-some None o p = clash (ap isFailed (p .0))
 failed-some Pending o p = clash (ap isFailed (p .0))
 failed-some InProgress o p = clash (ap isFailed (p .0))
@@ -332,7 +339,7 @@ module _ (s : State) (es : List Event) (r : Reached s es) (marks : Marked (s .lo
         off true x y = refl
         off false x y = clash (sym (ap (λ b. b && true) was) ∙ sym y ∙ untaken)
 
-    rejected : (i : ℕ) → told Failed es 1 2 i ≡ true → completed es 2 2 i ≡ true
+    pub rejected : (i : ℕ) → told Failed es 1 2 i ≡ true → completed es 2 2 i ≡ true
     rejected i x =
         let f : en i .change .apply ≡ Failed = failed-is (en i .change .apply) (sym (marks i .failed) ∙ x) in
         or-cases (told Complete es 2 2 i) (isCanceled (en i .rollback .apply)) (marks i .gone (passed i f)) (λ y. y)

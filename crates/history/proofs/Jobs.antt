@@ -22,22 +22,22 @@ use Rattle.rules.specs.Sides.{begun, committed, invalid, applyAt}
 use Rattle.rules.specs.CommitChange.{beginning}
 use Rattle.rules.specs.ApplyRollback.{wasTried, isAborted}
 use Rattle.rules.specs.Outside.{mayRollBack, rolledBack}
-use Rattle.machine.specs.State.{State, Part, Net, Log, blank, entryOf, putEntry, grown, last, lineOpenFor}
-use Rattle.machine.specs.Stores.{withLog, withNet, withTargetValues}
+use Rattle.machine.specs.State.{State, Part, Net, Log, blank, entryOf, putEntry, grown, last}
+use Rattle.machine.specs.Stores.{withLog, withNet}
 use Rattle.machine.specs.WellFormed.{allEntries}
 use Rattle.machine.specs.Settled.{sideSettled, entrySettled, settled}
 use Rattle.machine.specs.Calls.{Pair, appended, present}
 use Rattle.machine.specs.Rest.{restOf}
-use Rattle.machine.proofs.Next.{over, putting}
+use Rattle.machine.specs.Laid.{over}
+use Rattle.machine.proofs.Next.{putting}
 use Rattle.machine.proofs.Cases.{and-left, and-right, or-cases}
 use Rattle.machine.proofs.Entries.{put-all, add-all, entry-cases, entries-true, and-both}
 use Rattle.history.specs.Values.{present-restores}
 use Rattle.history.specs.Ops.{Op, push, pop, popped-low, tail, newest, opAt-some, opAt-more, clash, crash}
-use Rattle.history.specs.Invariant.{isGoing, complete, Sides, Numbered, commitView, Committed, isEnded, isStarted, changeTouched, rollbackTouched, applyView, ChangeEntry, RollbackEntry, ApplyEntry, Still, Quiet, Applied, Wired, Invariant, isNone, orderly}
+use Rattle.history.specs.Invariant.{isGoing, complete, Sides, Numbered, commitView, Committed, isEnded, isStarted, changeTouched, rollbackTouched, applyView, ChangeEntry, RollbackEntry, ApplyEntry, Still, Quiet, Applied, Invariant, isNone, orderly}
 use Rattle.history.specs.Frames.{Same, not-going, complete-no, paired, going-complete}
 use Rattle.history.proofs.Commits as commits
 use Rattle.history.proofs.Applies as applies
-use Rattle.history.proofs.Line.{push-wired}
 
 -- ---- settled
 side-still : (a : ℕ) (x : Side) → sideSettled a x ≡ true → x .apply ≡ InProgress → x .ordinal .0 ≡ a → ⊥
@@ -103,7 +103,6 @@ module _ {s : State} {ops acts : List Op} {bad : List ℕ} (inv : Invariant s op
         numbered = put-all (λ k u. Numbered ops k (u .change .ordinal .0) (u .rollback .ordinal .0)) lg i t (inv .numbered) b;
         committed = c;
         applied = d;
-        line = inv .line;
       }
 
   -- the apply side of an entry that jobs 1 and 3 and the calls from outside store: t's change and rollback, and what was
@@ -216,7 +215,7 @@ module _ {s : State} {ops acts : List Op} {bad : List ℕ} (inv : Invariant s op
 
   -- the head of Committed moves, no commit completes
   heads : (c : ℕ) (part : Part) → Committed lg c part ops → (n : Number) → n .0 ≡ c → Invariant (record { log = lg; change = n; committed = part; applied = s .applied; net = s .net }) ops acts bad
-  heads c part k n e = record { sides = inv .sides; numbered = inv .numbered; committed = rw e k; applied = inv .applied; line = inv .line }
+  heads c part k n e = record { sides = inv .sides; numbered = inv .numbered; committed = rw e k; applied = inv .applied }
 
   pub aim-change : (i : ℕ) → i ≡ suc (s .change .0) → restOf s ≡ true
       → Invariant (record { log = lg; change = s .change; committed = record { head = aimed (s .committed .head) (num i); values = s .committed .values }; applied = s .applied; net = s .net }) ops acts bad
@@ -238,7 +237,6 @@ module _ {s : State} {ops acts : List Op} {bad : List ℕ} (inv : Invariant s op
         };
         committed = k;
         applied = applies.extend side x b;
-        line = inv .line;
       }
 
   pub land-change : (i : ℕ) (o : Ordinal) → en i .change .commit ≡ InProgress → i ≡ suc (s .change .0) → i ≤ last lg → o .0 ≡ suc (s .committed .head .ordinal .0)
@@ -337,7 +335,6 @@ module _ {s : State} {ops acts : List Op} {bad : List ℕ} (inv : Invariant s op
             (record { change = λ o x. absurd (omega arith); rollback = λ o x. absurd (omega arith) });
         committed = commits.append-committed (inv .committed) (appended ps) refl refl;
         applied = applies.append-applied side (appended ps) b refl refl;
-        line = inv .line;
       }
 
   -- ---- jobs 2 and 4: the commit side does not see what they store
@@ -376,36 +373,24 @@ module _ {s : State} {ops acts : List Op} {bad : List ℕ} (inv : Invariant s op
       (inv .numbered i)
       (unseen i _ refl (record { count = refl; paths = refl; values = refl; kept = refl; index = refl })) k
 
-  -- the head of Applied moves
-  lands : (part : Part) (w : Net) (does : List Op) (ills : List ℕ) → Applied lg part ops does ills → Wired w (part .values)
+  -- the head of Applied moves, whatever is on the nodes' side
+  lands : (part : Part) (w : Net) (does : List Op) (ills : List ℕ) → Applied lg part ops does ills
       → Invariant (record { log = lg; change = s .change; committed = s .committed; applied = part; net = w }) ops does ills
-  lands part w does ills k u = record { sides = inv .sides; numbered = inv .numbered; committed = inv .committed; applied = k; line = u }
+  lands part w does ills k = record { sides = inv .sides; numbered = inv .numbered; committed = inv .committed; applied = k }
 
-  abbrev Headed : Head → List Op → List ℕ → Type 0
-  Headed h does ills =
-      Invariant (record { log = lg; change = s .change; committed = s .committed; applied = record { head = h; values = s .applied .values }; net = s .net }) ops does ills
-
-  abbrev Pushed : Head → (List ℕ → List ℕ) → List Op → List ℕ → Type 0
-  Pushed h f does ills =
-      Invariant
-      (record {
-        log = lg;
-        change = s .change;
-        committed = s .committed;
-        applied = record { head = h; values = f (s .applied .values) };
-        net = withTargetValues (s .net) (f (s .net .values));
-      })
-      ops does ills
+  abbrev Headed : Head → (List ℕ → List ℕ) → Net → List Op → List ℕ → Type 0
+  Headed h f w does ills =
+      Invariant (record { log = lg; change = s .change; committed = s .committed; applied = record { head = h; values = f (s .applied .values) }; net = w }) ops does ills
 
   -- ---- job 2: i is committed, and its ordinal the next
   module _ (i : ℕ) (m : (en i .change .commit ≡ Complete) × (en i .change .ordinal .0 ≡ suc at)) where
     pub begin-apply : en i .change .apply ≡ Pending → s .applied .head .target .0 ≡ i → Invariant (putting s i (withChange (en i) (applyAt (en i .change) InProgress))) ops acts bad
     begin-apply e g = set-change i InProgress (m .0) (applies.begin-change side i e (m .1) g)
 
-    pub aim-apply : settled s ≡ true → s .applied .head .revision .0 ≡ en i .index .0 → Headed (aimed (s .applied .head) (num i)) acts bad
+    pub aim-apply : settled s ≡ true → s .applied .head .revision .0 ≡ en i .index .0 → Headed (aimed (s .applied .head) (num i)) (λ vs. vs) (s .net) acts bad
     aim-apply q v =
         lands _ (s .net) acts bad
-        (applies.aim-change side i (m .1) v (settled-quiet q)) (inv .line)
+        (applies.aim-change side i (m .1) v (settled-quiet q))
 
     pub abort-apply : en i .change .apply ≡ Pending → settled s ≡ true → Invariant (putting s i (withChange (en i) (applyAt (en i .change) Aborted))) ops acts bad
     abort-apply e q = set-change i Aborted (m .0) (applies.abort-change side i e (m .1) (settled-quiet q))
@@ -413,25 +398,20 @@ module _ {s : State} {ops acts : List Op} {bad : List ℕ} (inv : Invariant s op
     pub fail-apply : en i .change .apply ≡ InProgress → Invariant (putting s i (withChange (en i) (applyAt (en i .change) Failed))) ops acts bad
     fail-apply e = set-change i Failed (m .0) (applies.fail-change side i e (m .1))
 
-    pub close-aborted : en i .change .apply ≡ Aborted → Headed (closed (s .applied .head) (num i) (num i) (en i .change .ordinal)) acts (i ∷ bad)
+    pub close-aborted : en i .change .apply ≡ Aborted → Headed (closed (s .applied .head) (num i) (num i) (en i .change .ordinal)) (λ vs. vs) (s .net) acts (i ∷ bad)
     close-aborted e =
         lands _ (s .net) acts (i ∷ bad)
         (applies.close-change side i (ap isEnded e) (λ x. clash (ap wasTried (sym x ∙ e))) (m .1))
-        (inv .line)
 
-    pub close-failed : en i .change .apply ≡ Failed → Headed (closed (s .applied .head) (num i) (num i) (en i .change .ordinal)) acts (i ∷ bad)
+    pub close-failed : en i .change .apply ≡ Failed → Headed (closed (s .applied .head) (num i) (num i) (en i .change .ordinal)) (λ vs. vs) (s .net) acts (i ∷ bad)
     close-failed e =
         lands _ (s .net) acts (i ∷ bad)
         (applies.close-change side i (ap isEnded e)
         (λ x. applies.started-clear side i (ap isStarted e) (m .1)) (m .1))
-        (inv .line)
 
-    pub push-apply : (n : ℕ) → en i .change .apply ≡ InProgress → lineOpenFor (s .net) n ≡ true
-        → Pushed (landed (s .applied .head) (num i) (num i) (en i .change .ordinal)) (over (en i .paths) (en i .values) (en i .count)) (push i ∷ acts) bad
-    push-apply n e l =
-        lands _ _ (push i ∷ acts) bad
-        (applies.push-change side i e (m .1))
-        (push-wired (s .net) (s .applied .values) (inv .line) n l (over (en i .paths) (en i .values) (en i .count)))
+    pub push-apply : (w : Net) → en i .change .apply ≡ InProgress
+        → Headed (landed (s .applied .head) (num i) (num i) (en i .change .ordinal)) (over (en i .paths) (en i .values) (en i .count)) w (push i ∷ acts) bad
+    push-apply w e = lands _ w (push i ∷ acts) bad (applies.push-change side i e (m .1))
 
   pub finish-apply : (i : ℕ) → en i .change .commit ≡ Complete → en i .change .apply ≡ InProgress → at ≡ en i .change .ordinal .0
       → Invariant (putting s i (withChange (en i) (applyAt (en i .change) Complete))) ops acts bad
@@ -443,31 +423,28 @@ module _ {s : State} {ops acts : List Op} {bad : List ℕ} (inv : Invariant s op
         → Invariant (putting s i (withRollback (en i) (applyAt (en i .rollback) InProgress))) ops acts bad
     begin-return e t g = set-rollback i InProgress refl (m .0) (applies.begin-rollback side i e (m .1) t g)
 
-    pub aim-return : settled s ≡ true → Headed (aimed (s .applied .head) (en i .index)) acts bad
+    pub aim-return : settled s ≡ true → Headed (aimed (s .applied .head) (en i .index)) (λ vs. vs) (s .net) acts bad
     aim-return q =
         lands _ (s .net) acts bad
-        (applies.aim-rollback side i (m .1) (settled-quiet q)) (inv .line)
+        (applies.aim-rollback side i (m .1) (settled-quiet q))
 
     pub cancel-return : en i .rollback .apply ≡ Pending → en i .change .apply ≡ Aborted → settled s ≡ true
         → Invariant (putting s i (withRollback (en i) (applyAt (en i .rollback) Canceled))) ops acts bad
     cancel-return e t q = set-rollback i Canceled refl (m .0) (applies.cancel-rollback side i e (m .1) t (settled-quiet q))
 
-    pub close-return : en i .rollback .apply ≡ Canceled → Headed (closed (s .applied .head) (num i) (en i .index) (en i .rollback .ordinal)) acts (tail bad)
+    pub close-return : en i .rollback .apply ≡ Canceled → Headed (closed (s .applied .head) (num i) (en i .index) (en i .rollback .ordinal)) (λ vs. vs) (s .net) acts (tail bad)
     close-return e =
         lands _ (s .net) acts (tail bad)
-        (applies.close-rollback bad side i e (m .1)) (inv .line)
+        (applies.close-rollback bad side i e (m .1))
 
-    pub push-return : (n : ℕ) → en i .rollback .apply ≡ InProgress → lineOpenFor (s .net) n ≡ true
-        → Pushed (landed (s .applied .head) (num i) (en i .index) (en i .rollback .ordinal)) (over (en i .paths) (en i .kept) (en i .count)) (pop i ∷ acts) (tail bad)
-    push-return n e l =
-        lands _ _ (pop i ∷ acts) (tail bad)
-        (applies.push-rollback bad side i e (m .1))
-        (push-wired (s .net) (s .applied .values) (inv .line) n l (over (en i .paths) (en i .kept) (en i .count)))
+    pub push-return : (w : Net) → en i .rollback .apply ≡ InProgress
+        → Headed (landed (s .applied .head) (num i) (en i .index) (en i .rollback .ordinal)) (over (en i .paths) (en i .kept) (en i .count)) w (pop i ∷ acts) (tail bad)
+    push-return w e = lands _ w (pop i ∷ acts) (tail bad) (applies.push-rollback bad side i e (m .1))
 
   pub finish-return : (i : ℕ) → en i .rollback .commit ≡ Complete → en i .rollback .apply ≡ InProgress → at ≡ en i .rollback .ordinal .0
       → Invariant (putting s i (withRollback (en i) (applyAt (en i .rollback) Complete))) ops acts bad
   finish-return i m e o = set-rollback i Complete refl m (applies.finish-rollback side i e o)
 
   -- ---- the nodes' side
-  pub wires : (w : Net) → Wired w (s .applied .values) → Invariant (withNet s w) ops acts bad
-  wires w u = record { sides = inv .sides; numbered = inv .numbered; committed = inv .committed; applied = inv .applied; line = u }
+  pub wires : (w : Net) → Invariant (withNet s w) ops acts bad
+  wires w = record { sides = inv .sides; numbered = inv .numbered; committed = inv .committed; applied = inv .applied }

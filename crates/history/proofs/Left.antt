@@ -138,7 +138,7 @@ module _ {s : State} {ops acts : List Op} {bad : List ℕ} (inv : Invariant s op
   to-return e = paired (t .rollback .commit) InProgress _ _ e (inv .sides i .rollback)
 
   abbrev Falls : Bool → Plan → Type 0
-  Falls b r = r .answer ≡ 0 → leftIn (performed b s r i false) < leftIn s
+  Falls b r = r .answer ≡ 0 → leftIn (performed b s r i false false) < leftIn s
 
   falls-1 : (y : Bool) → Falls true (calls.job1 s i y)
   falls-1 y =

@@ -14,6 +14,8 @@ pub mod Marked
 pub mod Audited
 pub mod Places
 pub mod Guaranteed
+pub mod Switch
+pub mod Switched
 pub mod Staged
 pub mod Reasons
 pub mod Carried

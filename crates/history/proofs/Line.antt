@@ -1,10 +1,10 @@
--- The nodes' side: each of its calls, and each push, keeps the line's part of the invariant. Needs nothing of the log.
--- Assumes nothing.
+-- The nodes' side: each of its calls, and each push, keeps the line's part of the invariant, whatever is said of the target's
+-- values while a line is open. Needs nothing of the log. Assumes nothing.
 use Prim.Native.Nat.{ℕ, zero, suc, _≤_}
 use native.Mathlib.Omega.{arith}
 use mathlib.Core.List.{List, [], _∷_, map}
 use mathlib.Core.Bool.{true, false, _&&_}
-use mathlib.Core.Path.{_≡_, refl, sym, ap, _∙_}
+use mathlib.Core.Path.{_≡_, refl, sym, ap, _∙_, subst}
 use lib.Dec.{eqb}
 use lib.ListN.{getD, replicate}
 use borrow.Author.Tests.{eqb-true}
@@ -13,7 +13,7 @@ use Rattle.kinds.specs.declared.Term.{Term}
 use Rattle.kinds.specs.declared.Progress.{Progress}
 use Rattle.kinds.specs.declared.Progress.the-variants.{Pending, InProgress, Complete}
 use Rattle.rules.specs.Outside.{off, reaches, isSynchronised}
-use Rattle.machine.specs.State.{Net, absent, never, freshNet, nodeOf, putNode, lineOpenFor}
+use Rattle.machine.specs.State.{Net, never, freshNet, nodeOf, putNode, lineOpenFor}
 use Rattle.machine.specs.Stores.{withTargetValues}
 use Rattle.machine.proofs.Cases.{and-left, and-right}
 use Rattle.machine.proofs.Entries.{set-all}
@@ -41,8 +41,8 @@ complete-is Pending e = crash e
 complete-is InProgress e = crash e
 complete-is Complete e = refl
 
-module _ (w : Net) (vs : List ℕ) (inv : Wired w vs) where
-  pub start-wired : w .target .running ≡ false → Wired (started w) vs
+module _ (w : Net) (H : List ℕ → Type 0) (inv : Wired w H) where
+  pub start-wired : w .target .running ≡ false → Wired (started w) H
   start-wired e =
       record {
         nodes = λ n. let x = inv .nodes n in record {
@@ -53,26 +53,26 @@ module _ (w : Net) (vs : List ℕ) (inv : Wired w vs) where
         older = inv .older;
       }
 
-  pub stop-wired : Wired (stopped w) vs
+  pub stop-wired : Wired (stopped w) H
   stop-wired =
       record {
-        nodes = off-nodes (Node (stopped w) vs) (w .connections) (λ n. record { ids = inv .nodes n .ids; holds = λ o. crash (o .connected); stopped = λ y. refl });
+        nodes = off-nodes (Node (stopped w) H) (w .connections) (λ n. record { ids = inv .nodes n .ids; holds = λ o. crash (o .connected); stopped = λ y. refl });
         older = inv .older;
       }
 
   -- a node that connects, or is cut off
-  other : (u : Net) → u .mastership ≡ w .mastership → u .configuration ≡ w .configuration → u .values ≡ w .values → u .target ≡ w .target → (n : ℕ) (x : Connection) → Node w vs n x → Node u vs n x
+  other : (u : Net) → u .mastership ≡ w .mastership → u .configuration ≡ w .configuration → u .values ≡ w .values → u .target ≡ w .target → (n : ℕ) (x : Connection) → Node w H n x → Node u H n x
   other u a b c d n x f =
       record {
         ids = rw a (f .ids);
-        holds = λ o. c ∙ f .holds (record { some = o .some; master = sym (ap (λ m. m .master) a) ∙ o .master; connected = o .connected; id = o .id ∙ ap (λ m. m .conn) a; state = sym (ap (λ g. g .state) b) ∙ o .state; term = sym (ap (λ g. g .term .0) b) ∙ o .term ∙ ap (λ m. m .term .0) a });
+        holds = λ o. subst H (sym c) (f .holds (record { some = o .some; master = sym (ap (λ m. m .master) a) ∙ o .master; connected = o .connected; id = o .id ∙ ap (λ m. m .conn) a; state = sym (ap (λ g. g .state) b) ∙ o .state; term = sym (ap (λ g. g .term .0) b) ∙ o .term ∙ ap (λ m. m .term .0) a }));
         stopped = rw d (f .stopped);
       }
 
-  pub connect-wired : (i : ℕ) → 1 ≤ i → w .target .running ≡ true → Wired (connected w i) vs
+  pub connect-wired : (i : ℕ) → 1 ≤ i → w .target .running ≡ true → Wired (connected w i) H
   connect-wired i b r =
       record {
-        nodes = put-nodes (Node (connected w i) vs) (w .connections) i _ (λ n. other (connected w i) refl refl refl refl n _ (inv .nodes n)) (record {
+        nodes = put-nodes (Node (connected w i) H) (w .connections) i _ (λ n. other (connected w i) refl refl refl refl n _ (inv .nodes n)) (record {
           ids = λ p e. omega (arith, inv .nodes i .ids p e);
           holds = λ o. absurd (omega (arith, inv .nodes i .ids (o .some) (o .master), o .id));
           stopped = λ y. clash (sym r ∙ y);
@@ -80,10 +80,10 @@ module _ (w : Net) (vs : List ℕ) (inv : Wired w vs) where
         older = inv .older;
       }
 
-  pub disconnect-wired : (i : ℕ) → Wired (disconnected w i) vs
+  pub disconnect-wired : (i : ℕ) → Wired (disconnected w i) H
   disconnect-wired i =
       record {
-        nodes = put-nodes (Node (disconnected w i) vs) (w .connections) i _ (λ n. other (disconnected w i) refl refl refl refl n _ (inv .nodes n)) (record {
+        nodes = put-nodes (Node (disconnected w i) H) (w .connections) i _ (λ n. other (disconnected w i) refl refl refl refl n _ (inv .nodes n)) (record {
           ids = inv .nodes i .ids;
           holds = λ o. crash (o .connected);
           stopped = λ y. refl;
@@ -91,7 +91,7 @@ module _ (w : Net) (vs : List ℕ) (inv : Wired w vs) where
         older = inv .older;
       }
 
-  pub elect-wired : (i : ℕ) (t : Term) → t .0 ≡ suc (w .mastership .term .0) → Wired (elected w i t) vs
+  pub elect-wired : (i : ℕ) (t : Term) → t .0 ≡ suc (w .mastership .term .0) → Wired (elected w i t) H
   elect-wired i t e =
       record {
         nodes = λ n. record {
@@ -102,7 +102,7 @@ module _ (w : Net) (vs : List ℕ) (inv : Wired w vs) where
         older = omega (arith, inv .older);
       }
 
-  pub resign-wired : Wired (resigned w) vs
+  pub resign-wired : Wired (resigned w) H
   resign-wired =
       record {
         nodes = λ n. record {
@@ -113,7 +113,7 @@ module _ (w : Net) (vs : List ℕ) (inv : Wired w vs) where
         older = inv .older;
       }
 
-  pub syncing-wired : Wired (syncing w) vs
+  pub syncing-wired : Wired (syncing w) H
   syncing-wired =
       record {
         nodes = λ n. record {
@@ -124,8 +124,8 @@ module _ (w : Net) (vs : List ℕ) (inv : Wired w vs) where
         older = inv .older;
       }
 
-  pub synced-wired : Wired (synced w vs) vs
-  synced-wired = record { nodes = λ n. record { ids = inv .nodes n .ids; holds = λ o. refl; stopped = inv .nodes n .stopped }; older = omega arith }
+  pub synced-wired : (vs : List ℕ) (G : List ℕ → Type 0) → G vs → Wired (synced w vs) G
+  synced-wired vs G x = record { nodes = λ n. record { ids = inv .nodes n .ids; holds = λ o. x; stopped = inv .nodes n .stopped }; older = omega arith }
 
   opened : (n : ℕ) → 1 ≤ n → lineOpenFor w n ≡ true → Open w n (nodeOf (w .connections) n)
   opened n p e =
@@ -147,26 +147,26 @@ module _ (w : Net) (vs : List ℕ) (inv : Wired w vs) where
         term = eqb-true _ _ (and-right y z c);
       }
 
-  -- with a line open the target holds the applied values
-  pub open-holds : (n : ℕ) → lineOpenFor w n ≡ true → w .values ≡ vs
+  -- with a line open it holds of the target's values
+  pub open-holds : (n : ℕ) → lineOpenFor w n ≡ true → H (w .values)
   open-holds zero e = crash (and-right (eqb (w .mastership .master) 0) false e)
   open-holds (suc n) e = inv .nodes (suc n) .holds (opened (suc n) (omega arith) e)
 
-  -- a push lands on both while a line is open
-  pub push-wired : (n : ℕ) → lineOpenFor w n ≡ true → (f : List ℕ → List ℕ) → Wired (withTargetValues w (f (w .values))) (f vs)
-  push-wired n e f =
-      record {
-        nodes = λ k. record { ids = inv .nodes k .ids; holds = λ o. ap f (open-holds n e); stopped = inv .nodes k .stopped };
-        older = inv .older;
-      }
+  -- something else is said of them
+  pub said-wired : (G : List ℕ → Type 0) → ((vs : List ℕ) → H vs → G vs) → Wired w G
+  said-wired G f = record { nodes = λ n. let x = inv .nodes n in record { ids = x .ids; holds = λ o. f _ (x .holds o); stopped = x .stopped }; older = inv .older }
+
+  -- a push while a line is open
+  pub push-wired : (vs : List ℕ) (G : List ℕ → Type 0) → G vs → Wired (withTargetValues w vs) G
+  push-wired vs G g = record { nodes = λ k. record { ids = inv .nodes k .ids; holds = λ o. g; stopped = inv .nodes k .stopped }; older = inv .older }
 
 never-there : (n k : ℕ) → getD (replicate n never) k never ≡ never
 never-there zero k = refl
 never-there (suc n) zero = refl
 never-there (suc n) (suc k) = never-there n k
 
-pub fresh-wired : Wired freshNet absent
-fresh-wired = record { nodes = λ n. record { ids = λ p x. omega arith; holds = λ o. refl; stopped = λ x. off n }; older = omega arith }
+pub fresh-wired : (H : List ℕ → Type 0) → Wired freshNet H
+fresh-wired H = record { nodes = λ n. record { ids = λ p x. omega arith; holds = λ o. absurd (omega (arith, o .some, o .master)); stopped = λ x. off n }; older = omega arith }
   where
     off : (n : ℕ) → nodeOf (freshNet .connections) n .connected ≡ false
     off zero = refl

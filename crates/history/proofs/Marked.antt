@@ -30,7 +30,7 @@ use Rattle.rules.specs.CommitRollback as job3
 use Rattle.rules.specs.ApplyChange as job2
 use Rattle.rules.specs.ApplyRollback as job4
 use Rattle.kinds.specs.Statuses.{isFailed, isPending}
-use Rattle.machine.specs.State.{State, Log, blank, entryOf, putEntry, grown, last, lineOpenFor}
+use Rattle.machine.specs.State.{State, Log, blank, entryOf, putEntry, grown, last}
 use Rattle.machine.specs.Calls.{Call, Pair, appended, present}
 use Rattle.machine.specs.Rest.{restOf}
 use Rattle.machine.specs.Settled.{settled}
@@ -39,6 +39,7 @@ use Rattle.machine.proofs.Next.{putting}
 use Rattle.machine.proofs.Cases.{and-left}
 use Rattle.machine.proofs.Entries.{put-all, add-all, entry-past, none-all, entry-put, last-put}
 use Rattle.machine.proofs.ByCall.{Does, Calls}
+use Rattle.machine.specs.Notes.{Note}
 use Rattle.history.specs.Demand3.{tells, told}
 use Rattle.history.specs.Ops.{Op, push, pop, opsOf, popped, tail, first, first-more, clash, crash}
 use Rattle.history.specs.Invariant.{Invariant}
@@ -419,8 +420,8 @@ took l h es i marks k =
     }
 
 module _ (s : State) (es : List Event) (bad : List ℕ) (inv : Invariant s (opsOf Complete 1 es) (opsOf Complete 2 es) bad) (marks : Marked (s .log) (s .applied .head) es) where
-  abbrev Keeps : Reply → State → Type 0
-  Keeps r next = Marked (next .log) (next .applied .head) (r .event ∷ es)
+  abbrev Keeps : Note → Reply → State → Type 0
+  Keeps x r next = Marked (next .log) (next .applied .head) (r .event ∷ es)
 
   abbrev acts : List Op
   acts = opsOf Complete 2 es
@@ -444,11 +445,11 @@ module _ (s : State) (es : List Event) (bad : List ℕ) (inv : Invariant s (opsO
     this = entryOf (s .log) i
 
     -- ---- jobs 1 and 3
-    aims1 : (cut : Bool) → this .change .commit ≡ Pending → i ≡ suc (s .change .0) → restOf s ≡ true
-        → Does s Keeps true i cut (job1.plans change.Aim this (s .committed .head) (num i) (ord 0) (present (s .committed .values) this))
+    aims1 : (cut second : Bool) → this .change .commit ≡ Pending → i ≡ suc (s .change .0) → restOf s ≡ true
+        → Does s Keeps true i cut second (job1.plans change.Aim this (s .committed .head) (num i) (ord 0) (present (s .committed .values) this))
     unfolding opsOf
-    aims1 true e n r = rests (event 1 1 (num i) InProgress) refl (λ k. refl) refl
-    aims1 false e n r =
+    aims1 true second e n r = rests (event 1 1 (num i) InProgress) refl (λ k. refl) refl
+    aims1 false second e n r =
         begin1 _ (event 1 1 (num i) InProgress ∷ es) bad (jobs.aim-change inv i n r) (rests (event 1 1 (num i) InProgress) refl (λ k. refl) refl) i e
 
     -- a commit completes: the switch has passed none more
@@ -456,30 +457,30 @@ module _ (s : State) (es : List Event) (bad : List ℕ) (inv : Invariant s (opsO
     completes e x d f w =
         carry s es bad inv marks e d f (ap (λ y. first y (s .applied .head .ordinal .0)) w ∙ first-more (opsOf Complete 1 es) x (s .applied .head .ordinal .0) (inv .applied .reach))
 
-    lands1 : (cut : Bool) → this .change .commit ≡ InProgress → i ≡ suc (s .change .0) → (o : Ordinal) → o .0 ≡ suc (s .committed .head .ordinal .0)
-        → Does s Keeps true i cut (job1.plans change.Land this (s .committed .head) (num i) o (present (s .committed .values) this))
+    lands1 : (cut second : Bool) → this .change .commit ≡ InProgress → i ≡ suc (s .change .0) → (o : Ordinal) → o .0 ≡ suc (s .committed .head .ordinal .0)
+        → Does s Keeps true i cut second (job1.plans change.Land this (s .committed .head) (num i) o (present (s .committed .values) this))
     unfolding opsOf
-    lands1 true e n o x = completes (event 1 1 (num i) Complete) (push i) refl (λ k. refl) refl
-    lands1 false e n o x =
+    lands1 true second e n o x = completes (event 1 1 (num i) Complete) (push i) refl (λ k. refl) refl
+    lands1 false second e n o x =
         finish1 _ (event 1 1 (num i) Complete ∷ es) bad (jobs.land-change inv i o e n q x)
         (completes (event 1 1 (num i) Complete) (push i) refl (λ k. refl) refl) i o e
 
-    rejects1 : (cut : Bool) → this .change .commit ≡ InProgress
-        → Does s Keeps true i cut (job1.plans change.Reject this (s .committed .head) (num i) (ord 0) (present (s .committed .values) this))
-    rejects1 true e = reject1 s es bad inv marks i p q e
-    rejects1 false e = reject1 s es bad inv marks i p q e
+    rejects1 : (cut second : Bool) → this .change .commit ≡ InProgress
+        → Does s Keeps true i cut second (job1.plans change.Reject this (s .committed .head) (num i) (ord 0) (present (s .committed .values) this))
+    rejects1 true second e = reject1 s es bad inv marks i p q e
+    rejects1 false second e = reject1 s es bad inv marks i p q e
 
-    aims3 : (cut : Bool) → s .committed .head .revision .0 ≡ i → restOf s ≡ true → Does s Keeps true i cut (job3.plans rollback.Aim this (s .committed .head) (num i) (ord 0))
+    aims3 : (cut second : Bool) → s .committed .head .revision .0 ≡ i → restOf s ≡ true → Does s Keeps true i cut second (job3.plans rollback.Aim this (s .committed .head) (num i) (ord 0))
     unfolding opsOf
-    aims3 true n r = rests (event 2 1 (num i) InProgress) refl (λ k. refl) refl
-    aims3 false n r =
+    aims3 true second n r = rests (event 2 1 (num i) InProgress) refl (λ k. refl) refl
+    aims3 false second n r =
         begin3 _ (event 2 1 (num i) InProgress ∷ es) bad (jobs.aim-rollback inv i (omega arith) n r) (rests (event 2 1 (num i) InProgress) refl (λ k. refl) refl) i
 
-    lands3 : (cut : Bool) → this .rollback .commit ≡ InProgress → s .committed .head .revision .0 ≡ i → (o : Ordinal) → o .0 ≡ suc (s .committed .head .ordinal .0)
-        → Does s Keeps true i cut (job3.plans rollback.Land this (s .committed .head) (num i) o)
+    lands3 : (cut second : Bool) → this .rollback .commit ≡ InProgress → s .committed .head .revision .0 ≡ i → (o : Ordinal) → o .0 ≡ suc (s .committed .head .ordinal .0)
+        → Does s Keeps true i cut second (job3.plans rollback.Land this (s .committed .head) (num i) o)
     unfolding opsOf
-    lands3 true e n o x = completes (event 2 1 (num i) Complete) (pop i) refl (λ k. refl) refl
-    lands3 false e n o x =
+    lands3 true second e n o x = completes (event 2 1 (num i) Complete) (pop i) refl (λ k. refl) refl
+    lands3 false second e n o x =
         finish3 _ (event 2 1 (num i) Complete ∷ es) bad (jobs.land-rollback inv i o (omega arith) e n x)
         (completes (event 2 1 (num i) Complete) (pop i) refl (λ k. refl) refl) i o
 
@@ -490,63 +491,65 @@ module _ (s : State) (es : List Event) (bad : List ℕ) (inv : Invariant s (opsO
     abbrev NextRollback : Type 0
     NextRollback = (this .rollback .commit ≡ Complete) × (this .rollback .ordinal .0 ≡ suc (s .applied .head .ordinal .0))
 
-    aims2 : (cut : Bool) → NextChange → this .change .apply ≡ Pending → settled s ≡ true → s .applied .head .revision .0 ≡ this .index .0
-        → Does s Keeps false i cut (job2.plans apply.Aim this (s .applied .head) (num i))
+    aims2 : (cut second : Bool) → NextChange → this .change .apply ≡ Pending → settled s ≡ true → s .applied .head .revision .0 ≡ this .index .0
+        → Does s Keeps false i cut second (job2.plans apply.Aim this (s .applied .head) (num i))
     unfolding opsOf
-    aims2 true m e x v = aim2 s es bad inv marks i p q (m .1) (aimed (s .applied .head) (num i)) refl refl e
-    aims2 false m e x v =
+    aims2 true second m e x v = aim2 s es bad inv marks i p q (m .1) (aimed (s .applied .head) (num i)) refl refl e
+    aims2 false second m e x v =
         begin2 _ (event 1 2 (num i) InProgress ∷ es) bad (jobs.aim-apply inv i m x v) (aim2 s es bad inv marks i p q (m .1) (aimed (s .applied .head) (num i)) refl refl e) i p q (m .1) e
 
     stored : (u : Transaction) → entryOf (putEntry (s .log) i u) i ≡ u
     stored u = entry-put (s .log) i u p q
 
-    aborts2 : (cut : Bool) → NextChange → this .change .apply ≡ Pending → settled s ≡ true → (s .applied .head .target .0 ≡ i → ⊥)
-        → Does s Keeps false i cut (job2.plans apply.Abort this (s .applied .head) (num i))
+    aborts2 : (cut second : Bool) → NextChange → this .change .apply ≡ Pending → settled s ≡ true → (s .applied .head .target .0 ≡ i → ⊥)
+        → Does s Keeps false i cut second (job2.plans apply.Abort this (s .applied .head) (num i))
     unfolding opsOf
-    aborts2 true m e x g = abort2 s es bad inv marks i p q (m .1) e g
-    aborts2 false m e x g =
+    aborts2 true second m e x g = abort2 s es bad inv marks i p q (m .1) e g
+    aborts2 false second m e x g =
         let w = stored (withChange this (applyAt (this .change) Aborted)) in
         pass2 (putting s i (withChange this (applyAt (this .change) Aborted))) (event 1 2 (num i) Aborted ∷ es) bad (jobs.abort-apply inv i m e x)
         (abort2 s es bad inv marks i p q (m .1) e g) i p (rw last-put q) (rw w (m .1)) (closed (s .applied .head) (num i) (num i) (this .change .ordinal)) (m .1) (rw w refl)
 
-    fails2 : (cut : Bool) → NextChange → this .change .apply ≡ InProgress → Does s Keeps false i cut (job2.plans apply.Fail this (s .applied .head) (num i))
+    fails2 : (cut second : Bool) → NextChange → this .change .apply ≡ InProgress → Does s Keeps false i cut second (job2.plans apply.Fail this (s .applied .head) (num i))
     unfolding opsOf
-    fails2 true m e = fail2 s es bad inv marks i p q (m .1) e
-    fails2 false m e =
+    fails2 true second m e = fail2 s es bad inv marks i p q (m .1) e
+    fails2 false second m e =
         let w = stored (withChange this (applyAt (this .change) Failed)) in
         pass2 (putting s i (withChange this (applyAt (this .change) Failed))) (event 1 2 (num i) Failed ∷ es) bad (jobs.fail-apply inv i m e)
         (fail2 s es bad inv marks i p q (m .1) e) i p (rw last-put q) (rw w (m .1)) (closed (s .applied .head) (num i) (num i) (this .change .ordinal)) (m .1) (rw w refl)
 
-    pushes2 : (n : ℕ) (cut : Bool) → NextChange → this .change .apply ≡ InProgress → lineOpenFor (s .net) n ≡ true
-        → Does s Keeps false i cut (job2.plans apply.Push this (s .applied .head) (num i))
+    pushes2 : (cut second : Bool) → NextChange → this .change .apply ≡ InProgress
+        → Does s Keeps false i cut second (job2.plans apply.Push this (s .applied .head) (num i))
     unfolding opsOf
-    pushes2 n true m e l = took (s .log) (landed (s .applied .head) (num i) (num i) (this .change .ordinal)) es i (pass2 s es bad inv marks i p q (m .1) (landed (s .applied .head) (num i) (num i) (this .change .ordinal)) (m .1) (ap isPending e))
-    pushes2 n false m e l =
-        finish2 _ (event 1 2 (num i) Complete ∷ es) bad (jobs.push-apply inv i m n e l)
+    pushes2 true second m e = idle
+    pushes2 false true m e = took (s .log) (landed (s .applied .head) (num i) (num i) (this .change .ordinal)) es i (pass2 s es bad inv marks i p q (m .1) (landed (s .applied .head) (num i) (num i) (this .change .ordinal)) (m .1) (ap isPending e))
+    pushes2 false false m e =
+        finish2 _ (event 1 2 (num i) Complete ∷ es) bad (jobs.push-apply inv i m (s .net) e)
         (took (s .log) (landed (s .applied .head) (num i) (num i) (this .change .ordinal)) es i (pass2 s es bad inv marks i p q (m .1) (landed (s .applied .head) (num i) (num i) (this .change .ordinal)) (m .1) (ap isPending e))) i e
 
-    aims4 : (cut : Bool) → NextRollback → this .rollback .apply ≡ Pending → wasTried (this .change .apply) ≡ true → settled s ≡ true
-        → Does s Keeps false i cut (job4.plans return.Aim this (s .applied .head) (num i))
+    aims4 : (cut second : Bool) → NextRollback → this .rollback .apply ≡ Pending → wasTried (this .change .apply) ≡ true → settled s ≡ true
+        → Does s Keeps false i cut second (job4.plans return.Aim this (s .applied .head) (num i))
     unfolding opsOf
-    aims4 true m e x v = aim4 s es bad inv marks i p q (m .1) (aimed (s .applied .head) (this .index)) refl e x
-    aims4 false m e x v =
+    aims4 true second m e x v = aim4 s es bad inv marks i p q (m .1) (aimed (s .applied .head) (this .index)) refl e x
+    aims4 false second m e x v =
         begin4 _ (event 2 2 (num i) InProgress ∷ es) bad (jobs.aim-return inv i m v) (aim4 s es bad inv marks i p q (m .1) (aimed (s .applied .head) (this .index)) refl e x) i p q (m .1) e
 
-    cancels4 : (cut : Bool) → NextRollback → this .rollback .apply ≡ Pending → this .change .apply ≡ Aborted → settled s ≡ true
-        → Does s Keeps false i cut (job4.plans return.Cancel this (s .applied .head) (num i))
+    cancels4 : (cut second : Bool) → NextRollback → this .rollback .apply ≡ Pending → this .change .apply ≡ Aborted → settled s ≡ true
+        → Does s Keeps false i cut second (job4.plans return.Cancel this (s .applied .head) (num i))
     unfolding opsOf
-    cancels4 true m e a x = cancel4 s es bad inv marks i p q (m .1) e a
-    cancels4 false m e a x =
+    cancels4 true second m e a x = cancel4 s es bad inv marks i p q (m .1) e a
+    cancels4 false second m e a x =
         let w = stored (withRollback this (applyAt (this .rollback) Canceled)) in
         close4 (putting s i (withRollback this (applyAt (this .rollback) Canceled))) (event 2 2 (num i) Canceled ∷ es) bad (jobs.cancel-return inv i m e a x)
         (cancel4 s es bad inv marks i p q (m .1) e a) i p (rw last-put q) (rw w (m .1)) (closed (s .applied .head) (num i) (this .index) (this .rollback .ordinal)) (m .1) (rw w refl)
 
-    pushes4 : (n : ℕ) (cut : Bool) → NextRollback → this .rollback .apply ≡ InProgress → lineOpenFor (s .net) n ≡ true
-        → Does s Keeps false i cut (job4.plans return.Push this (s .applied .head) (num i))
+    pushes4 : (cut second : Bool) → NextRollback → this .rollback .apply ≡ InProgress
+        → Does s Keeps false i cut second (job4.plans return.Push this (s .applied .head) (num i))
     unfolding opsOf
-    pushes4 n true m e l = push4 s es bad inv marks i p q (m .1) (landed (s .applied .head) (num i) (this .index) (this .rollback .ordinal)) (m .1)
-    pushes4 n false m e l =
-        finish4 _ (event 2 2 (num i) Complete ∷ es) (tail bad) (jobs.push-return inv i m n e l) (push4 s es bad inv marks i p q (m .1) (landed (s .applied .head) (num i) (this .index) (this .rollback .ordinal)) (m .1)) i e
+    pushes4 true second m e = idle
+    pushes4 false true m e = push4 s es bad inv marks i p q (m .1) (landed (s .applied .head) (num i) (this .index) (this .rollback .ordinal)) (m .1)
+    pushes4 false false m e =
+        finish4 _ (event 2 2 (num i) Complete ∷ es) (tail bad) (jobs.push-return inv i m (s .net) e) (push4 s es bad inv marks i p q (m .1) (landed (s .applied .head) (num i) (this .index) (this .rollback .ordinal)) (m .1)) i e
 
   calls : {R : List Pair → Type 0} → Calls s Keeps R
   unfolding opsOf
@@ -563,46 +566,46 @@ module _ (s : State) (es : List Event) (bad : List ℕ) (inv : Invariant s (opsO
         resign = idle;
         syncing = idle;
         synced = idle;
-        job1 = λ i p q cut. record {
+        job1 = λ i p q cut second. record {
           wait = idle;
           full = λ a b d. idle;
           begin = λ e n g. hush (s .applied .head) (begin1 s es bad inv marks i e);
-          aim = aims1 i p q cut;
-          land = λ e n b o x. lands1 i p q cut e n o x;
-          reject = λ e n. rejects1 i p q cut e;
+          aim = aims1 i p q cut second;
+          land = λ e n b o x. lands1 i p q cut second e n o x;
+          reject = λ e n. rejects1 i p q cut second e;
           finish = λ e n. hush (s .applied .head) (finish1 s es bad inv marks i _ e);
           close = λ e n. idle;
         };
-        job2 = λ n i p q cut. record {
+        job2 = λ n i p q cut second. record {
           wait = idle;
           noLine = idle;
           begin = λ m e g. hush (s .applied .head) (begin2 s es bad inv marks i p q (m .1) e);
-          aim = aims2 i p q cut;
-          abort = aborts2 i p q cut;
+          aim = aims2 i p q cut second;
+          abort = aborts2 i p q cut second;
           closeAborted = λ m e. hush (closed (s .applied .head) (num i) (num i) (entryOf (s .log) i .change .ordinal)) (pass2 s es bad inv marks i p q (m .1) (closed (s .applied .head) (num i) (num i) (entryOf (s .log) i .change .ordinal)) (m .1) (ap isPending e));
           closeFailed = λ m e. hush (closed (s .applied .head) (num i) (num i) (entryOf (s .log) i .change .ordinal)) (pass2 s es bad inv marks i p q (m .1) (closed (s .applied .head) (num i) (num i) (entryOf (s .log) i .change .ordinal)) (m .1) (ap isPending e));
           finish = λ m e o. hush (s .applied .head) (finish2 s es bad inv marks i e);
-          fail = fails2 i p q cut;
-          push = pushes2 i p q n cut;
+          fail = fails2 i p q cut second;
+          push = λ m e l. pushes2 i p q cut second m e;
         };
-        job3 = λ i p q cut. record {
+        job3 = λ i p q cut second. record {
           wait = idle;
           full = λ a b d. idle;
           begin = λ e n g. hush (s .applied .head) (begin3 s es bad inv marks i);
-          aim = λ e n r. aims3 i p q cut n r;
-          land = λ e n b o x. lands3 i p q cut e n o x;
+          aim = λ e n r. aims3 i p q cut second n r;
+          land = λ e n b o x. lands3 i p q cut second e n o x;
           finish = λ e d n. hush (s .applied .head) (finish3 s es bad inv marks i _);
         };
-        job4 = λ n i p q cut. record {
+        job4 = λ n i p q cut second. record {
           wait = idle;
           noLine = idle;
           rejected = idle;
           begin = λ m e t g. hush (s .applied .head) (begin4 s es bad inv marks i p q (m .1) e);
-          aim = aims4 i p q cut;
-          cancel = cancels4 i p q cut;
+          aim = aims4 i p q cut second;
+          cancel = cancels4 i p q cut second;
           close = λ m e. hush (closed (s .applied .head) (num i) (entryOf (s .log) i .index) (entryOf (s .log) i .rollback .ordinal)) (close4 s es bad inv marks i p q (m .1) (closed (s .applied .head) (num i) (entryOf (s .log) i .index) (entryOf (s .log) i .rollback .ordinal)) (m .1) e);
           finish = λ m e o. hush (s .applied .head) (finish4 s es bad inv marks i e);
-          push = pushes4 i p q n cut;
+          push = λ m e l. pushes4 i p q cut second m e;
         };
       }
 

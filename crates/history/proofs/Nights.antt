@@ -22,6 +22,7 @@ use Rattle.machine.specs.LiveList as list
 use Rattle.machine.specs.Rest.{restOf}
 use Rattle.machine.specs.Calls.{Call, work, unless, planOf, planned, present, commits, workOk, decide}
 use Rattle.machine.specs.Step.{outcome, step, Past, run, stateFrom, eventsFrom}
+use Rattle.machine.specs.Notes.{notes}
 use Rattle.machine.proofs.Next.{performed, rows-performed}
 use Rattle.machine.proofs.Cases.{and-left, and-right, or-cases, commit-change, commit-rollback}
 use Rattle.machine.proofs.Kept.{reached-well-formed}
@@ -40,7 +41,8 @@ use Rattle.history.specs.Finished.{Rollback, unasked, finished, under, E
 use Rattle.history.proofs.ByNumber.{above}
 use Rattle.history.proofs.Follow.{entry-seen, last-seen, plan-seen}
 use Rattle.history.proofs.Fronts.{ways, rest-seen, settled-seen, live-above}
-use Rattle.history.proofs.Reached.{folded, demand-3}
+use Rattle.history.proofs.Reached.{folded}
+use Rattle.history.proofs.Switched.{demand-3}
 use Rattle.history.proofs.Over.{plan-idle}
 use Rattle.history.proofs.Ordinals.{never-nine}
 use Rattle.history.proofs.Staged.{differ, staged}
@@ -291,9 +293,9 @@ module _ (cs : List Call) (os : List ℕ) (n : ℕ) where
     done = worked (run ds .state) n j i r 0 e
 
     -- the whole does the same
-    same-job : whole (work n j i r 0 ∷ ds) ≡ performed (commits j) (whole ds) (planOf (run ds .state) n j i (eqb r 0)) i false
+    same-job : whole (work n j i r 0 ∷ ds) ≡ performed (commits j) (whole ds) (planOf (run ds .state) n j i (eqb r 0)) i false false
     unfolding whole
-    same-job = ap (afters (whole ds)) (done .stores) ∙ rows-performed (commits j) (whole ds) (planOf (run ds .state) n j i (eqb r 0)) i false
+    same-job = ap (afters (whole ds)) (done .stores) ∙ rows-performed (commits j) (whole ds) (planOf (run ds .state) n j i (eqb r 0)) i false false
 
     less : rest (work n j i r 0 ∷ ds) < rest ds
     less =
@@ -304,7 +306,7 @@ module _ (cs : List Call) (os : List ℕ) (n : ℕ) where
         let p : planOf (run ds .state) n j i (eqb r 0) ≡ planOf (whole ds) n j i (eqb r 0)
         = ap (λ s. planOf s n j i (eqb r 0)) (x .shows)
         ∙ plan-seen (whole ds) (x .fold) (x .base) (x .front) (rest-seen v (x .fold) (x .base) (x .front)) (settled-seen v (x .fold) (x .base) (x .front)) n j i (eqb r 0) b in
-        subst (λ u. leftIn u < rest ds) (sym (same-job ∙ ap (λ y. performed (commits j) (whole ds) y i false) p))
+        subst (λ u. leftIn u < rest ds) (sym (same-job ∙ ap (λ y. performed (commits j) (whole ds) y i false false) p))
         (falls v i (omega (arith, x .front .whole)) l n j (eqb r 0) (sym (ap (λ y. y .answer) p) ∙ done .plan))
 
     leaves : Leaves (run ds .state) (run (work n j i r 0 ∷ ds) .state)
@@ -514,7 +516,7 @@ night-is-jobs cs n b os =
     }
 
 -- demand 3 counts the events of its turns
-pub night-demand-3 : (cs : List Call) (n b : ℕ) (os : List ℕ) → (let w = night (run cs .state) n b os in Demand3 (w .next) (w .events ++ run cs .events))
+pub night-demand-3 : (cs : List Call) (n b : ℕ) (os : List ℕ) → (let w = night (run cs .state) n b os in Demand3 (w .next) (w .events ++ run cs .events) (notes (w .calls ++ cs)))
 night-demand-3 cs n b os =
     let k = night-is-jobs cs n b os in rw (k .next, k .events) (demand-3 (night (run cs .state) n b os .calls ++ cs))
 

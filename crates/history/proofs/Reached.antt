@@ -1,5 +1,5 @@
 -- Every call keeps the invariant of the whole, refused and cut ones too; so it holds after any calls from fresh, and with it
--- demand 3: of the state, whose front may be folded away, and of the whole. Assumes nothing.
+-- demand 3 but for the line (Switched), of the state, whose front may be folded away. Assumes nothing.
 use Prim.Native.Nat.{ℕ, suc, _-_, _≤_, _<_}
 use native.Mathlib.Omega.{arith}
 use mathlib.Core.List.{List, [], _∷_, _++_}
@@ -36,15 +36,15 @@ use Rattle.machine.specs.Settled.{settled}
 use Rattle.machine.specs.Calls.{Pair, Call, append, rollback, start, stop, connect, disconnect, master, sync, work, foldTo, accepted, unless, present, decide}
 use Rattle.machine.specs.Rest.{restOf}
 use Rattle.machine.specs.Step.{outcome, step, run}
+use Rattle.machine.specs.Notes.{Note, nothing, note}
 use Rattle.machine.proofs.Entries.{none-all, last-put, entry-put}
 use Rattle.machine.proofs.ByCall.{Does, Calls}
-use Rattle.history.specs.Demand3.{live, highest, newestFirst, hopped, Demand3}
+use Rattle.history.specs.Demand3.{live, highest, newestFirst, hopped}
 use Rattle.history.specs.Ops.{Op, push, opsOf, pushed, popped, told-change, told-rollback, top, tail, stack, newest, Rising, Falls, stack-low, stack-falls, mem, standing, first, first-rises, done, held, holding, clash, crash}
 use Rattle.history.specs.Invariant.{val, Linked, Sides, Numbered, CommitEntry, commitView, Committed, ApplyEntry, applyView, Calm, Quiet, Fell, Applied, Invariant, isEnded}
 use Rattle.history.specs.Frames.{stack-linked, not-going}
 use Rattle.history.proofs.Commits.{tip-back}
 use Rattle.history.proofs.Applies.{held-falls, held-low}
-use Rattle.history.proofs.Line.{start-wired, stop-wired, connect-wired, disconnect-wired, elect-wired, resign-wired, syncing-wired, synced-wired, open-holds, fresh-wired}
 use Rattle.history.proofs.Jobs as jobs
 use Rattle.history.proofs.ByNumber.{highest-same, val-highest, above, hopped-above, up}
 use Rattle.history.specs.Whole.{unlessFold, foldedBy, folds, whole, shownLog, shown, Front, Passed}
@@ -57,8 +57,8 @@ pub record Reached (s : State) (es : List Event) : Type 0 where
   pub inv : Invariant s (opsOf Complete 1 es) (opsOf Complete 2 es) bad
 
 module _ (s : State) (es : List Event) (bad : List ℕ) (inv : Invariant s (opsOf Complete 1 es) (opsOf Complete 2 es) bad) where
-  abbrev Keeps : Reply → State → Type 0
-  Keeps r next = Reached next (r .event ∷ es)
+  abbrev Keeps : Note → Reply → State → Type 0
+  Keeps x r next = Reached next (r .event ∷ es)
 
   abbrev ops : List Op
   ops = opsOf Complete 1 es
@@ -79,40 +79,40 @@ module _ (s : State) (es : List Event) (bad : List ℕ) (inv : Invariant s (opsO
 
   module _ (i : ℕ) (p : s .log .folded .0 < i) (q : i ≤ last (s .log)) where
     -- ---- two stores, the second cut or not
-    aim1 : (cut : Bool) → en i .change .commit ≡ Pending → i ≡ suc (s .change .0) → restOf s ≡ true
-        → Does s Keeps true i cut (job1.plans change.Aim (en i) (s .committed .head) (num i) (ord 0) (vs i))
+    aim1 : (cut second : Bool) → en i .change .commit ≡ Pending → i ≡ suc (s .change .0) → restOf s ≡ true
+        → Does s Keeps true i cut second (job1.plans change.Aim (en i) (s .committed .head) (num i) (ord 0) (vs i))
     unfolding opsOf
-    aim1 true e n r = record { bad = bad; inv = jobs.aim-change inv i n r }
-    aim1 false e n r = record { bad = bad; inv = jobs.begin-change (jobs.aim-change inv i n r) i e n refl }
+    aim1 true second e n r = record { bad = bad; inv = jobs.aim-change inv i n r }
+    aim1 false second e n r = record { bad = bad; inv = jobs.begin-change (jobs.aim-change inv i n r) i e n refl }
 
-    land1 : (cut : Bool) → en i .change .commit ≡ InProgress → i ≡ suc (s .change .0) → (o : Ordinal) → o .0 ≡ suc (s .committed .head .ordinal .0)
-        → Does s Keeps true i cut (job1.plans change.Land (en i) (s .committed .head) (num i) o (vs i))
+    land1 : (cut second : Bool) → en i .change .commit ≡ InProgress → i ≡ suc (s .change .0) → (o : Ordinal) → o .0 ≡ suc (s .committed .head .ordinal .0)
+        → Does s Keeps true i cut second (job1.plans change.Land (en i) (s .committed .head) (num i) o (vs i))
     unfolding opsOf
-    land1 true e n o x = record { bad = bad; inv = jobs.land-change inv i o e n q x }
-    land1 false e n o x = record { bad = bad; inv = jobs.finish-change (jobs.land-change inv i o e n q x) i e refl }
+    land1 true second e n o x = record { bad = bad; inv = jobs.land-change inv i o e n q x }
+    land1 false second e n o x = record { bad = bad; inv = jobs.finish-change (jobs.land-change inv i o e n q x) i e refl }
 
-    reject1 : (cut : Bool) → en i .change .commit ≡ InProgress → i ≡ suc (s .change .0)
-        → Does s Keeps true i cut (job1.plans change.Reject (en i) (s .committed .head) (num i) (ord 0) (vs i))
+    reject1 : (cut second : Bool) → en i .change .commit ≡ InProgress → i ≡ suc (s .change .0)
+        → Does s Keeps true i cut second (job1.plans change.Reject (en i) (s .committed .head) (num i) (ord 0) (vs i))
     unfolding opsOf
-    reject1 true e n = record { bad = bad; inv = jobs.fail-change inv i e n }
-    reject1 false e n =
+    reject1 true second e n = record { bad = bad; inv = jobs.fail-change inv i e n }
+    reject1 false second e n =
         let t = withChange (en i) (invalid (en i .change)) in
         record {
           bad = bad;
           inv = jobs.pass-change (jobs.fail-change inv i e n) i n (rw last-put q) (ap (λ u. u .change .commit) (entry-put (s .log) i t p q));
         }
 
-    aim3 : (cut : Bool) → en i .rollback .commit ≡ Pending → s .committed .head .revision .0 ≡ i → restOf s ≡ true
-        → Does s Keeps true i cut (job3.plans rollback.Aim (en i) (s .committed .head) (num i) (ord 0))
+    aim3 : (cut second : Bool) → en i .rollback .commit ≡ Pending → s .committed .head .revision .0 ≡ i → restOf s ≡ true
+        → Does s Keeps true i cut second (job3.plans rollback.Aim (en i) (s .committed .head) (num i) (ord 0))
     unfolding opsOf
-    aim3 true e n r = record { bad = bad; inv = jobs.aim-rollback inv i (omega arith) n r }
-    aim3 false e n r = record { bad = bad; inv = jobs.begin-rollback (jobs.aim-rollback inv i (omega arith) n r) i (omega arith) e n refl }
+    aim3 true second e n r = record { bad = bad; inv = jobs.aim-rollback inv i (omega arith) n r }
+    aim3 false second e n r = record { bad = bad; inv = jobs.begin-rollback (jobs.aim-rollback inv i (omega arith) n r) i (omega arith) e n refl }
 
-    land3 : (cut : Bool) → en i .rollback .commit ≡ InProgress → s .committed .head .revision .0 ≡ i → (o : Ordinal) → o .0 ≡ suc (s .committed .head .ordinal .0)
-        → Does s Keeps true i cut (job3.plans rollback.Land (en i) (s .committed .head) (num i) o)
+    land3 : (cut second : Bool) → en i .rollback .commit ≡ InProgress → s .committed .head .revision .0 ≡ i → (o : Ordinal) → o .0 ≡ suc (s .committed .head .ordinal .0)
+        → Does s Keeps true i cut second (job3.plans rollback.Land (en i) (s .committed .head) (num i) o)
     unfolding opsOf
-    land3 true e n o x = record { bad = bad; inv = jobs.land-rollback inv i o (omega arith) e n x }
-    land3 false e n o x =
+    land3 true second e n o x = record { bad = bad; inv = jobs.land-rollback inv i o (omega arith) e n x }
+    land3 false second e n o x =
         record { bad = bad; inv = jobs.finish-rollback (jobs.land-rollback inv i o (omega arith) e n x) i e (λ y. omega (arith, tip-back (inv .committed) i (sym n) (omega arith))) refl }
 
     abbrev NextChange : Type 0
@@ -121,21 +121,21 @@ module _ (s : State) (es : List Event) (bad : List ℕ) (inv : Invariant s (opsO
     abbrev NextRollback : Type 0
     NextRollback = (en i .rollback .commit ≡ Complete) × (en i .rollback .ordinal .0 ≡ suc (s .applied .head .ordinal .0))
 
-    aim2 : (cut : Bool) → NextChange → en i .change .apply ≡ Pending → settled s ≡ true → s .applied .head .revision .0 ≡ en i .index .0
-        → Does s Keeps false i cut (job2.plans apply.Aim (en i) (s .applied .head) (num i))
+    aim2 : (cut second : Bool) → NextChange → en i .change .apply ≡ Pending → settled s ≡ true → s .applied .head .revision .0 ≡ en i .index .0
+        → Does s Keeps false i cut second (job2.plans apply.Aim (en i) (s .applied .head) (num i))
     unfolding opsOf
-    aim2 true m e x v = record { bad = bad; inv = jobs.aim-apply inv i m x v }
-    aim2 false m e x v = record { bad = bad; inv = jobs.begin-apply (jobs.aim-apply inv i m x v) i m e refl }
+    aim2 true second m e x v = record { bad = bad; inv = jobs.aim-apply inv i m x v }
+    aim2 false second m e x v = record { bad = bad; inv = jobs.begin-apply (jobs.aim-apply inv i m x v) i m e refl }
 
     -- the entry after its store
     stored : (t : Transaction) → entryOf (putEntry (s .log) i t) i ≡ t
     stored t = entry-put (s .log) i t p q
 
-    abort2 : (cut : Bool) → NextChange → en i .change .apply ≡ Pending → settled s ≡ true
-        → Does s Keeps false i cut (job2.plans apply.Abort (en i) (s .applied .head) (num i))
+    abort2 : (cut second : Bool) → NextChange → en i .change .apply ≡ Pending → settled s ≡ true
+        → Does s Keeps false i cut second (job2.plans apply.Abort (en i) (s .applied .head) (num i))
     unfolding opsOf
-    abort2 true m e x = record { bad = bad; inv = jobs.abort-apply inv i m e x }
-    abort2 false m e x =
+    abort2 true second m e x = record { bad = bad; inv = jobs.abort-apply inv i m e x }
+    abort2 false second m e x =
         let t = withChange (en i) (applyAt (en i .change) Aborted) in
         let w : entryOf (putEntry (s .log) i t) i ≡ t = stored t in
         record {
@@ -143,10 +143,10 @@ module _ (s : State) (es : List Event) (bad : List ℕ) (inv : Invariant s (opsO
           inv = rw w at (jobs.close-aborted (jobs.abort-apply inv i m e x) i (rw w m) (rw w refl));
         }
 
-    fail2 : (cut : Bool) → NextChange → en i .change .apply ≡ InProgress → Does s Keeps false i cut (job2.plans apply.Fail (en i) (s .applied .head) (num i))
+    fail2 : (cut second : Bool) → NextChange → en i .change .apply ≡ InProgress → Does s Keeps false i cut second (job2.plans apply.Fail (en i) (s .applied .head) (num i))
     unfolding opsOf
-    fail2 true m e = record { bad = bad; inv = jobs.fail-apply inv i m e }
-    fail2 false m e =
+    fail2 true second m e = record { bad = bad; inv = jobs.fail-apply inv i m e }
+    fail2 false second m e =
         let t = withChange (en i) (applyAt (en i .change) Failed) in
         let w : entryOf (putEntry (s .log) i t) i ≡ t = stored t in
         record {
@@ -154,23 +154,25 @@ module _ (s : State) (es : List Event) (bad : List ℕ) (inv : Invariant s (opsO
           inv = rw w at (jobs.close-failed (jobs.fail-apply inv i m e) i (rw w m) (rw w refl));
         }
 
-    push2 : (n : ℕ) (cut : Bool) → NextChange → en i .change .apply ≡ InProgress → lineOpenFor (s .net) n ≡ true
-        → Does s Keeps false i cut (job2.plans apply.Push (en i) (s .applied .head) (num i))
+    -- a push: three stores
+    push2 : (first second : Bool) → NextChange → en i .change .apply ≡ InProgress
+        → Does s Keeps false i first second (job2.plans apply.Push (en i) (s .applied .head) (num i))
     unfolding opsOf
-    push2 n true m e l = record { bad = bad; inv = jobs.push-apply inv i m n e l }
-    push2 n false m e l = record { bad = bad; inv = jobs.finish-apply (jobs.push-apply inv i m n e l) i (m .0) e refl }
+    push2 true second m e = still _ (jobs.wires inv _)
+    push2 false true m e = record { bad = bad; inv = jobs.push-apply inv i m _ e }
+    push2 false false m e = record { bad = bad; inv = jobs.finish-apply (jobs.push-apply inv i m _ e) i (m .0) e refl }
 
-    aim4 : (cut : Bool) → NextRollback → en i .rollback .apply ≡ Pending → wasTried (en i .change .apply) ≡ true → settled s ≡ true
-        → Does s Keeps false i cut (job4.plans return.Aim (en i) (s .applied .head) (num i))
+    aim4 : (cut second : Bool) → NextRollback → en i .rollback .apply ≡ Pending → wasTried (en i .change .apply) ≡ true → settled s ≡ true
+        → Does s Keeps false i cut second (job4.plans return.Aim (en i) (s .applied .head) (num i))
     unfolding opsOf
-    aim4 true m e t x = record { bad = bad; inv = jobs.aim-return inv i m x }
-    aim4 false m e t x = record { bad = bad; inv = jobs.begin-return (jobs.aim-return inv i m x) i m e t refl }
+    aim4 true second m e t x = record { bad = bad; inv = jobs.aim-return inv i m x }
+    aim4 false second m e t x = record { bad = bad; inv = jobs.begin-return (jobs.aim-return inv i m x) i m e t refl }
 
-    cancel4 : (cut : Bool) → NextRollback → en i .rollback .apply ≡ Pending → en i .change .apply ≡ Aborted → settled s ≡ true
-        → Does s Keeps false i cut (job4.plans return.Cancel (en i) (s .applied .head) (num i))
+    cancel4 : (cut second : Bool) → NextRollback → en i .rollback .apply ≡ Pending → en i .change .apply ≡ Aborted → settled s ≡ true
+        → Does s Keeps false i cut second (job4.plans return.Cancel (en i) (s .applied .head) (num i))
     unfolding opsOf
-    cancel4 true m e a x = record { bad = bad; inv = jobs.cancel-return inv i m e a x }
-    cancel4 false m e a x =
+    cancel4 true second m e a x = record { bad = bad; inv = jobs.cancel-return inv i m e a x }
+    cancel4 false second m e a x =
         let t = withRollback (en i) (applyAt (en i .rollback) Canceled) in
         let w : entryOf (putEntry (s .log) i t) i ≡ t = stored t in
         record {
@@ -178,11 +180,12 @@ module _ (s : State) (es : List Event) (bad : List ℕ) (inv : Invariant s (opsO
           inv = rw w at (jobs.close-return (jobs.cancel-return inv i m e a x) i (rw w m) (rw w refl));
         }
 
-    push4 : (n : ℕ) (cut : Bool) → NextRollback → en i .rollback .apply ≡ InProgress → lineOpenFor (s .net) n ≡ true
-        → Does s Keeps false i cut (job4.plans return.Push (en i) (s .applied .head) (num i))
+    push4 : (first second : Bool) → NextRollback → en i .rollback .apply ≡ InProgress
+        → Does s Keeps false i first second (job4.plans return.Push (en i) (s .applied .head) (num i))
     unfolding opsOf
-    push4 n true m e l = record { bad = tail bad; inv = jobs.push-return inv i m n e l }
-    push4 n false m e l = record { bad = tail bad; inv = jobs.finish-return (jobs.push-return inv i m n e l) i (m .0) e refl }
+    push4 true second m e = still _ (jobs.wires inv _)
+    push4 false true m e = record { bad = tail bad; inv = jobs.push-return inv i m _ e }
+    push4 false false m e = record { bad = tail bad; inv = jobs.finish-return (jobs.push-return inv i m _ e) i (m .0) e refl }
 
   pub calls : {R : List Pair → Type 0} → Calls s Keeps R
   unfolding opsOf
@@ -191,54 +194,54 @@ module _ (s : State) (es : List Event) (bad : List ℕ) (inv : Invariant s (opsO
         refused = λ a n. still s inv;
         append = λ ps e b. record { bad = bad; inv = jobs.append inv ps };
         rollback = λ i p q e. still _ (jobs.ask inv i e);
-        start = λ e. still _ (jobs.wires inv _ (start-wired (s .net) _ (inv .line) e));
-        stop = still _ (jobs.wires inv _ (stop-wired (s .net) _ (inv .line)));
-        connect = λ n p e. still _ (jobs.wires inv _ (connect-wired (s .net) _ (inv .line) n p e));
-        disconnect = λ n. still _ (jobs.wires inv _ (disconnect-wired (s .net) _ (inv .line) n));
-        elect = λ n b t e. still _ (jobs.wires inv _ (elect-wired (s .net) _ (inv .line) n t e));
-        resign = still _ (jobs.wires inv _ (resign-wired (s .net) _ (inv .line)));
-        syncing = still _ (jobs.wires inv _ (syncing-wired (s .net) _ (inv .line)));
-        synced = still _ (jobs.wires inv _ (synced-wired (s .net) _ (inv .line)));
-        job1 = λ i p q cut. record {
+        start = λ e. still _ (jobs.wires inv _);
+        stop = still _ (jobs.wires inv _);
+        connect = λ n p e. still _ (jobs.wires inv _);
+        disconnect = λ n. still _ (jobs.wires inv _);
+        elect = λ n b t e. still _ (jobs.wires inv _);
+        resign = still _ (jobs.wires inv _);
+        syncing = still _ (jobs.wires inv _);
+        synced = still _ (jobs.wires inv _);
+        job1 = λ i p q cut second. record {
           wait = still s inv;
           full = λ a b d. still s inv;
           begin = λ e n g. still _ (jobs.begin-change inv i e n g);
-          aim = aim1 i p q cut;
-          land = λ e n b o x. land1 i p q cut e n o x;
-          reject = reject1 i p q cut;
+          aim = aim1 i p q cut second;
+          land = λ e n b o x. land1 i p q cut second e n o x;
+          reject = reject1 i p q cut second;
           finish = λ e n. still _ (jobs.finish-change inv i e n);
           close = λ e n. still _ (jobs.pass-change inv i n q e);
         };
-        job2 = λ n i p q cut. record {
+        job2 = λ n i p q cut second. record {
           wait = still s inv;
           noLine = still s inv;
           begin = λ m e g. still _ (jobs.begin-apply inv i m e g);
-          aim = aim2 i p q cut;
-          abort = λ m e x g. abort2 i p q cut m e x;
+          aim = aim2 i p q cut second;
+          abort = λ m e x g. abort2 i p q cut second m e x;
           closeAborted = λ m e. record { bad = i ∷ bad; inv = jobs.close-aborted inv i m e };
           closeFailed = λ m e. record { bad = i ∷ bad; inv = jobs.close-failed inv i m e };
           finish = λ m e o. still _ (jobs.finish-apply inv i m e o);
-          fail = fail2 i p q cut;
-          push = push2 i p q n cut;
+          fail = fail2 i p q cut second;
+          push = λ m e l. push2 i p q cut second m e;
         };
-        job3 = λ i p q cut. record {
+        job3 = λ i p q cut second. record {
           wait = still s inv;
           full = λ a b d. still s inv;
           begin = λ e n g. still _ (jobs.begin-rollback inv i (omega arith) e n g);
-          aim = aim3 i p q cut;
-          land = λ e n b o x. land3 i p q cut e n o x;
+          aim = aim3 i p q cut second;
+          land = λ e n b o x. land3 i p q cut second e n o x;
           finish = λ e d n. still _ (jobs.finish-rollback inv i e d n);
         };
-        job4 = λ n i p q cut. record {
+        job4 = λ n i p q cut second. record {
           wait = still s inv;
           noLine = still s inv;
           rejected = still s inv;
           begin = λ m e t g. still _ (jobs.begin-return inv i m e t g);
-          aim = aim4 i p q cut;
-          cancel = cancel4 i p q cut;
+          aim = aim4 i p q cut second;
+          cancel = cancel4 i p q cut second;
           close = λ m e. record { bad = tail bad; inv = jobs.close-return inv i m e };
           finish = λ m e o. still _ (jobs.finish-return inv i m e o);
-          push = push4 i p q n cut;
+          push = λ m e l. push4 i p q cut second m e;
         };
       }
 
@@ -303,7 +306,6 @@ fresh-reached =
         numbered = none-all (λ k u. Numbered [] k (u .change .ordinal .0) (u .rollback .ordinal .0)) (λ k. record { change = λ o x. absurd (omega arith); rollback = λ o x. absurd (omega arith) });
         committed = fresh-committed;
         applied = fresh-applied;
-        line = fresh-wired;
       };
     }
 
@@ -317,12 +319,12 @@ pub record Folded (cs : List Call) : Type 0 where
   pub reached : Reached (whole cs) (run cs .events)
 
 -- one call more, whatever it is
-follows : (cs : List Call) → Folded cs → (P : Reply → State → Type 0) → ((a : ℕ) → P (refusal a) (whole cs)) → (c : Call) → Calls (whole cs) P (λ ps. c ≡ append ps)
-    → Followed P (step (run cs .state) c .reply) (step (run cs .state) c .next) (whole (c ∷ cs))
+follows : (cs : List Call) → Folded cs → (P : Note → Reply → State → Type 0) → ((a : ℕ) → P nothing (refusal a) (whole cs)) → (c : Call) → Calls (whole cs) P (λ ps. c ≡ append ps)
+    → Followed P (note (run cs .state) c) (step (run cs .state) c .reply) (step (run cs .state) c .next) (whole (c ∷ cs))
 unfolding whole
 follows cs x P same c k =
     let i = x .reached .inv in
-    subst (λ s. Followed P (step s c .reply) (step s c .next) (afters (whole cs) (unlessFold c (outcome s c .stores)))) (sym (x .shows))
+    subst (λ s. Followed P (note s c) (step s c .reply) (step s c .next) (afters (whole cs) (unlessFold c (outcome s c .stores)))) (sym (x .shows))
     (follow (whole cs) (x .fold) (x .base) (x .front) (x .passed) (rest-seen i (x .fold) (x .base) (x .front)) (settled-seen i (x .fold) (x .base) (x .front)) P same c k
     (fold-front i (x .fold) (x .base) (x .front)) (λ c p q m. fold-passed i (x .fold) (x .base) (x .front) c p q m (x .passed)))
 
@@ -343,8 +345,8 @@ pub reached : (cs : List Call) → Reached (whole cs) (run cs .events)
 reached cs = folded cs .reached
 
 -- what every way to accept a call keeps of the whole, every call keeps
-pub by-history : (cs : List Call) (P : Reply → State → Type 0) → ((a : ℕ) → P (refusal a) (whole cs)) → (c : Call) → Calls (whole cs) P (λ ps. c ≡ append ps)
-    → P (step (run cs .state) c .reply) (whole (c ∷ cs))
+pub by-history : (cs : List Call) (P : Note → Reply → State → Type 0) → ((a : ℕ) → P nothing (refusal a) (whole cs)) → (c : Call) → Calls (whole cs) P (λ ps. c ≡ append ps)
+    → P (note (run cs .state) c) (step (run cs .state) c .reply) (whole (c ∷ cs))
 by-history cs P same c k = follows cs (folded cs) P same c k .holds
 
 -- ---- demand 3
@@ -395,46 +397,39 @@ module _ (s : State) (es : List Event) (r : Reached s es) where
         sym (up (shownLog (s .log) b vs) (s .log) (entry-seen s b vs f) g p e (last (s .log)) (f .within))
         ∙ ap (λ n. highest (shownLog (s .log) b vs) (λ k. ltb b k && g k) n p) (sym (last-seen s b vs f))
 
-    shown-demand : Demand3 (shown s b vs) es
-    shown-demand =
-        record {
-          committed = λ p q. co .holds p q
-              ∙ val-highest (s .log) (live es 1) (last (s .log)) (stack (opsOf Complete 1 es)) (stack-falls _ (co .rising)) stack-in live-committed p (none p q)
-              ∙ read-on (live es 1) p (base-committed p q);
-          applied = λ p q. r .inv .applied .holds p q
-              ∙ val-highest (s .log) (live es 2) (last (s .log)) (held (opsOf Complete 2 es)) held-down held-in live-applied p (none p q)
-              ∙ read-on (live es 2) p (base-applied p q);
-          line = open-holds (s .net) (s .applied .values) (r .inv .line);
-          live = live-seen (r .inv) b vs f (live es 1) live-committed ∙ ap (newestFirst (λ k. ltb b k && live es 1 k)) (sym (last-seen s b vs f));
-          hops = subst (λ ks. hopped (shownLog (s .log) b vs) (length ks) (s .committed .head .revision .0) ≤ b) (sym (live-above (r .inv) b vs f))
-              (subst (λ v. hopped (shownLog (s .log) b vs) (length (above b (stack (opsOf Complete 1 es)))) v ≤ b) (sym (co .tip))
-              (hopped-above (shownLog (s .log) b vs) (s .log) (entry-seen s b vs f) (stack (opsOf Complete 1 es)) (stack-linked (s .log) _ (co .rising) (co .linked))));
-        }
+    -- ---- demand 3 of what is shown, but for the line
+    pub committed-values : (p : ℕ) → p < 32
+        → getD (s .committed .values) p 0 ≡ highest (shownLog (s .log) b vs) (λ k. ltb b k && live es 1 k) (last (shownLog (s .log) b vs)) p
+    committed-values p q =
+        co .holds p q ∙ val-highest (s .log) (live es 1) (last (s .log)) (stack (opsOf Complete 1 es)) (stack-falls _ (co .rising)) stack-in live-committed p (none p q)
+        ∙ read-on (live es 1) p (base-committed p q)
 
--- demand 3, after any calls from fresh
-pub demand-3 : (cs : List Call) → Demand3 (run cs .state) (run cs .events)
-demand-3 cs =
-    let x = folded cs in
-    subst (λ s. Demand3 s (run cs .events)) (sym (x .shows)) (shown-demand (whole cs) (run cs .events) (x .reached) (x .fold) (x .base) (x .front))
+    pub applied-values : (p : ℕ) → p < 32
+        → getD (s .applied .values) p 0 ≡ highest (shownLog (s .log) b vs) (λ k. ltb b k && live es 2 k) (last (shownLog (s .log) b vs)) p
+    applied-values p q =
+        r .inv .applied .holds p q ∙ val-highest (s .log) (live es 2) (last (s .log)) (held (opsOf Complete 2 es)) held-down held-in live-applied p (none p q)
+        ∙ read-on (live es 2) p (base-applied p q)
 
--- ---- and of the whole: over all numbers ever given, with no base
-log-shown : (l : Log) → l .folded .0 ≡ 0 → l .base ≡ absent → l ≡ shownLog l 0 absent
+    pub live-list : list.live (shown s b vs) ≡ newestFirst (λ k. ltb b k && live es 1 k) (last (shownLog (s .log) b vs))
+    live-list = live-seen (r .inv) b vs f (live es 1) live-committed ∙ ap (newestFirst (λ k. ltb b k && live es 1 k)) (sym (last-seen s b vs f))
+
+    pub live-hops : hopped (shownLog (s .log) b vs) (length (list.live (shown s b vs))) (s .committed .head .revision .0) ≤ b
+    live-hops =
+        subst (λ ks. hopped (shownLog (s .log) b vs) (length ks) (s .committed .head .revision .0) ≤ b) (sym (live-above (r .inv) b vs f))
+        (subst (λ v. hopped (shownLog (s .log) b vs) (length (above b (stack (opsOf Complete 1 es)))) v ≤ b) (sym (co .tip))
+        (hopped-above (shownLog (s .log) b vs) (s .log) (entry-seen s b vs f) (stack (opsOf Complete 1 es)) (stack-linked (s .log) _ (co .rising) (co .linked))))
+
+-- ---- the whole is what is shown of it with nothing folded away
+pub log-shown : (l : Log) → l .folded .0 ≡ 0 → l .base ≡ absent → l ≡ shownLog l 0 absent
 log-shown l z a =
     ap (λ n. record { folded = num n; base = l .base; entries = l .entries }) z
     ∙ ap (λ vs. record { folded = num 0; base = vs; entries = l .entries }) a
     ∙ ap (λ n. record { folded = num 0; base = absent; entries = drop n (l .entries) }) (let e : 0 ≡ 0 - l .folded .0 = omega arith in e)
 
-front-zero : {l : Log} {b : ℕ} {vs : List ℕ} → Front l b vs → Front l 0 absent
+pub front-zero : {l : Log} {b : ℕ} {vs : List ℕ} → Front l b vs → Front l 0 absent
 unfolding highest
 front-zero f =
     record { whole = f .whole; absent = f .absent; within = omega arith; finished = λ k p q. absurd (omega arith); base = λ p q. ap (λ us. getD us p 0) (sym (f .absent)); room = refl }
-
-pub demand-3-whole : (cs : List Call) → Demand3 (whole cs) (run cs .events)
-demand-3-whole cs =
-    let x = folded cs in
-    let f = front-zero (x .front) in
-    subst (λ l. Demand3 (withLog (whole cs) l) (run cs .events)) (sym (log-shown (whole cs .log) (f .whole) (f .absent)))
-    (shown-demand (whole cs) (run cs .events) (x .reached) 0 absent f)
 
 -- the base values are what the changes folded away gave, by the whole history: those live at commit, and those live at apply
 pub base-is-committed : (cs : List Call) (p : ℕ) → p < 32

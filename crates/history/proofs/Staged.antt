@@ -33,7 +33,8 @@ use Rattle.machine.specs.State.{Log, State, entryOf, putEntry, grown, last, lin
 use Rattle.machine.specs.Rest.{markOf, restOf}
 use Rattle.machine.specs.Calls.{Call, Pair, appended, present}
 use Rattle.machine.specs.Settled.{settled}
-use Rattle.machine.specs.Step.{step, run}
+use Rattle.machine.specs.Step.{run}
+use Rattle.machine.specs.Notes.{Note}
 use Rattle.machine.proofs.Next.{putting}
 use Rattle.machine.specs.Stores.{withLog}
 use Rattle.machine.proofs.Cases.{and-left, and-right, complete-is}
@@ -378,8 +379,8 @@ module _ {s : State} {ops acts : List Op} {bad : List ℕ} (inv : Invariant s op
       (λ k x. omega (arith, asked co k x, co .high)) (st .mode)
 
 module _ (s : State) (es : List Event) (bad : List ℕ) (inv : Invariant s (opsOf Complete 1 es) (opsOf Complete 2 es) bad) (st : Stages s) where
-  abbrev Keeps : Reply → State → Type 0
-  Keeps r next = Stages next
+  abbrev Keeps : Note → Reply → State → Type 0
+  Keeps x r next = Stages next
 
   abbrev vs : ℕ → List ℕ
   vs i = present (s .committed .values) (entryOf (s .log) i)
@@ -404,23 +405,23 @@ module _ (s : State) (es : List Event) (bad : List ℕ) (inv : Invariant s (opsO
     begin-1 : tx i .change .commit ≡ Pending → i ≡ suc (s .change .0) → s .committed .head .target .0 ≡ i → Stages (putting s i (beginning (tx i) (s .committed .head .revision) (vs i)))
     begin-1 e n g = record { entries = begin1 inv st i e n _ _; mode = flies (g ∙ n) (subst (λ k. k ≤ last (putEntry (s .log) i (beginning (tx i) (s .committed .head .revision) (vs i)))) n (kept _)) }
 
-    aim-1 : (cut : Bool) → tx i .change .commit ≡ Pending → i ≡ suc (s .change .0) → restOf s ≡ true
-        → Does s Keeps true i cut (job1.plans change.Aim (tx i) (s .committed .head) (num i) (ord 0) (vs i))
-    aim-1 true e n r = record { entries = st .entries; mode = flies n (subst (λ k. k ≤ last (s .log)) n q) }
-    aim-1 false e n r =
+    aim-1 : (cut second : Bool) → tx i .change .commit ≡ Pending → i ≡ suc (s .change .0) → restOf s ≡ true
+        → Does s Keeps true i cut second (job1.plans change.Aim (tx i) (s .committed .head) (num i) (ord 0) (vs i))
+    aim-1 true second e n r = record { entries = st .entries; mode = flies n (subst (λ k. k ≤ last (s .log)) n q) }
+    aim-1 false second e n r =
         record {
           entries = begin1 inv st i e n _ _;
           mode = flies n (subst (λ k. k ≤ last (putEntry (s .log) i (beginning (tx i) (s .committed .head .revision) (vs i)))) n (kept _));
         }
 
     landed-1 : tx i .change .commit ≡ InProgress → i ≡ suc (s .change .0) → (o : Ordinal) → o .0 ≡ suc (s .committed .head .ordinal .0)
-        → Does s Keeps true i true (job1.plans change.Land (tx i) (s .committed .head) (num i) o (vs i))
+        → Does s Keeps true i true true (job1.plans change.Land (tx i) (s .committed .head) (num i) o (vs i))
     landed-1 e n o x = record { entries = land inv st i i (o .0) (beyond inv st i InProgress refl e n) x; mode = closes i e (omega arith) }
 
-    land-1 : (cut : Bool) → tx i .change .commit ≡ InProgress → i ≡ suc (s .change .0) → (o : Ordinal) → o .0 ≡ suc (s .committed .head .ordinal .0)
-        → Does s Keeps true i cut (job1.plans change.Land (tx i) (s .committed .head) (num i) o (vs i))
-    land-1 true e n o x = landed-1 e n o x
-    land-1 false e n o x =
+    land-1 : (cut second : Bool) → tx i .change .commit ≡ InProgress → i ≡ suc (s .change .0) → (o : Ordinal) → o .0 ≡ suc (s .committed .head .ordinal .0)
+        → Does s Keeps true i cut second (job1.plans change.Land (tx i) (s .committed .head) (num i) o (vs i))
+    land-1 true second e n o x = landed-1 e n o x
+    land-1 false second e n o x =
         let t = withChange (tx i) (committed (tx i .change) o) in
         record {
           entries = finish1 (jobs.land-change inv i o e n q x) (landed-1 e n o x) i o e (omega (arith, reach inv st));
@@ -434,10 +435,10 @@ module _ (s : State) (es : List Event) (bad : List ℕ) (inv : Invariant s (opsO
           mode = flies (inv .committed .entries i .flight e n .target ∙ n) (subst (λ k. k ≤ last (putEntry (s .log) i (withChange (tx i) (invalid (tx i .change))))) n (kept _));
         }
 
-    reject-1 : (cut : Bool) → tx i .change .commit ≡ InProgress → i ≡ suc (s .change .0)
-        → Does s Keeps true i cut (job1.plans change.Reject (tx i) (s .committed .head) (num i) (ord 0) (vs i))
-    reject-1 true e n = rejected-1 e n
-    reject-1 false e n =
+    reject-1 : (cut second : Bool) → tx i .change .commit ≡ InProgress → i ≡ suc (s .change .0)
+        → Does s Keeps true i cut second (job1.plans change.Reject (tx i) (s .committed .head) (num i) (ord 0) (vs i))
+    reject-1 true second e n = rejected-1 e n
+    reject-1 false second e n =
         let t = withChange (tx i) (invalid (tx i .change)) in
         record {
           entries = pass (jobs.fail-change inv i e n) (rejected-1 e n) i (ap (λ u. u .change .commit) (stored t)) n;
@@ -453,7 +454,7 @@ module _ (s : State) (es : List Event) (bad : List ℕ) (inv : Invariant s (opsO
           mode = rest-change (putEntry (s .log) i t) (s .change .0) (s .committed .head) (omega (arith, f .index)) (f .target ∙ sym (f .index)) (rw (f .index) (ap (λ u. done (u .change .commit)) (stored t)));
         }
 
-    close-1 : tx i .change .commit ≡ Failed → i ≡ suc (s .change .0) → Does s Keeps true i true (job1.plans change.Close (tx i) (s .committed .head) (num i) (ord 0) (vs i))
+    close-1 : tx i .change .commit ≡ Failed → i ≡ suc (s .change .0) → Does s Keeps true i true true (job1.plans change.Close (tx i) (s .committed .head) (num i) (ord 0) (vs i))
     close-1 e n = record { entries = pass inv st i e n; mode = rest-change (s .log) i _ above (inv .committed .entries i .failing e n) (ap done e) }
 
     -- ---- job 3
@@ -467,14 +468,14 @@ module _ (s : State) (es : List Event) (bad : List ℕ) (inv : Invariant s (opsO
               (rw n (ap (λ u. done (u .rollback .commit)) (stored t)));
         }
 
-    aim-3 : (cut : Bool) → tx i .rollback .commit ≡ Pending → s .committed .head .revision .0 ≡ i → restOf s ≡ true
-        → Does s Keeps true i cut (job3.plans rollback.Aim (tx i) (s .committed .head) (num i) (ord 0))
-    aim-3 true e n r =
+    aim-3 : (cut second : Bool) → tx i .rollback .commit ≡ Pending → s .committed .head .revision .0 ≡ i → restOf s ≡ true
+        → Does s Keeps true i cut second (job3.plans rollback.Aim (tx i) (s .committed .head) (num i) (ord 0))
+    aim-3 true second e n r =
         record {
           entries = st .entries;
           mode = returns (ap (λ k. tx k .index .0) (sym n)) (λ x. differ Pending None refl (sym e ∙ ap (λ k. tx k .rollback .commit) (sym n) ∙ x)) (ap (λ k. done (tx k .rollback .commit)) n ∙ ap done e);
         }
-    aim-3 false e n r =
+    aim-3 false second e n r =
         let t = withRollback (tx i) (begun (tx i .rollback)) in
         record {
           entries = begin3 inv st i e n;
@@ -484,14 +485,14 @@ module _ (s : State) (es : List Event) (bad : List ℕ) (inv : Invariant s (opsO
         }
 
     landed-3 : tx i .rollback .commit ≡ InProgress → s .committed .head .revision .0 ≡ i → (o : Ordinal) → o .0 ≡ suc (s .committed .head .ordinal .0)
-        → Does s Keeps true i true (job3.plans rollback.Land (tx i) (s .committed .head) (num i) o)
+        → Does s Keeps true i true true (job3.plans rollback.Land (tx i) (s .committed .head) (num i) o)
     landed-3 e n o x =
         record { entries = land inv st _ _ (o .0) (λ k. st .entries k .waits) x; mode = closesBack i e (λ y. omega (arith, tip-back (inv .committed) i (sym n) above)) }
 
-    land-3 : (cut : Bool) → tx i .rollback .commit ≡ InProgress → s .committed .head .revision .0 ≡ i → (o : Ordinal) → o .0 ≡ suc (s .committed .head .ordinal .0)
-        → Does s Keeps true i cut (job3.plans rollback.Land (tx i) (s .committed .head) (num i) o)
-    land-3 true e n o x = landed-3 e n o x
-    land-3 false e n o x =
+    land-3 : (cut second : Bool) → tx i .rollback .commit ≡ InProgress → s .committed .head .revision .0 ≡ i → (o : Ordinal) → o .0 ≡ suc (s .committed .head .ordinal .0)
+        → Does s Keeps true i cut second (job3.plans rollback.Land (tx i) (s .committed .head) (num i) o)
+    land-3 true second e n o x = landed-3 e n o x
+    land-3 false second e n o x =
         let t = withRollback (tx i) (committed (tx i .rollback) o) in
         record {
           entries = finish3 (jobs.land-rollback inv i o above e n x) (landed-3 e n o x) i o e (omega (arith, reach inv st));
@@ -520,59 +521,61 @@ module _ (s : State) (es : List Event) (bad : List ℕ) (inv : Invariant s (opsO
     abbrev NextRollback : Type 0
     NextRollback = (tx i .rollback .commit ≡ Complete) × (tx i .rollback .ordinal .0 ≡ suc at)
 
-    aim-2 : (cut : Bool) → NextChange → Does s Keeps false i cut (job2.plans apply.Aim (tx i) (s .applied .head) (num i))
-    aim-2 true m = record { entries = st .entries; mode = st .mode }
-    aim-2 false m = record { entries = set-change inv st i InProgress refl refl (omega (arith, m .1)); mode = mode-put inv st i _ (record { change = refl; rollback = λ y. refl; still = refl; index = refl }) }
+    aim-2 : (cut second : Bool) → NextChange → Does s Keeps false i cut second (job2.plans apply.Aim (tx i) (s .applied .head) (num i))
+    aim-2 true second m = record { entries = st .entries; mode = st .mode }
+    aim-2 false second m = record { entries = set-change inv st i InProgress refl refl (omega (arith, m .1)); mode = mode-put inv st i _ (record { change = refl; rollback = λ y. refl; still = refl; index = refl }) }
 
-    abort-2 : (cut : Bool) → NextChange → tx i .change .apply ≡ Pending → settled s ≡ true
-        → Does s Keeps false i cut (job2.plans apply.Abort (tx i) (s .applied .head) (num i))
-    abort-2 true m e x = apply-2 Aborted refl refl (omega (arith, m .1))
-    abort-2 false m e x =
+    abort-2 : (cut second : Bool) → NextChange → tx i .change .apply ≡ Pending → settled s ≡ true
+        → Does s Keeps false i cut second (job2.plans apply.Abort (tx i) (s .applied .head) (num i))
+    abort-2 true second m e x = apply-2 Aborted refl refl (omega (arith, m .1))
+    abort-2 false second m e x =
         let t = withChange (tx i) (applyAt (tx i .change) Aborted) in
         let w : entryOf (putEntry (s .log) i t) i ≡ t = stored t in
         let k = apply-2 Aborted refl refl (omega (arith, m .1)) in
         record { entries = pass2 (jobs.abort-apply inv i m e x) k i (rw w (m .0)) _ (m .1) (rw w (m .1)) (rw w refl); mode = k .mode }
 
-    fail-2 : (cut : Bool) → NextChange → tx i .change .apply ≡ InProgress → Does s Keeps false i cut (job2.plans apply.Fail (tx i) (s .applied .head) (num i))
-    fail-2 true m e = apply-2 Failed refl refl (omega (arith, m .1))
-    fail-2 false m e =
+    fail-2 : (cut second : Bool) → NextChange → tx i .change .apply ≡ InProgress → Does s Keeps false i cut second (job2.plans apply.Fail (tx i) (s .applied .head) (num i))
+    fail-2 true second m e = apply-2 Failed refl refl (omega (arith, m .1))
+    fail-2 false second m e =
         let t = withChange (tx i) (applyAt (tx i .change) Failed) in
         let w : entryOf (putEntry (s .log) i t) i ≡ t = stored t in
         let k = apply-2 Failed refl refl (omega (arith, m .1)) in
         record { entries = pass2 (jobs.fail-apply inv i m e) k i (rw w (m .0)) _ (m .1) (rw w (m .1)) (rw w refl); mode = k .mode }
 
-    pushed-2 : NextChange → tx i .change .apply ≡ InProgress → Does s Keeps false i true (job2.plans apply.Push (tx i) (s .applied .head) (num i))
+    pushed-2 : NextChange → tx i .change .apply ≡ InProgress → Does s Keeps false i false true (job2.plans apply.Push (tx i) (s .applied .head) (num i))
     pushed-2 m e = record { entries = pass2 inv st i (m .0) _ (m .1) (m .1) (ap changeTouched e); mode = st .mode }
 
-    push-2 : (n : ℕ) (cut : Bool) → NextChange → tx i .change .apply ≡ InProgress → lineOpenFor (s .net) n ≡ true
-        → Does s Keeps false i cut (job2.plans apply.Push (tx i) (s .applied .head) (num i))
-    push-2 n true m e l = pushed-2 m e
-    push-2 n false m e l =
-        let j = jobs.push-apply inv i m n e l in
+    push-2 : (first second : Bool) → NextChange → tx i .change .apply ≡ InProgress
+        → Does s Keeps false i first second (job2.plans apply.Push (tx i) (s .applied .head) (num i))
+    push-2 true second m e = record { entries = st .entries; mode = st .mode }
+    push-2 false true m e = pushed-2 m e
+    push-2 false false m e =
+        let j = jobs.push-apply inv i m _ e in
         let k = pushed-2 m e in
         record { entries = set-change j k i Complete refl refl (omega arith); mode = mode-put j k i _ (record { change = refl; rollback = λ y. refl; still = refl; index = refl }) }
 
-    aim-4 : (cut : Bool) → NextRollback → Does s Keeps false i cut (job4.plans return.Aim (tx i) (s .applied .head) (num i))
-    aim-4 true m = record { entries = st .entries; mode = st .mode }
-    aim-4 false m = record { entries = set-rollback inv st i InProgress refl refl (omega (arith, m .1)); mode = mode-put inv st i _ (record { change = refl; rollback = λ y. refl; still = refl; index = refl }) }
+    aim-4 : (cut second : Bool) → NextRollback → Does s Keeps false i cut second (job4.plans return.Aim (tx i) (s .applied .head) (num i))
+    aim-4 true second m = record { entries = st .entries; mode = st .mode }
+    aim-4 false second m = record { entries = set-rollback inv st i InProgress refl refl (omega (arith, m .1)); mode = mode-put inv st i _ (record { change = refl; rollback = λ y. refl; still = refl; index = refl }) }
 
-    cancel-4 : (cut : Bool) → NextRollback → tx i .rollback .apply ≡ Pending → tx i .change .apply ≡ Aborted → settled s ≡ true
-        → Does s Keeps false i cut (job4.plans return.Cancel (tx i) (s .applied .head) (num i))
-    cancel-4 true m e d x = apply-4 Canceled refl refl (omega (arith, m .1))
-    cancel-4 false m e d x =
+    cancel-4 : (cut second : Bool) → NextRollback → tx i .rollback .apply ≡ Pending → tx i .change .apply ≡ Aborted → settled s ≡ true
+        → Does s Keeps false i cut second (job4.plans return.Cancel (tx i) (s .applied .head) (num i))
+    cancel-4 true second m e d x = apply-4 Canceled refl refl (omega (arith, m .1))
+    cancel-4 false second m e d x =
         let t = withRollback (tx i) (applyAt (tx i .rollback) Canceled) in
         let w : entryOf (putEntry (s .log) i t) i ≡ t = stored t in
         let k = apply-4 Canceled refl refl (omega (arith, m .1)) in
         record { entries = pass4 (jobs.cancel-return inv i m e d x) k i (rw w (m .0)) _ (m .1) (rw w (m .1)) (rw w refl); mode = k .mode }
 
-    pushed-4 : NextRollback → tx i .rollback .apply ≡ InProgress → Does s Keeps false i true (job4.plans return.Push (tx i) (s .applied .head) (num i))
+    pushed-4 : NextRollback → tx i .rollback .apply ≡ InProgress → Does s Keeps false i false true (job4.plans return.Push (tx i) (s .applied .head) (num i))
     pushed-4 m e = record { entries = pass4 inv st i (m .0) _ (m .1) (m .1) (ap rollbackTouched e); mode = st .mode }
 
-    push-4 : (n : ℕ) (cut : Bool) → NextRollback → tx i .rollback .apply ≡ InProgress → lineOpenFor (s .net) n ≡ true
-        → Does s Keeps false i cut (job4.plans return.Push (tx i) (s .applied .head) (num i))
-    push-4 n true m e l = pushed-4 m e
-    push-4 n false m e l =
-        let j = jobs.push-return inv i m n e l in
+    push-4 : (first second : Bool) → NextRollback → tx i .rollback .apply ≡ InProgress
+        → Does s Keeps false i first second (job4.plans return.Push (tx i) (s .applied .head) (num i))
+    push-4 true second m e = record { entries = st .entries; mode = st .mode }
+    push-4 false true m e = pushed-4 m e
+    push-4 false false m e =
+        let j = jobs.push-return inv i m _ e in
         let k = pushed-4 m e in
         record { entries = set-rollback j k i Complete refl refl (omega arith); mode = mode-put j k i _ (record { change = refl; rollback = λ y. refl; still = refl; index = refl }) }
 
@@ -616,46 +619,46 @@ module _ (s : State) (es : List Event) (bad : List ℕ) (inv : Invariant s (opsO
         resign = record { entries = st .entries; mode = st .mode };
         syncing = record { entries = st .entries; mode = st .mode };
         synced = record { entries = st .entries; mode = st .mode };
-        job1 = λ i p q cut. record {
+        job1 = λ i p q cut second. record {
           wait = st;
           full = λ a b d. st;
           begin = begin-1 i p q;
-          aim = aim-1 i p q cut;
-          land = λ e n b o x. land-1 i p q cut e n o x;
-          reject = reject-1 i p q cut;
+          aim = aim-1 i p q cut second;
+          land = λ e n b o x. land-1 i p q cut second e n o x;
+          reject = reject-1 i p q cut second;
           finish = finish-1 i p q;
           close = close-1 i p q;
         };
-        job2 = λ n i p q cut. record {
+        job2 = λ n i p q cut second. record {
           wait = st;
           noLine = st;
           begin = λ m e g. apply-2 i p q InProgress refl refl (omega (arith, m .1));
-          aim = λ m e x r. aim-2 i p q cut m;
-          abort = λ m e x g. abort-2 i p q cut m e x;
+          aim = λ m e x r. aim-2 i p q cut second m;
+          abort = λ m e x g. abort-2 i p q cut second m e x;
           closeAborted = λ m e. record { entries = pass2 inv st i (m .0) _ (m .1) (m .1) (ap changeTouched e); mode = st .mode };
           closeFailed = λ m e. record { entries = pass2 inv st i (m .0) _ (m .1) (m .1) (ap changeTouched e); mode = st .mode };
           finish = λ m e o. apply-2 i p q Complete refl refl (omega arith);
-          fail = fail-2 i p q cut;
-          push = push-2 i p q n cut;
+          fail = fail-2 i p q cut second;
+          push = λ m e l. push-2 i p q cut second m e;
         };
-        job3 = λ i p q cut. record {
+        job3 = λ i p q cut second. record {
           wait = st;
           full = λ a b d. st;
           begin = begin-3 i p q;
-          aim = aim-3 i p q cut;
-          land = λ e n b o x. land-3 i p q cut e n o x;
+          aim = aim-3 i p q cut second;
+          land = λ e n b o x. land-3 i p q cut second e n o x;
           finish = λ e d n. finish-3 i p q e d;
         };
-        job4 = λ n i p q cut. record {
+        job4 = λ n i p q cut second. record {
           wait = st;
           noLine = st;
           rejected = st;
           begin = λ m e t g. apply-4 i p q InProgress refl refl (omega (arith, m .1));
-          aim = λ m e t x. aim-4 i p q cut m;
-          cancel = cancel-4 i p q cut;
+          aim = λ m e t x. aim-4 i p q cut second m;
+          cancel = cancel-4 i p q cut second;
           close = λ m e. record { entries = pass4 inv st i (m .0) _ (m .1) (m .1) (ap rollbackTouched e); mode = st .mode };
           finish = λ m e o. apply-4 i p q Complete refl refl (omega arith);
-          push = push-4 i p q n cut;
+          push = λ m e l. push-4 i p q cut second m e;
         };
       }
 

@@ -16,7 +16,7 @@ use Rattle.kinds.specs.declared.Status.the-variants.{None, Pending, InProgress,
 use Rattle.kinds.specs.Statuses.{isComplete}
 use Rattle.rules.specs.ApplyRollback.{wasTried}
 use Rattle.machine.specs.State.{State, Part, Net, Log, entryOf, last, nodeOf}
-use Rattle.history.specs.Values.{look}
+use Rattle.machine.proofs.Overlay.{look}
 use Rattle.history.specs.Ops.{Op, push, pop, none, pushed, popped, top, stack, newest, Rising, opAt, first, Sub, held}
 
 -- ---- values by the changes that hold
@@ -285,7 +285,7 @@ pub record Applied (l : Log) (part : Part) (ops acts : List Op) (bad : List ℕ)
   pub aimed : (part .head .target .0 ≡ led ops (part .head .ordinal .0) → ⊥) → Ahead l ops (part .head .ordinal .0) (part .head .target .0)
   pub clear : (k : ℕ) → opAt ops (suc (part .head .ordinal .0)) ≡ push k → part .head .target .0 ≡ k → bad ≡ []
 
--- ---- the line
+-- ---- the line: `H` is what is said of the target's values while it is open (Switch)
 -- node n's line is open, its connection being x
 pub record Open (w : Net) (n : ℕ) (x : Connection) : Type 0 where
   pub some : 1 ≤ n
@@ -295,19 +295,18 @@ pub record Open (w : Net) (n : ℕ) (x : Connection) : Type 0 where
   pub state : w .configuration .state ≡ progress.Complete
   pub term : w .configuration .term .0 ≡ w .mastership .term .0
 
-pub record Node (w : Net) (applied : List ℕ) (n : ℕ) (x : Connection) : Type 0 where
+pub record Node (w : Net) (H : List ℕ → Type 0) (n : ℕ) (x : Connection) : Type 0 where
   pub ids : 1 ≤ n → w .mastership .master ≡ n → w .mastership .conn ≤ x .id
-  pub holds : Open w n x → w .values ≡ applied
+  pub holds : Open w n x → H (w .values)
   pub stopped : w .target .running ≡ false → x .connected ≡ false
 
-pub record Wired (w : Net) (applied : List ℕ) : Type 0 where
-  pub nodes : (n : ℕ) → Node w applied n (nodeOf (w .connections) n)
+pub record Wired (w : Net) (H : List ℕ → Type 0) : Type 0 where
+  pub nodes : (n : ℕ) → Node w H n (nodeOf (w .connections) n)
   pub older : w .configuration .term .0 ≤ w .mastership .term .0
 
--- ---- all of it
+-- ---- the log and both heads: it says nothing of the nodes' side
 pub record Invariant (s : State) (ops acts : List Op) (bad : List ℕ) : Type 0 where
   pub sides : (k : ℕ) → Sides (entryOf (s .log) k)
   pub numbered : (k : ℕ) → Numbered ops k (entryOf (s .log) k .change .ordinal .0) (entryOf (s .log) k .rollback .ordinal .0)
   pub committed : Committed (s .log) (s .change .0) (s .committed) ops
   pub applied : Applied (s .log) (s .applied) ops acts bad
-  pub line : Wired (s .net) (s .applied .values)

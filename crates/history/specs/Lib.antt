@@ -1,5 +1,6 @@
 -- The definitions of the history: all that one has to believe of this crate. Assumes nothing.
 pub mod Demand3
+pub mod MadeGood
 pub mod Values
 pub mod Ops
 pub mod Invariant

@@ -1,55 +1,17 @@
--- What pairs say of a path: laid over values, and put back by the values kept. Assumes nothing.
-use Prim.Native.Nat.{ℕ, _<_}
+-- What the values kept put back of those that a change is laid over (crate machine, Overlay, says what pairs say of a
+-- path). Assumes nothing.
+use Prim.Native.Nat.{ℕ}
 use mathlib.Core.List.{List}
-use mathlib.Core.Bool.{Bool, true, false, _&&_, _||_, cond}
-use mathlib.Core.Path.{_≡_, refl, sym, ap, _∙_}
-use lib.Dec.{eqb, ltb}
-use lib.ListN.{length, getD, set, length-set}
-use lib.Seq.{getD-set-same, getD-set-other}
-use borrow.Author.Tests.{eqb-true, eqb-false}
+use mathlib.Core.Bool.{Bool, true, false, _||_, cond}
+use mathlib.Core.Path.{_≡_, refl, ap}
+use lib.Dec.{ltb}
+use lib.ListN.{getD}
+use borrow.Author.Tests.{eqb-true}
 use Rattle.kinds.specs.declared.Transaction.{Transaction}
 use Rattle.machine.specs.Calls.{present, presentAt}
-use Rattle.machine.proofs.Next.{laying, layingAt, over}
+use Rattle.machine.proofs.Overlay.{namesAt, look}
 use Rattle.machine.proofs.Cases.{and-left, and-right}
 use Rattle.history.specs.Demand3.{sets, valueAt}
-
--- place k, of the n used ones, names path p
-abbrev pub namesAt : List ℕ → ℕ → ℕ → ℕ → Bool
-namesAt ps n p k = ltb k n && eqb (getD ps k 0) p
-
--- what n pairs say of path p, or d where they are silent
-unfoldable pub look : List ℕ → ℕ → List ℕ → ℕ → ℕ → ℕ
-look ps n vs p d =
-    cond (namesAt ps n p 3) (getD vs 3 0)
-    (cond (namesAt ps n p 2) (getD vs 2 0) (cond (namesAt ps n p 1) (getD vs 1 0) (cond (namesAt ps n p 0) (getD vs 0 0) d)))
-
-module _ (p : ℕ) where
-  at-laying : (b : Bool) (l : List ℕ) (q v : ℕ) → p < length l → getD (laying b l q v) p 0 ≡ cond (b && eqb q p) v (getD l p 0)
-  at-laying false l q v h = refl
-  at-laying true l q v h = go (eqb q p) refl
-    where
-      go : (t : Bool) → eqb q p ≡ t → getD (set l q v) p 0 ≡ cond t v (getD l p 0)
-      go true e = rw (eqb-true q p e) (getD-set-same l p v 0 h)
-      go false e = getD-set-other l q p v 0 (λ x. eqb-false q p e (sym x))
-
-  fits : (b : Bool) (l : List ℕ) (q v : ℕ) → p < length l → p < length (laying b l q v)
-  fits false l q v h = h
-  fits true l q v h = rw length-set h
-
-  pub at-over : (ps vs : List ℕ) (n : ℕ) (l : List ℕ) → p < length l → getD (over ps vs n l) p 0 ≡ look ps n vs p (getD l p 0)
-  unfolding over look
-  at-over ps vs n l h =
-      let a = layingAt ps vs n l 0 in
-      let b = layingAt ps vs n a 1 in
-      let c = layingAt ps vs n b 2 in
-      let ha : p < length a = fits (ltb 0 n) l (getD ps 0 0) (getD vs 0 0) h in
-      let hb : p < length b = fits (ltb 1 n) a (getD ps 1 0) (getD vs 1 0) ha in
-      let hc : p < length c = fits (ltb 2 n) b (getD ps 2 0) (getD vs 2 0) hb in
-      at-laying (ltb 3 n) c (getD ps 3 0) (getD vs 3 0) hc
-      ∙ ap (cond (namesAt ps n p 3) (getD vs 3 0))
-      (at-laying (ltb 2 n) b (getD ps 2 0) (getD vs 2 0) hb
-      ∙ ap (cond (namesAt ps n p 2) (getD vs 2 0))
-      (at-laying (ltb 1 n) a (getD ps 1 0) (getD vs 1 0) ha ∙ ap (cond (namesAt ps n p 1) (getD vs 1 0)) (at-laying (ltb 0 n) l (getD ps 0 0) (getD vs 0 0) h)))
 
 -- ---- what is kept puts back what stood there
 module _ (a b c d : Bool) (k0 k1 k2 k3 v0 v1 v2 v3 : ℕ) where
