@@ -25,7 +25,7 @@ use Rattle.rules.specs.declared.Synchronised.{Synchronised}
 use Rattle.rules.specs.Outside as outside
 use Rattle.machine.specs.State.{absent, entryOf, last, inLog, isKept, isNode, nodeOf, isMaster}
 use Rattle.machine.specs.Stores.{Store, ofApplied, grow, entry, targetValues, configuration, mastership, connections, target}
-use Rattle.machine.specs.Rows.{rowsOf}
+use Rattle.machine.specs.Rows.{rowsOf, eventOf}
 use Rattle.machine.specs.Calls.{Call, Outcome, rollback, start, stop, connect, disconnect, master, sync, work, refused, accepted, answers, validChange, appended, planOf, commits, planned, workOk, copyRow, decide}
 use Rattle.connections.specs.declared.Tabled.{Tabled}
 use Rattle.connections.specs.Table as table
@@ -254,12 +254,12 @@ module _ (l : List ℕ) (w : formed l ≡ true) (i n : ℕ) (k : Bool) (en : n �
         work-10 e p = refuses l (work a j i o c) 10 r (rw (← ef, t, in-log true h, kept-so, master-is false (ne-eqb (m .master) a e))) p
 
         pub worked : (pl : Plan) (d : Bool) (l1 : List ℕ) → m .master ≡ a → pl ≡ planOf (view l) a j i (eqb o 0) → d ≡ commits j
-            → l1 ≡ written l (rowsOf d pl i (eqb c 1)) → r ≡ record { answer = pl .answer; event = pl .event } → Does l (work a j i o c) r l1
+            → l1 ≡ written l (rowsOf d pl i (eqb c 1) (eqb c 2)) → r ≡ record { answer = pl .answer; event = eventOf pl (eqb c 1) } → Does l (work a j i o c) r l1
         unfolding decide
         worked pl d l1 e ep ed q p =
             does l (work a j i o c) (planned j pl i c) r l1
             (rw (← ef, t, in-log true h, kept-so, master-is true (eq-eqb (m .master) a e)) (ap (λ (x : Plan). planned j x i c) (sym ep))) p
-            (q ∙ ap (λ (x : Bool). written l (rowsOf x pl i (eqb c 1))) ed)
+            (q ∙ ap (λ (x : Bool). written l (rowsOf x pl i (eqb c 1) (eqb c 2))) ed)
 
 pub work-2 : (l : List ℕ) (i a j o c : ℕ) (fit : Bool) (r : Reply) → fit ≡ workOk a j o c → fit ≡ false → r ≡ refusal 2 → Does l (work a j i o c) r l
 unfolding decide

@@ -14,7 +14,7 @@ use Rattle.kinds.specs.Numbers.{num, follows, nextOrdinal}
 use Rattle.kinds.specs.Statuses.{isComplete}
 use Rattle.rules.specs.declared.Plan.{Plan}
 use Rattle.rules.specs.declared.Order.{Order}
-use Rattle.rules.specs.declared.Order.the-variants.{Neither, EntryOnly, HeadOnly, EntryThenHead, HeadThenEntry}
+use Rattle.rules.specs.declared.Order.the-variants.{Neither, EntryOnly, HeadOnly, EntryThenHead, HeadThenEntry, TargetThenHeadThenEntry}
 use Rattle.rules.specs.declared.ApplyChangeRule.the-variants as apply
 use Rattle.rules.specs.declared.ApplyRollbackRule.the-variants as return
 use Rattle.rules.specs.CommitChange as job1
@@ -162,18 +162,23 @@ pub record Beside (s next : State) (i : ℕ) : Type 0 where
   pub entry : (k : ℕ) → (k ≡ i → ⊥) → entryOf (next .log) k ≡ entryOf (s .log) k
   pub folded : next .log .folded ≡ s .log .folded
 
-beside : (o : Order) (b : Bool) (s : State) (p : Plan) (i : ℕ) (cut : Bool) → Beside s (performedBy o b s p i cut) i
-beside Neither b s p i cut = record { entry = λ k z. refl; folded = refl }
-beside EntryOnly b s p i cut = record { entry = put-other (s .log) i (p .entry); folded = refl }
-beside HeadOnly true s p i cut = record { entry = λ k z. refl; folded = refl }
-beside HeadOnly false s p i cut = record { entry = λ k z. refl; folded = refl }
-beside EntryThenHead b s p i true = record { entry = put-other (s .log) i (p .entry); folded = refl }
-beside EntryThenHead true s p i false = record { entry = put-other (s .log) i (p .entry); folded = refl }
-beside EntryThenHead false s p i false = record { entry = put-other (s .log) i (p .entry); folded = refl }
-beside HeadThenEntry true s p i true = record { entry = λ k z. refl; folded = refl }
-beside HeadThenEntry false s p i true = record { entry = λ k z. refl; folded = refl }
-beside HeadThenEntry true s p i false = record { entry = put-other (s .log) i (p .entry); folded = refl }
-beside HeadThenEntry false s p i false = record { entry = put-other (s .log) i (p .entry); folded = refl }
+beside : (o : Order) (b : Bool) (s : State) (p : Plan) (i : ℕ) (first second : Bool) → Beside s (performedBy o b s p i first second) i
+beside Neither b s p i first second = record { entry = λ k z. refl; folded = refl }
+beside EntryOnly b s p i first second = record { entry = put-other (s .log) i (p .entry); folded = refl }
+beside HeadOnly true s p i first second = record { entry = λ k z. refl; folded = refl }
+beside HeadOnly false s p i first second = record { entry = λ k z. refl; folded = refl }
+beside EntryThenHead b s p i true second = record { entry = put-other (s .log) i (p .entry); folded = refl }
+beside EntryThenHead true s p i false second = record { entry = put-other (s .log) i (p .entry); folded = refl }
+beside EntryThenHead false s p i false second = record { entry = put-other (s .log) i (p .entry); folded = refl }
+beside HeadThenEntry true s p i true second = record { entry = λ k z. refl; folded = refl }
+beside HeadThenEntry false s p i true second = record { entry = λ k z. refl; folded = refl }
+beside HeadThenEntry true s p i false second = record { entry = put-other (s .log) i (p .entry); folded = refl }
+beside HeadThenEntry false s p i false second = record { entry = put-other (s .log) i (p .entry); folded = refl }
+beside TargetThenHeadThenEntry b s p i true second = record { entry = λ k z. refl; folded = refl }
+beside TargetThenHeadThenEntry true s p i false true = record { entry = λ k z. refl; folded = refl }
+beside TargetThenHeadThenEntry false s p i false true = record { entry = λ k z. refl; folded = refl }
+beside TargetThenHeadThenEntry true s p i false false = record { entry = put-other (s .log) i (p .entry); folded = refl }
+beside TargetThenHeadThenEntry false s p i false false = record { entry = put-other (s .log) i (p .entry); folded = refl }
 
 module _ (s : State) (n j i r c : ℕ) (e : step s (work n j i r c) .reply .answer ≡ 0) where
   made : Worked s n j i r c
@@ -183,13 +188,13 @@ module _ (s : State) (n j i r c : ℕ) (e : step s (work n j i r c) .reply .answ
   p = planOf s n j i (eqb r 0)
 
   abbrev then : State
-  then = performed (commits j) s p i (eqb c 1)
+  then = performed (commits j) s p i (eqb c 1) (eqb c 2)
 
   on : Onward s then
-  on = onward s i n j (eqb r 0) (eqb c 1)
+  on = onward s i n j (eqb r 0) (eqb c 1) (eqb c 2)
 
   by : Beside s then i
-  by = beside (p .order) (commits j) s p i (eqb c 1)
+  by = beside (p .order) (commits j) s p i (eqb c 1) (eqb c 2)
 
   pub folds-nothing : step s (work n j i r c) .next .log .folded ≡ s .log .folded
   folds-nothing = ap (λ (u : State). u .log .folded) (made .next) ∙ by .folded

@@ -1,14 +1,17 @@
 -- A plan's stores as the code makes them, over variables: each row after the one before it. Assumes nothing.
 use Prim.Native.Nat.{ℕ, _+_, _≤_, _<_}
 use mathlib.Core.Path.{_≡_, refl, ap, sym, _∙_}
-use mathlib.Core.Bool.{Bool, true, false}
+use mathlib.Core.Bool.{Bool, true, false, _&&_, cond}
 use mathlib.Core.List.{List, [], _∷_, _++_}
 use native.Mathlib.Omega.{arith}
 use borrow.Author.Tests.{lt-ltb, le-ltb}
 use lib.ListN.{getD}
 use Rattle.kinds.specs.declared.Transaction.{Transaction}
 use Rattle.kinds.specs.declared.Number.{Number}
+use Rattle.kinds.specs.declared.Event.{Event}
 use Rattle.kinds.specs.Numbers.{num}
+use Rattle.kinds.specs.Events.{noEvent}
+use Rattle.rules.specs.Plans.{isPush}
 use Rattle.rules.specs.declared.Plan.{Plan}
 use Rattle.rules.specs.declared.Lay.{Lay}
 use Rattle.rules.specs.declared.Lay.the-variants.{Nothing}
@@ -93,30 +96,31 @@ commit-row l l1 l2 l3 i p q1 q2 q3 =
     rows-on l l1 l3 (committedHead (p .head) ∷ []) (changeRow (p .change) i ++ laid ofCommitted (p .lay) (p .entry)) q1
     (rows-on l1 l2 l3 (changeRow (p .change) i) (laid ofCommitted (p .lay) (p .entry)) q2 (q3 ofCommitted refl))
 
-pub apply-row : (l l1 l2 l3 : List ℕ) (i : ℕ) (p : Plan) → ((b : Table) → valuesAt b ≡ valuesAt ofTarget → l1 ≡ written l (laid b (p .lay) (p .entry)))
-    → l2 ≡ putHeadAt l1 appliedAt (p .head) → ((b : Table) → valuesAt b ≡ valuesAt ofApplied → l3 ≡ written l2 (laid b (p .lay) (p .entry)))
-    → l3 ≡ written l (headRow false p i)
+pub apply-row : (l l1 l2 : List ℕ) (i : ℕ) (p : Plan) → l1 ≡ putHeadAt l appliedAt (p .head)
+    → ((b : Table) → valuesAt b ≡ valuesAt ofApplied → l2 ≡ written l1 (laid b (p .lay) (p .entry))) → l2 ≡ written l (headRow false p i)
 unfolding written write
-apply-row l l1 l2 l3 i p q1 q2 q3 =
-    rows-on l l1 l3 (laid ofTarget (p .lay) (p .entry)) (appliedHead (p .head) ∷ laid ofApplied (p .lay) (p .entry)) (q1 ofTarget refl)
-    (rows-on l1 l2 l3 (appliedHead (p .head) ∷ []) (laid ofApplied (p .lay) (p .entry)) q2 (q3 ofApplied refl))
+apply-row l l1 l2 i p q1 q2 = rows-on l l1 l2 (appliedHead (p .head) ∷ []) (laid ofApplied (p .lay) (p .entry)) q1 (q2 ofApplied refl)
 
 pub row-if : (l m : List ℕ) (b c : Bool) (i : ℕ) (p : Plan) → b ≡ c → m ≡ written l (headRow c p i) → m ≡ written l (headRow b p i)
 row-if l m b c i p e q = q ∙ ap (λ (x : Bool). written l (headRow x p i)) (sym e)
 
 -- ---- the plan
-module _ (l : List ℕ) (c : Bool) (p : Plan) (i : ℕ) (cut : Bool) where
-  pub one-store : (w : Order) (m : List ℕ) → p .order ≡ w → m ≡ written l (rowsBy w c p i cut) → m ≡ written l (rowsOf c p i cut)
+-- a row, cut or not before what follows "then"
+pub cut-then : (l m : List ℕ) (b : Bool) (x y : List Store) → b ≡ true → m ≡ written l x → m ≡ written l (thenRow b x y)
+cut-then l m b x y t q = q ∙ ap (λ (z : Bool). written l (thenRow z x y)) (sym t)
+
+pub on-then : (l m n : List ℕ) (b : Bool) (x y : List Store) → b ≡ false → m ≡ written l x → n ≡ written m y → n ≡ written l (thenRow b x y)
+on-then l m n b x y t q r = rows-on l m n x y q r ∙ ap (λ (z : Bool). written l (thenRow z x y)) (sym t)
+
+module _ (l : List ℕ) (c : Bool) (p : Plan) (i : ℕ) (first second : Bool) where
+  pub by-order : (w : Order) (m : List ℕ) → p .order ≡ w → m ≡ written l (rowsBy w c p i first second) → m ≡ written l (rowsOf c p i first second)
   unfolding rowsOf
-  one-store w m e q = q ∙ ap (λ (x : Order). written l (rowsBy x c p i cut)) (sym e)
+  by-order w m e q = q ∙ ap (λ (x : Order). written l (rowsBy x c p i first second)) (sym e)
 
-  pub no-store : p .order ≡ Neither → l ≡ written l (rowsOf c p i cut)
+  pub no-store : p .order ≡ Neither → l ≡ written l (rowsOf c p i first second)
   unfolding written
-  no-store e = one-store Neither l e refl
+  no-store e = by-order Neither l e refl
 
-  pub cut-row : (w : Order) (a b : List Store) (m : List ℕ) → p .order ≡ w → rowsBy w c p i cut ≡ thenRow cut a b → cut ≡ true → m ≡ written l a → m ≡ written l (rowsOf c p i cut)
-  cut-row w a b m e r t q = one-store w m e (q ∙ ap (written l) (sym (r ∙ ap (λ (x : Bool). thenRow x a b) t)))
-
-  pub then-row : (w : Order) (a b : List Store) (m n : List ℕ) → p .order ≡ w → rowsBy w c p i cut ≡ thenRow cut a b → cut ≡ false → m ≡ written l a → n ≡ written m b
-      → n ≡ written l (rowsOf c p i cut)
-  then-row w a b m n e r t q s = one-store w n e (rows-on l m n a b q s ∙ ap (written l) (sym (r ∙ ap (λ (x : Bool). thenRow x a b) t)))
+-- ---- the event
+pub event-is : (o w : Order) (e : Event) (first : Bool) → o ≡ w → (isPush w && first) ≡ false → e ≡ cond (isPush o && first) noEvent e
+event-is o w e first p f = sym (ap (λ (x : Bool). cond x noEvent e) (ap (λ (y : Order). isPush y && first) p ∙ f))

@@ -31,7 +31,8 @@ use Rattle.machine.specs.State.{State, entryOf, last, four, inLog, isKept, isNo
 use Rattle.machine.specs.Settled.{settled}
 use Rattle.machine.specs.Rest.{restOf}
 use Rattle.machine.specs.Stores.{ofCommitted}
-use Rattle.machine.specs.Rows.{rowsOf}
+use Rattle.machine.specs.Rows.{rowsOf, eventOf}
+use Rattle.machine.proofs.Next.{eventOf-whole}
 use Rattle.machine.specs.Calls.{Call, Outcome, work, unless, workOk, planOf, planned, commits, present, decide}
 use Rattle.machine.specs.Step.{outcome, step, stateFrom, eventsFrom}
 use Rattle.machine.specs.Night as machine
@@ -544,14 +545,15 @@ module _ (m os : List ℕ) (n : ℕ) (w : Awake m n os) (f : Found) (y : Finds (
   pub found-number : (1 ≤ f .number) × (imageLength ≤ length m)
   found-number = (let q = worked (view m) n (f .job) (f .number) its-outcome 0 goes-on .number .0 in omega arith, size m (w .formed))
 
-  pub found-does : (d : Bool) (m′ : List ℕ) → d ≡ commits (f .job) → m′ ≡ written m (rowsOf d (f .plan) (f .number) false)
+  pub found-does : (d : Bool) (m′ : List ℕ) → d ≡ commits (f .job) → m′ ≡ written m (rowsOf d (f .plan) (f .number) false false)
       → Does m call-is (record { answer = f .plan .answer; event = f .plan .event }) m′
   unfolding step
   found-does d m′ ed q =
       let a : decide (view m) call-is .reply .answer ≡ 0 = ap (λ (o : Outcome). o .reply .answer) (sym (steps m call-is (w .formed))) ∙ goes-on in
       let o : decide (view m) call-is ≡ planned (f .job) (planOf (view m) n (f .job) (f .number) (eqb its-outcome 0)) (f .number) 0 = is-planned (view m) n (f .job) (f .number) its-outcome 0 a in (
-        ap (λ (p : Plan). record { answer = p .answer; event = p .event }) (y .plan z) ∙ sym (ap (λ (x : Outcome). x .reply) o),
-        q ∙ ap₂ (λ (x : Bool) (p : Plan). written m (rowsOf x p (f .number) false)) ed (y .plan z) ∙ sym (ap (λ (x : Outcome). written m (x .stores)) o),
+        ap (λ (e : Event). record { answer = f .plan .answer; event = e }) (sym (eventOf-whole (f .plan)))
+            ∙ ap (λ (p : Plan). record { answer = p .answer; event = eventOf p false }) (y .plan z) ∙ sym (ap (λ (x : Outcome). x .reply) o),
+        q ∙ ap₂ (λ (x : Bool) (p : Plan). written m (rowsOf x p (f .number) false false)) ed (y .plan z) ∙ sym (ap (λ (x : Outcome). written m (x .stores)) o),
       )
 
 -- ---- the turns, one after another

@@ -11,6 +11,7 @@ ghost use Rattle.controller.specs.Bytes.{appendOf};
 use crate::deciding::plan_of;
 use crate::pairs::entered;
 use crate::pairs::valid;
+use crate::perform::event_of;
 use crate::perform::perform;
 use connections::connect_of;
 use connections::disconnect_of;
@@ -220,7 +221,7 @@ fn args_ok(node: u16, job: u16, outcome: u16, cut: u16) -> bool
     ensures { λ r. ⌜ r ≡ workOk node job outcome cut ⌝ }
 {
     let node_ok = is_node(node);
-    (node_ok & ((1 <= job) & (job <= 4))) & ((outcome <= 1) & (cut <= 1))
+    (node_ok & ((1 <= job) & (job <= 4))) & ((outcome <= 1) & (cut <= 2))
 }
 
 // Whether a job is of the commit side: 1 and 3.
@@ -247,8 +248,8 @@ pub fn work(s: &mut [u8], node: u16, job: u16, number: u16, outcome: u16, cut: u
                 let at = node as u8;
                 if m.master == at {
                     let p = plan_of(s, at, job, number, outcome == 0);
-                    perform(s, of_commit(job), number, p, cut == 1);
-                    let event = p.event;
+                    perform(s, of_commit(job), number, p, cut == 1, cut == 2);
+                    let event = event_of(p, cut == 1);
                     return Reply {
                         answer: p.answer,
                         event,

@@ -451,7 +451,7 @@ fn through(s: &mut [u8], node: u16, budget: u16, outcomes: &[u8], events: &mut [
         }
         let p = f.plan;
         let e = p.event;
-        perform(s, of_commit(f.job), f.number, p, false);
+        perform(s, of_commit(f.job), f.number, p, false, false);
         put_event(events, k, e);
         k += 1;
     }

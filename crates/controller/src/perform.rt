@@ -4,7 +4,8 @@ ghost use mathlib.Core.Bool.{true, false};
 ghost use Prim.Native.Nat.{_+_, _≤_};
 ghost use lib.ListN.{length};
 ghost use Rattle.machine.specs.Stores.{Table, ofCommitted, ofApplied, ofTarget};
-ghost use Rattle.machine.specs.Rows.{overlay, laid, entryRow, changeRow, headRow, rowsOf};
+ghost use Rattle.rules.specs.declared.Order.the-variants.{TargetThenHeadThenEntry};
+ghost use Rattle.machine.specs.Rows.{overlay, laid, entryRow, changeRow, headRow, targetRow, rowsBy, rowsOf, eventOf};
 ghost use Rattle.image.specs.Layout.{valuesAt, tableSize, imageLength};
 ghost use Rattle.image.specs.View.{written};
 use image::APPLIED_AT;
@@ -16,6 +17,7 @@ use image::store_change;
 use image::store_entry;
 use image::store_head;
 use image::store_value;
+use kinds::Event;
 use kinds::Number;
 use kinds::Transaction;
 use rules::Lay;
@@ -90,7 +92,7 @@ fn commit_row(s: &mut [u8], i: u16, p: Plan)
     lay_by(s, COMMITTED_VALUES_AT, l, t);
 }
 
-// The head's store of jobs 2 and 4: the target's values, and Applied.
+// The head's store of jobs 2 and 4: Applied.
 fn apply_row(s: &mut [u8], i: u16, p: Plan)
     requires { ⌜ imageLength ≤ length (now s) ⌝ }
     ensures { λ _. ⌜ now (s .exit) ≡ written (now (s .entry)) (headRow false p i) ⌝ }
@@ -98,9 +100,18 @@ fn apply_row(s: &mut [u8], i: u16, p: Plan)
     let h = p.head;
     let l = p.lay;
     let t = p.entry;
-    lay_by(s, TARGET_VALUES_AT, l, t);
     store_head(s, APPLIED_AT, h);
     lay_by(s, APPLIED_VALUES_AT, l, t);
+}
+
+// The push itself: the target's values.
+fn target_row(s: &mut [u8], p: Plan)
+    requires { ⌜ imageLength ≤ length (now s) ⌝ }
+    ensures { λ _. ⌜ now (s .exit) ≡ written (now (s .entry)) (targetRow p) ⌝ }
+{
+    let l = p.lay;
+    let t = p.entry;
+    lay_by(s, TARGET_VALUES_AT, l, t);
 }
 
 fn head_row(s: &mut [u8], commits: bool, i: u16, p: Plan)
@@ -122,10 +133,26 @@ fn entry_row(s: &mut [u8], i: u16, p: Plan)
     store_entry(s, i, t);
 }
 
-// A plan's stores for entry i; a cut leaves out the second of two.
-pub fn perform(s: &mut [u8], commits: bool, i: u16, p: Plan, cut: bool)
+// The three stores of an accepted push, cut after the first, after the second, or not.
+fn push_rows(s: &mut [u8], commits: bool, i: u16, p: Plan, first: bool, second: bool)
     requires { ⌜ (1 ≤ i) × (imageLength ≤ length (now s)) ⌝ }
-    ensures { λ _. ⌜ now (s .exit) ≡ written (now (s .entry)) (rowsOf commits p i cut) ⌝ }
+    ensures { λ _. ⌜ now (s .exit) ≡ written (now (s .entry)) (rowsBy TargetThenHeadThenEntry commits p i first second) ⌝ }
+{
+    target_row(s, p);
+    if first {
+        return;
+    }
+    head_row(s, commits, i, p);
+    if second {
+        return;
+    }
+    entry_row(s, i, p);
+}
+
+// A plan's stores for entry i, cut after the first, after the second, or not; a rule of two stores has no second cut.
+pub fn perform(s: &mut [u8], commits: bool, i: u16, p: Plan, first: bool, second: bool)
+    requires { ⌜ (1 ≤ i) × (imageLength ≤ length (now s)) ⌝ }
+    ensures { λ _. ⌜ now (s .exit) ≡ written (now (s .entry)) (rowsOf commits p i first second) ⌝ }
 {
     let order = p.order;
     match order {
@@ -142,7 +169,7 @@ pub fn perform(s: &mut [u8], commits: bool, i: u16, p: Plan, cut: bool)
         }
         Order::EntryThenHead => {
             entry_row(s, i, p);
-            if cut {
+            if first {
                 return;
             }
             head_row(s, commits, i, p);
@@ -150,11 +177,36 @@ pub fn perform(s: &mut [u8], commits: bool, i: u16, p: Plan, cut: bool)
         }
         Order::HeadThenEntry => {
             head_row(s, commits, i, p);
-            if cut {
+            if first {
                 return;
             }
             entry_row(s, i, p);
             return;
+        }
+        Order::TargetThenHeadThenEntry => {
+            push_rows(s, commits, i, p, first, second);
+            return;
+        }
+    }
+}
+
+// The event that is given: with the first store, but for a push, whose first store is the target's.
+pub fn event_of(p: Plan, first: bool) -> Event
+    ensures { λ r. ⌜ r ≡ eventOf p first ⌝ }
+{
+    let event = p.event;
+    let order = p.order;
+    match order {
+        Order::Neither => event,
+        Order::EntryOnly => event,
+        Order::HeadOnly => event,
+        Order::EntryThenHead => event,
+        Order::HeadThenEntry => event,
+        Order::TargetThenHeadThenEntry => {
+            if first {
+                return Event::none();
+            }
+            event
         }
     }
 }

@@ -21,6 +21,7 @@ use Rattle.machine.specs.State.{State, entryOf, last, inLog, isKept, isMaster, 
 use Rattle.machine.specs.WellFormed.{allEntries, entryOk, headsOk, sizesOk, logOk, wellFormed}
 use Rattle.machine.specs.Settled.{settled}
 use Rattle.machine.specs.Rest.{restOf}
+use Rattle.rules.specs.Plans.{isPush}
 use Rattle.machine.specs.Calls.{Call, work, unless, present, job1, job2, job3, job4, planOf, planned, workOk, decide}
 use Rattle.machine.specs.Step.{outcome, step, stateFrom, eventsFrom}
 use Rattle.machine.specs.Night as machine
@@ -69,6 +70,10 @@ HasRoom e = Fit fours (eventNumbers e)
 
 no-event : HasRoom noEvent
 no-event = (omega arith, (omega arith, (omega arith, (omega arith, tt))))
+
+either : (b : Bool) (e : Event) → HasRoom e → HasRoom (cond b noEvent e)
+either true e h = no-event
+either false e h = h
 
 module _ (i : ℕ) (low : i ≤ 65535) where
   some-event : (p g : ℕ) (s : Status) → p ≤ 2 → g ≤ 2 → HasRoom (event p g (num i) s)
@@ -160,7 +165,7 @@ job-room s n j i r c =
     go true e true true true g true true =
         let h : i ≤ last (s .log) = leb-true i _ (and-right (leb 1 i) _ g) in
         let k : last (s .log) ≤ 65535 = leb-true _ 65535 (and-right (leb (length (s .log .entries)) 128) _ e) in
-        plan-room i (omega arith) s n j (eqb r 0)
+        either (isPush (planOf s n j i (eqb r 0) .order) && eqb c 1) (planOf s n j i (eqb r 0) .event) (plan-room i (omega arith) s n j (eqb r 0))
 
 module _ (l : List ℕ) (n b : ℕ) (os room : List ℕ) (r : Night) (m x : List ℕ) (p : Nights l n b os room r m x) where
   abbrev calls : List Call

@@ -112,7 +112,7 @@ module _ (s : State) where
 
   planned-quiet : (j : ℕ) (p : Plan) (i c : ℕ) → QuietPlan p → Quiet (planned j p i c)
   unfolding rowsOf
-  planned-quiet j p i c h x = ap (λ (o : Order). rowsBy o (commits j) p i (eqb c 1)) (h x)
+  planned-quiet j p i c h x = ap (λ (o : Order). rowsBy o (commits j) p i (eqb c 1) (eqb c 2)) (h x)
 
   -- ---- every call
   decide-quiet : (c : Call) → Quiet (decide s c)

@@ -146,7 +146,7 @@ module _ (l : List ℕ) where
     jobOk = leb 1 j && leb j 4
 
     abbrev restOk : Bool
-    restOk = leb r 1 && leb c 1
+    restOk = leb r 1 && leb c 2
 
     wide-node : outcomeOf l (work (narrowed outside n) j i r c) ≡ outcomeOf l (work n j i r c)
     unfolding outcomeOf decide
@@ -170,13 +170,13 @@ module _ (l : List ℕ) where
     unfolding outcomeOf decide
     wide-outcome = either (λ x. outcomeOf l (work n j i x c)) outside r
         (λ h. both-2 (formed l) (workOk n j 65535 c) (workOk n j r c) _ _ (and-none sideOk)
-        (ap (λ q. sideOk && (q && leb c 1)) (lt-leb r 1 (omega arith)) ∙ and-none sideOk))
+        (ap (λ q. sideOk && (q && leb c 2)) (lt-leb r 1 (omega arith)) ∙ and-none sideOk))
 
     wide-cut : outcomeOf l (work n j i r (narrowed outside c)) ≡ outcomeOf l (work n j i r c)
     unfolding outcomeOf decide
     wide-cut = either (λ x. outcomeOf l (work n j i r x)) outside c
         (λ h. both-2 (formed l) (workOk n j r 65535) (workOk n j r c) _ _ (ap (λ q. sideOk && q) (and-none (leb r 1)) ∙ and-none sideOk)
-        (ap (λ q. sideOk && (leb r 1 && q)) (lt-leb c 1 (omega arith)) ∙ ap (λ q. sideOk && q) (and-none (leb r 1)) ∙ and-none sideOk))
+        (ap (λ q. sideOk && (leb r 1 && q)) (lt-leb c 2 (omega arith)) ∙ ap (λ q. sideOk && q) (and-none (leb r 1)) ∙ and-none sideOk))
 
   pub wide-work : (n j i r c : ℕ)
       → outcomeOf l (work (narrowed outside n) (narrowed outside j) (narrowed none i) (narrowed outside r) (narrowed outside c)) ≡ outcomeOf l (work n j i r c)
@@ -205,7 +205,7 @@ module _ (l : List ℕ) where
       by true true false e f =
           any-number (cond f n outside) (cond e j outside) none i outside c (and-none (sideOk (cond f n outside) (cond e j outside) 0 0 0))
       by true true true false f =
-          any-number (cond f n outside) outside none i r c (ap (λ q. q && (leb r 1 && leb c 1)) (and-none (isNode (cond f n outside))))
+          any-number (cond f n outside) outside none i r c (ap (λ q. q && (leb r 1 && leb c 2)) (and-none (isNode (cond f n outside))))
       by true true true true false = any-number outside j none i r c refl
 
   -- ---- the reads

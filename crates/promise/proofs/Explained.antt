@@ -71,7 +71,7 @@ why-asked l n j i w e y = by (formed l) refl
         let x : w ≡ given (why (view l) n j i) = e ∙ shown l n j i f in
         record {
           answer = λ o c r m ho hc p.
-              ap (λ (v : Why). v .answer) x ∙ why-answers (view l) n i j o c (le-leb o 1 ho) (le-leb c 1 hc)
+              ap (λ (v : Why). v .answer) x ∙ why-answers (view l) n i j o c (le-leb o 1 ho) (le-leb c 2 hc)
               ∙ ap (λ (q : Reply). asks (q .answer)) (sym (shows-next l (work n j i o c) r m p y f .0));
           refused = λ h.
               let z = untold (view l) n j i (λ k. h (ap (λ (v : Why). v .answer) x ∙ k)) in

@@ -34,6 +34,7 @@ use Rattle.link.specs.Runs as runs
 use Rattle.link.proofs.Link.{Shows, shows-next, shows-run, state-run, events-run, eventOf}
 use Rattle.link.proofs.Fresh.{fresh-bytes}
 use Rattle.link.proofs.Nights.{calling-on, repliesIn, in-formed, HasRoom, job-room, night-calling, night-leaves, night-shows}
+use Rattle.machine.specs.Notes.{notes}
 use Rattle.history.specs.Demand3.{Demand3}
 use Rattle.history.specs.Finished.{Slept}
 use Rattle.history.proofs.Nights as history
@@ -273,7 +274,7 @@ module _ (l k : List ℕ) (u : Reply) (z : length l ≡ imageLength) (f : Freshe
       }
 
   -- demand 3 counts the events of nights
-  pub acting-demand-3 : Demand3 (view m) es
+  pub acting-demand-3 : Demand3 (view m) es (notes cs)
   acting-demand-3 = reached-3 cs es m (acted .state) (acted .events) (acted .formed)
 
   -- 6 jobs for each transaction kept are enough

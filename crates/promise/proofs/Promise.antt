@@ -14,6 +14,7 @@ use Rattle.machine.specs.State.{State, unfolded}
 use Rattle.machine.specs.LiveList as list
 use Rattle.machine.specs.Calls.{Call}
 use Rattle.machine.specs.Step.{run}
+use Rattle.machine.specs.Notes.{notes}
 use Rattle.machine.specs.Reads.{ofTable, tableNumbers, read}
 use Rattle.machine.specs.Reads as reads
 use Rattle.machine.proofs.Kept.{refused-changes-nothing, refusal-one}
@@ -31,11 +32,12 @@ use Rattle.northbound.specs.Exports as north
 use Rattle.link.specs.Runs.{Calling, none, next}
 use Rattle.link.proofs.Link.{shows-next, not-formed, refused-same, stays-formed, eventOf}
 use Rattle.link.proofs.Fresh.{shows-run-freshened}
-use Rattle.history.specs.Demand3.{Demand3, live, highest}
+use Rattle.history.specs.Demand3.{Demand3, live, highest, Holds}
+use Rattle.history.specs.Demand3 as holds
 use Rattle.history.specs.Given.{given}
-use Rattle.history.proofs.Reached as history
+use Rattle.history.proofs.Switched as history
 use Rattle.history.proofs.ByGiven.{by-given}
-use Rattle.promise.specs.Demands.{Demand1, Demand2, Demand3C, Serving, nothing, further, found, eventIn}
+use Rattle.promise.specs.Demands.{Demand1, Demand2, ReadsTarget, Target, applied, pushed, returned, Demand3C, Serving, nothing, further, found, eventIn}
 
 -- ---- one call
 module _ (l : List ℕ) (k : Call) (r : Reply) (m : List ℕ) (p : Claims l k r m) (y : Bytes l) where
@@ -68,10 +70,10 @@ module _ (l : List ℕ) (k : Call) (r : Reply) (m : List ℕ) (p : Claims l k r 
 
 -- ---- any calls, on bytes that `fresh` was called on
 module _ (l k : List ℕ) (u : Reply) (z : length l ≡ imageLength) (f : Freshens l u k) {cs : List Call} {rs : List Reply} {m : List ℕ} (d : Calling k cs rs m) where
-  pub demand-3 : Demand3 (view m) (map eventOf rs)
+  pub demand-3 : Demand3 (view m) (map eventOf rs) (notes cs)
   demand-3 =
       let h = shows-run-freshened l k u z f d in
-      subst (λ (s : State). Demand3 s (map eventOf rs)) (sym (h .0)) (subst (λ (es : List Event). Demand3 (run cs .state) es) (sym (h .1 .0)) (history.demand-3 cs))
+      subst (λ (s : State). Demand3 s (map eventOf rs) (notes cs)) (sym (h .0)) (subst (λ (es : List Event). Demand3 (run cs .state) es (notes cs)) (sym (h .1 .0)) (history.demand-3 cs))
 
 -- ---- as C sees it
 -- a packed answer reads back as the controller's reply
@@ -104,8 +106,20 @@ same m p e = ap (λ (vs : List ℕ). shown.given (shown.unless (formed m) (reads
 
 -- what is read in an image that the calls cs reached, with the events es
 module _ (cs : List Call) (es : List Event) (m : List ℕ) (h : view m ≡ run cs .state) (g : run cs .events ≡ es) (f : formed m ≡ true) where
-  pub reached-3 : Demand3 (view m) es
-  reached-3 = subst (λ (s : State). Demand3 s es) (sym h) (subst (λ (e : List Event). Demand3 (run cs .state) e) g (history.demand-3 cs))
+  pub reached-3 : Demand3 (view m) es (notes cs)
+  reached-3 = subst (λ (s : State). Demand3 s es (notes cs)) (sym h) (subst (λ (e : List Event). Demand3 (run cs .state) e (notes cs)) g (history.demand-3 cs))
+
+  -- the target, as it is read
+  target-read : (vs : List ℕ) → view m .net .values ≡ vs → ReadsTarget m vs
+  target-read vs e p x i s = s .1 ∙ value m 3 p f (lt-ltb p 32 i) ∙ ap (λ (v : List ℕ). found (getD v p 0)) e
+
+  target-same : view m .net .values ≡ view m .applied .values → (p x y : ℕ) → north.Shows m (ofTable 2 p) x → north.Shows m (ofTable 3 p) y → x ≡ y
+  target-same e p x y s t = s .0 ∙ ap packedRead (same m p e) ∙ sym (t .0)
+
+  target : Holds (view m) es (notes cs) → Target es (notes cs) m
+  target (holds.applied e) = applied (target-same e)
+  target (holds.pushed k i c b e) = pushed k i c b (target-read _ e)
+  target (holds.returned k i c b e) = returned k i c b (target-read _ e)
 
   -- the value of the highest-numbered change, by the calls and what C was answered
   abbrev byGiven : (stage path : ℕ) → List Event → ℕ
@@ -122,7 +136,8 @@ module _ (cs : List Call) (es : List Event) (m : List ℕ) (h : view m ≡ run c
         applied = λ p x i s.
             s .1 ∙ value m 2 p f (lt-ltb p 32 i) ∙ ap (λ (v : State). found (getD (v .applied .values) p 0)) h
             ∙ ap found (b .applied p i ∙ ap (byGiven 2 p) g);
-        line = λ n p x v o s t. s .0 ∙ ap packedRead (same m p (reached-3 .line n o)) ∙ sym (t .0);
+        line = λ n o. target (reached-3 .line n o);
+        whole = λ n p x y o q. target-same (reached-3 .whole n o q) p x y;
         list = λ room room′ x s.
             let w : listingOf m room ≡ listingIn (list.live (view m)) room = rw f in
             let v = w ∙ ap (λ (ks : List ℕ). listingIn ks room) (reached-3 .live) in

@@ -9,11 +9,12 @@ use Rattle.kinds.specs.declared.Reply.{Reply}
 use Rattle.fields.proofs.Laws.{Bytes}
 use Rattle.machine.specs.State.{State, isNode, nodeOf}
 use Rattle.machine.specs.Stores.{connections, after, afters}
+use Rattle.machine.specs.Rows.{overlay, rowsOf}
 use Rattle.machine.specs.Calls.{Call, append, rollback, start, stop, connect, disconnect, master, sync, work, foldTo, valuesOk, present, planOf, decide}
 use Rattle.machine.specs.WellFormed.{allFrom, pairsOk, entryOk, headOk, wellFormed}
 use Rattle.machine.specs.Step.{outcome, step, run, stateFrom}
 use Rattle.machine.specs.Retry as states
-use Rattle.machine.specs.Retry.{elsewhere, allElsewhere, TwoStores}
+use Rattle.machine.specs.Retry.{elsewhere, allElsewhere, Cut, mayRetry, OneIs}
 use Rattle.machine.proofs.Retried as states′
 use Rattle.image.specs.Layout.{lastAt, connectionsAt, foldedAt}
 use Rattle.image.specs.Records.{foldedOf, lastOf}
@@ -51,6 +52,9 @@ all-plain n (c ∷ cs) e = rw (plain n c (and-left (elsewhere n c) _ e), all-pla
 free-too : {l m : List ℕ} {j : ℕ} → Leaves l m → Free (foldedOf m) (lastOf m) j → Free (foldedOf l) (lastOf l) j
 free-too {l} {m} {j} h f = subst (λ (k : ℕ). Free (foldedOf l) k j) (h .last) (subst (λ (k : ℕ). Free k (lastOf m) j) (h .folded) f)
 
+one-is : {u a b u′ a′ b′ : Reply} → u ≡ u′ → a ≡ a′ → b ≡ b′ → OneIs u′ a′ b′ → OneIs u a b
+one-is p q r o = rw (p, q, r) o
+
 module _ {l : List ℕ} {n : ℕ} {a b d : Reply} {m u : List ℕ} (t : Retry l n a b d m u) where
   -- ---- the images on the way
   half-bytes : Bytes (t .half)
@@ -78,16 +82,16 @@ module _ {l : List ℕ} {n : ℕ} {a b d : Reply} {m u : List ℕ} (t : Retry l 
   abbrev s : State
   s = view l
 
-  promised : states.Harmless s n (t .job) (t .number) (t .outcome) (t .outcome′) (t .cut′) (t .calls)
-  promised = states′.retry-harmless s n (t .job) (t .number) (t .outcome) (t .outcome′) (t .cut′) (t .calls) (formed-state l (t .formed)) (t .two) (t .range) (t .elsewhere)
+  promised : states.Harmless s n (t .job) (t .number) (t .outcome) (t .at) (t .outcome′) (t .cut′) (t .calls)
+  promised = states′.retry-harmless s n (t .job) (t .number) (t .outcome) (t .at) (t .outcome′) (t .cut′) (t .calls) (formed-state l (t .formed)) (t .first) (t .range) (t .elsewhere) (t .may)
 
-  at-cut : (a ≡ step s (work n (t .job) (t .number) (t .outcome) 1) .reply) × (view (t .half) ≡ step s (work n (t .job) (t .number) (t .outcome) 1) .next)
+  at-cut : (a ≡ step s (work n (t .job) (t .number) (t .outcome) (t .at)) .reply) × (view (t .half) ≡ step s (work n (t .job) (t .number) (t .outcome) (t .at)) .next)
   at-cut = shows-next l _ a (t .half) (t .cut) (t .bytes) (t .formed)
 
   at-uncut : (d ≡ step s (work n (t .job) (t .number) (t .outcome) 0) .reply) × (view u ≡ step s (work n (t .job) (t .number) (t .outcome) 0) .next)
   at-uncut = shows-next l _ d u (t .uncut) (t .bytes) (t .formed)
 
-  then-shows : view (t .then) ≡ stateFrom (step s (work n (t .job) (t .number) (t .outcome) 1) .next) (t .calls)
+  then-shows : view (t .then) ≡ stateFrom (step s (work n (t .job) (t .number) (t .outcome) (t .at)) .next) (t .calls)
   then-shows =
       let h : Shows (view (t .half)) (t .calls) (t .replies) (t .then) = shows-run (t .between) half-bytes half-formed in
       h .state ∙ ap (λ (v : State). stateFrom v (t .calls)) (at-cut .1)
@@ -99,7 +103,7 @@ module _ {l : List ℕ} {n : ℕ} {a b d : Reply} {m u : List ℕ} (t : Retry l 
   at-again = shows-next (t .then) _ b m (t .again) (through .1 .0) (through .1 .1)
 
   abbrev end : State
-  end = step (stateFrom (step s (work n (t .job) (t .number) (t .outcome) 1) .next) (t .calls)) last-call .next
+  end = step (stateFrom (step s (work n (t .job) (t .number) (t .outcome) (t .at)) .next) (t .calls)) last-call .next
 
   end-shows : view m ≡ end
   end-shows = at-again .1 ∙ ap (λ (v : State). step v last-call .next) then-shows
@@ -143,8 +147,7 @@ module _ {l : List ℕ} {n : ℕ} {a b d : Reply} {m u : List ℕ} (t : Retry l 
       record {
         length = formed-length m end-formed ∙ sym (formed-length u uncut-formed);
         bytes = same-byte;
-        first = at-cut .0 ∙ promised .first ∙ sym (at-uncut .0);
-        second = at-again .0 ∙ ap (λ (v : State). step v last-call .reply) then-shows ∙ promised .second;
+        event = one-is (at-uncut .0) (at-cut .0) (at-again .0 ∙ ap (λ (v : State). step v last-call .reply) then-shows) (promised .event);
       }
 
   -- with the calls between made after the uncut job too, no byte differs
@@ -160,7 +163,23 @@ module _ {l : List ℕ} {n : ℕ} {a b d : Reply} {m u : List ℕ} (t : Retry l 
   pub retry-at-once : t .calls ≡ [] → m ≡ u
   retry-at-once e = retry-then [] u (subst (λ (cs : List Call). Calling u cs [] u) (sym e) none)
 
--- such a job is met: a change's commit begins, one node being master
-pub met : TwoStores (run (master 1 ∷ connect 1 ∷ start ∷ append (record { path = 3; value = 7 } ∷ []) ∷ []) .state) 1 1 1 0
+-- such retries are met, one node being master: a change's commit begins, cut after the first of its two stores; and, with the
+-- line open, a push cut at the first of its three
+abbrev led : List Call
+led = master 1 ∷ connect 1 ∷ start ∷ append (record { path = 3; value = 7 } ∷ []) ∷ []
+
+abbrev begun : List Call
+begun = work 1 2 1 0 0 ∷ work 1 1 1 0 0 ∷ work 1 1 1 0 0 ∷ sync 1 ∷ sync 1 ∷ led
+
+-- job j of node 1 for number 1, accepted, may be cut at x and called again
+pub record May (cs : List Call) (j x q c : ℕ) : Type 0 where
+  pub cut : Cut (run cs .state) 1 j 1 0 x
+  pub may : mayRetry (planOf (run cs .state) 1 j 1 true .order) x 0 q c ≡ true
+
+pub met : May led 1 1 1 1
 unfolding run step outcome decide planOf wellFormed allFrom entryOk headOk pairsOk valuesOk present after afters
-met = record { args = refl; number = refl; kept = refl; master = refl; two = refl }
+met = record { cut = record { args = refl; number = refl; kept = refl; master = refl }; may = refl }
+
+pub push-met : May begun 2 1 0 0
+unfolding run step outcome decide planOf wellFormed allFrom entryOk headOk pairsOk valuesOk present after afters rowsOf overlay
+push-met = record { cut = record { args = refl; number = refl; kept = refl; master = refl }; may = refl }

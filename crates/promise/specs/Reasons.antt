@@ -16,7 +16,7 @@ use Rattle.history.specs.Explained.{Given, Names}
 pub record Asked (l : List ℕ) (n j i : ℕ) (w : Why) : Type 0 where
   -- a reason is given exactly where the job answers 11, whatever its outcome and cut; the job's refusals 1, 2, 5, 18 and 10 are
   -- this call's too, and where the job answers anything else it is 15
-  pub answer : (o c : ℕ) (r : Reply) (m : List ℕ) → o ≤ 1 → c ≤ 1 → Claims l (work n j i o c) r m → w .answer ≡ asks (r .answer)
+  pub answer : (o c : ℕ) (r : Reply) (m : List ℕ) → o ≤ 1 → c ≤ 2 → Claims l (work n j i o c) r m → w .answer ≡ asks (r .answer)
   -- refused, it tells no reason
   pub refused : (w .answer ≡ 0 → ⊥) → (w .reason ≡ 0) × (w .named ≡ 0)
 

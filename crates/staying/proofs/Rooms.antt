@@ -26,7 +26,7 @@ use Rattle.rules.specs.declared.Plan.{Plan}
 use Rattle.rules.specs.declared.Lay.{Lay}
 use Rattle.rules.specs.declared.Lay.the-variants.{Nothing, Values, Kept}
 use Rattle.rules.specs.declared.Order.{Order}
-use Rattle.rules.specs.declared.Order.the-variants.{Neither, EntryOnly, HeadOnly, EntryThenHead, HeadThenEntry}
+use Rattle.rules.specs.declared.Order.the-variants.{Neither, EntryOnly, HeadOnly, EntryThenHead, HeadThenEntry, TargetThenHeadThenEntry}
 use Rattle.rules.specs.declared.CommitChangeRule.{CommitChangeRule}
 use Rattle.rules.specs.declared.CommitRollbackRule.{CommitRollbackRule}
 use Rattle.rules.specs.declared.ApplyChangeRule.{ApplyChangeRule}
@@ -118,24 +118,24 @@ module _ (d n : ℕ) where
     head-still : (c : Bool) (p : Plan) → Roomy p → Stills d n (headRow c p i)
     head-still true p r =
         more (record { fits = r .head; fold = refl; last = refl }) (join d n (change-still (p .change)) (laid-still ofCommitted (p .lay) (p .entry) (r .entry)))
-    head-still false p r =
-        join d n (laid-still ofTarget (p .lay) (p .entry) (r .entry))
-        (more (record { fits = r .head; fold = refl; last = refl }) (laid-still ofApplied (p .lay) (p .entry) (r .entry)))
+    head-still false p r = more (record { fits = r .head; fold = refl; last = refl }) (laid-still ofApplied (p .lay) (p .entry) (r .entry))
 
     then-still : (cut : Bool) {a b : List Store} → Stills d n a → Stills d n b → Stills d n (thenRow cut a b)
     then-still true p q = p
     then-still false p q = join d n p q
 
-    rows-still : (c : Bool) (p : Plan) (cut : Bool) → Roomy p → Stills d n (rowsOf c p i cut)
+    rows-still : (c : Bool) (p : Plan) (first second : Bool) → Roomy p → Stills d n (rowsOf c p i first second)
     unfolding rowsOf
-    rows-still c p cut r = go (p .order)
+    rows-still c p first second r = go (p .order)
       where
-        go : (o : Order) → Stills d n (rowsBy o c p i cut)
+        go : (o : Order) → Stills d n (rowsBy o c p i first second)
         go Neither = none
         go EntryOnly = entry-still p r
         go HeadOnly = head-still c p r
-        go EntryThenHead = then-still cut (entry-still p r) (head-still c p r)
-        go HeadThenEntry = then-still cut (head-still c p r) (entry-still p r)
+        go EntryThenHead = then-still first (entry-still p r) (head-still c p r)
+        go HeadThenEntry = then-still first (head-still c p r) (entry-still p r)
+        go TargetThenHeadThenEntry =
+            then-still first (laid-still ofTarget (p .lay) (p .entry) (r .entry)) (then-still second (head-still c p r) (entry-still p r))
 
 -- ---- the four jobs, whatever rule holds
 next-small : (o : Ordinal) → o .0 < 4294967296 → nextOrdinal o .0 < 4294967296
@@ -485,7 +485,7 @@ module _ (s : State) (f : Sizes s) where
       (λ a. unless-calm 5 (inLog s i) _
       (λ b. unless-calm 18 (isKept s i) _
       (λ k. unless-calm 10 (isMaster (s .net) n) _
-      (λ d. rows-still (s .log .folded .0) (last (s .log)) i (low i k) (high i b) (f .room .1 .1) (commits j) (planOf s n j i (eqb r 0)) (eqb c 1)
+      (λ d. rows-still (s .log .folded .0) (last (s .log)) i (low i k) (high i b) (f .room .1 .1) (commits j) (planOf s n j i (eqb r 0)) (eqb c 1) (eqb c 2)
       (plan-roomy i (low i k) (high i b) n j (eqb r 0))))))
 
   append-fits : (ps : List Pair) → FitsAll (s .log .folded .0) (last (s .log)) (decide s (append ps) .stores)

@@ -1,7 +1,8 @@
 -- `work` meets its contract. Assumes nothing.
 use Rattle.controller.proofs.Answered.{this-one, node-in, work-2, work-5, work-18, work-10, worked}
 use Rattle.controller.proofs.Decided.{size, entry-here}
-use mathlib.Core.Path.{refl}
+use mathlib.Core.Path.{ap}
+use Rattle.kinds.specs.declared.Event.{Event}
 use native.Mathlib.Omega.{arith}
 use borrow.Author.Needs.{needs}
 use Rattle.controller.proofs.calls.work.Statement.{statement}
@@ -37,8 +38,11 @@ perform-requires c κs = entry-here _ _ (this-one _ (c .before .before .before .
 same-length : tie.Need-same-length
 same-length c = search needs
 
+event-of-requires : tie.Need-event-of-requires
+event-of-requires c κs = search needs
+
 returns : tie.Need-returns
-returns c = worked _ (c .before .before .before .before .before .before .before .before .before .before .before .before .before .before .before .before .before .before .before .before .before .before .pre) _ _ _ (c .before .before .before .before .before .before .before .before .before .before .before .before .before .before .before .before .before .last-number .ensures) (c .before .before .before .before .before .before .before .before .before .before .before .before .before .before .before .before .in-log .ensures) (c .before .before .before .before .before .before .before .before .before .before .before .before .before .before .before .if2 .taken) _ (c .before .before .before .before .before .before .before .before .before .before .before .before .before .last-fold .ensures) (c .before .before .before .before .before .before .before .before .before .before .before .before .if3 .taken) _ _ _ _ _ _ (c .before .before .before .before .before .before .before .before .before .before .before .before .before .before .before .before .before .before .before .before .args-ok .ensures) (c .before .before .before .before .before .before .before .before .before .before .before .before .before .before .before .before .before .before .before .if1 .taken) _ (c .before .before .before .before .before .before .before .before .before .before .load-mastership .ensures) _ _ _ (c .before .before .before .before .before .before .before .before .if4 .taken) (c .before .before .before .before .before .before .plan-of .ensures) (c .before .before .before .before .of-commit .ensures) (c .before .before .before .perform .ensures) refl
+returns c = worked _ (c .before .before .before .before .before .before .before .before .before .before .before .before .before .before .before .before .before .before .before .before .before .before .pre) _ _ _ (c .before .before .before .before .before .before .before .before .before .before .before .before .before .before .before .before .before .last-number .ensures) (c .before .before .before .before .before .before .before .before .before .before .before .before .before .before .before .before .in-log .ensures) (c .before .before .before .before .before .before .before .before .before .before .before .before .before .before .before .if2 .taken) _ (c .before .before .before .before .before .before .before .before .before .before .before .before .before .last-fold .ensures) (c .before .before .before .before .before .before .before .before .before .before .before .before .if3 .taken) _ _ _ _ _ _ (c .before .before .before .before .before .before .before .before .before .before .before .before .before .before .before .before .before .before .before .before .args-ok .ensures) (c .before .before .before .before .before .before .before .before .before .before .before .before .before .before .before .before .before .before .before .if1 .taken) _ (c .before .before .before .before .before .before .before .before .before .before .load-mastership .ensures) _ _ _ (c .before .before .before .before .before .before .before .before .if4 .taken) (c .before .before .before .before .before .before .plan-of .ensures) (c .before .before .before .before .of-commit .ensures) (c .before .before .before .perform .ensures) (ap (λ (x : Event). record { answer = c .before .before .before .before .before .before .plan-of .result .answer; event = x }) (c .event-of .ensures))
 
 of-requires : tie.Need-of-requires
 of-requires c κs = search needs
@@ -86,6 +90,7 @@ work-spec =
     plan-of-requires
     of-commit-requires
     perform-requires
+    event-of-requires
     same-length
     returns
     of-requires

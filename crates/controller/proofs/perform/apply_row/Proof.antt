@@ -4,21 +4,17 @@ use borrow.Author.Needs.{needs}
 use Rattle.controller.proofs.perform.apply_row.Statement.{statement}
 use Rattle.controller.proofs.perform.apply_row.Tie as tie
 
-lay-by-requires : tie.Need-lay-by-requires
-lay-by-requires c κs = search needs
-
 store-head-requires : tie.Need-store-head-requires
 store-head-requires c κs = search needs
 
-lay-by-requires-2 : tie.Need-lay-by-requires-2
-lay-by-requires-2 c κs = search needs
+lay-by-requires : tie.Need-lay-by-requires
+lay-by-requires c κs = search needs
 
 same-length : tie.Need-same-length
 same-length c = search needs
 
 returns : tie.Need-returns
-returns c = apply-row _ _ _ _ (c .before .before .before .before .before .before .before .before .before .before .before .before .before .before .before .args .i) (c .before .before .before .before .before .before .before .before .before .before .before .before .before .before .before .args .p) (c .before .before .before .before .before .before .before .before .before .before .lay-by .ensures) (c .before .before .before .before .before .before .store-head .ensures) (c .before .before .lay-by2 .ensures)
+returns c = apply-row _ _ _ (c .before .before .before .before .before .before .before .before .before .before .before .args .i) (c .before .before .before .before .before .before .before .before .before .before .before .args .p) (c .before .before .before .before .before .before .store-head .ensures) (c .before .before .lay-by .ensures)
 
 pub apply-row-spec : {M : Type 1} → statement M
-apply-row-spec =
-    tie.close (tie.spec lay-by-requires store-head-requires lay-by-requires-2 same-length returns)
+apply-row-spec = tie.close (tie.spec store-head-requires lay-by-requires same-length returns)
