@@ -1,5 +1,6 @@
 /* edge.c: what makowist.h promises at its edges, held from C: nothing lent, numbers of more than 16 bits in every argument,
- * names, pairs that have no 16 bits, the list in bytes, reasons with what they name, and nights with their events.
+ * names, pairs that have no 16 bits, the list in bytes, reasons with what they name, nights with their events, and pushes that
+ * are cut.
  *
  * What is lent is from the heap and as long as is said, so that the tools that watch memory see a byte too many. Ends with 1
  * at the first promise that does not hold. */
@@ -97,7 +98,7 @@ static const struct call calls[] = {
     {"disconnect", disconnect, 1, {1}, {RANGE}},
     {"master", master, 1, {1}, {RANGE}},
     {"sync", sync_once, 1, {1}, {RANGE}},
-    {"work", work, 5, {1, 2, LAST, 1, 1}, {RANGE, RANGE, NUMBER, RANGE, RANGE}},
+    {"work", work, 5, {1, 2, LAST, 1, 2}, {RANGE, RANGE, NUMBER, RANGE, RANGE}},
     {"fold", fold, 1, {LAST}, {NUMBER}},
     {"well_formed", well_formed, 0, {0}, {0}},
     {"live", live, 0, {0}, {0}},
@@ -285,6 +286,9 @@ static void listed(const uint8_t *image) {
 
 /* ---- Reasons. */
 
+/* Outcome k & 1 and cut k >> 1: 0 or 1, and 0, 1 or 2. */
+enum { OUTCOMES_AND_CUTS = 6 };
+
 static void why_is(const uint8_t *image, uint64_t job, uint64_t number, unsigned reason, uint32_t named) {
     uint8_t *copy = copied(image, LENGTH);
     uint64_t reply = makowist_why(copy, LENGTH, 1, job, number);
@@ -293,7 +297,7 @@ static void why_is(const uint8_t *image, uint64_t job, uint64_t number, unsigned
     hold(makowist_reply_named(reply) == named, "why, named", makowist_reason_name(reason), reply);
     hold((reply & 0xffff0000) == 0, "why", "nothing between reason and what is named", reply);
     hold(memcmp(copy, image, LENGTH) == 0, "why, every byte as it was", makowist_reason_name(reason), reply);
-    for (uint64_t k = 0; k < 4; ++k) {
+    for (uint64_t k = 0; k < OUTCOMES_AND_CUTS; ++k) {
         reply = makowist_work(copy, LENGTH, 1, job, number, k & 1, k >> 1);
         hold(reply == MAKOWIST_NO_RULE, "why", "the job answers 11", reply);
     }
@@ -435,6 +439,74 @@ static void nights(const uint8_t *before) {
     free(after);
 }
 
+/* ---- Pushes: the target, then Applied with the event, then the status. */
+
+static uint32_t path_3(const uint8_t *image, uint64_t table) {
+    return makowist_reply_value(makowist_value(image, LENGTH, table, 3));
+}
+
+/* The push of path 3 that is the job's next step: what each cut leaves of it, and what the job called again makes of that. */
+static void push_is(const uint8_t *before, uint64_t job, uint64_t number, uint32_t from, uint32_t to) {
+    uint8_t *whole = copied(before, LENGTH), *image = copied(before, LENGTH);
+    uint64_t told = makowist_work(whole, LENGTH, 1, job, number, 0, 0);
+    accepted(told, "push");
+    hold(makowist_reply_status(told) == MAKOWIST_STATUS_COMPLETE, "push", "Complete", told);
+    uint64_t reply = makowist_work(image, LENGTH, 1, job, number, 0, 1);
+    hold(reply == MAKOWIST_ACCEPTED, "push, cut 1", "accepted, no event", reply);
+    hold(path_3(image, MAKOWIST_TABLE_TARGET) == to, "push, cut 1", "on the target", path_3(image, MAKOWIST_TABLE_TARGET));
+    hold(path_3(image, MAKOWIST_TABLE_APPLIED) == from, "push, cut 1", "not applied", path_3(image, MAKOWIST_TABLE_APPLIED));
+    reply = makowist_work(image, LENGTH, 1, job, number, 0, 0);
+    hold(reply == told && memcmp(image, whole, LENGTH) == 0, "push, cut 1", "called again as uncut, with the event", reply);
+    for (uint64_t k = 0; k < OUTCOMES_AND_CUTS; ++k) {
+        memcpy(image, before, LENGTH);
+        reply = makowist_work(image, LENGTH, 1, job, number, 0, 2);
+        hold(reply == told, "push, cut 2", "the event", reply);
+        hold(path_3(image, MAKOWIST_TABLE_APPLIED) == to, "push, cut 2", "applied", k);
+        hold(memcmp(image, whole, LENGTH) != 0, "push, cut 2", "the status is left", k);
+        reply = makowist_work(image, LENGTH, 1, job, number, k & 1, k >> 1);
+        hold(reply == MAKOWIST_ACCEPTED && memcmp(image, whole, LENGTH) == 0, "push, cut 2", "called again as uncut", reply);
+    }
+    memcpy(image, before, LENGTH);
+    for (uint64_t cut = 3; cut <= 256; ++cut) {
+        reply = makowist_work(image, LENGTH, 1, job, number, 0, cut);
+        hold(reply == RANGE && memcmp(image, before, LENGTH) == 0, "push", "a cut above 2 is refused", reply);
+    }
+    free(whole);
+    free(image);
+}
+
+/* A step of two stores: cut 2 is none, and cut 1 leaves the second out. */
+static void two_stores(uint8_t *image, uint64_t job, uint64_t number) {
+    uint8_t *first = copied(image, LENGTH), *second = copied(image, LENGTH);
+    uint64_t told = makowist_work(image, LENGTH, 1, job, number, 0, 0);
+    accepted(told, "two stores");
+    uint64_t reply = makowist_work(first, LENGTH, 1, job, number, 0, 1);
+    hold(reply == told && memcmp(first, image, LENGTH) != 0, "two stores", "cut 1 leaves one", reply);
+    reply = makowist_work(second, LENGTH, 1, job, number, 0, 2);
+    hold(reply == told && memcmp(second, image, LENGTH) == 0, "two stores", "cut 2 leaves both", reply);
+    free(first);
+    free(second);
+}
+
+static void pushes(const uint8_t *before) {
+    uint8_t *image = copied(before, LENGTH), pair[MAKOWIST_PAIR_LENGTH];
+    const uint64_t number = LAST + 1;
+    const uint32_t from = path_3(image, MAKOWIST_TABLE_APPLIED), to = 7;
+    makowist_put_pair(pair, 3, to);
+    accepted(makowist_append(image, LENGTH, pair, sizeof pair), "append");
+    two_stores(image, 1, number);
+    two_stores(image, 1, number);
+    two_stores(image, 2, number);
+    push_is(image, 2, number, from, to);
+    accepted(makowist_work(image, LENGTH, 1, 2, number, 0, 0), "push");
+    accepted(makowist_rollback(image, LENGTH, number), "rollback");
+    two_stores(image, 3, number);
+    two_stores(image, 3, number);
+    two_stores(image, 4, number);
+    push_is(image, 4, number, to, from);
+    free(image);
+}
+
 int main(void) {
     uint8_t *image = led();
     nothing_lent(image);
@@ -447,6 +519,7 @@ int main(void) {
     listed(image);
     reasons(image);
     nights(image);
+    pushes(image);
     free(image);
     printf("edge: %u checks hold\n", checks);
     return 0;

@@ -1,14 +1,17 @@
 //! Wrong copies of one rule, to show that the comparison finds them. Only the comparison asks for one.
-//! Those of the calls from outside, of nights, of the order of refusals and of reasons are in the modules below.
+//! Those of the calls from outside, of nights, of the order of refusals, of a push's stores and of reasons are in the modules
+//! below.
 
 pub mod night;
 pub mod order;
 pub mod outside;
+pub mod push;
 pub mod why;
 
 use crate::arguments::{Argument, Numbers};
 use crate::controller::{
-    overlay, ConfigurationState, Event, Hindrance, Number, Phase, Refusal, Stage, State, Status, Term, Values, LOG_LIMIT,
+    overlay, ConfigurationState, Event, Hindrance, Number, Phase, Refusal, Stage, State, Status, Term, Transaction, Values,
+    LOG_LIMIT,
 };
 use crate::image::{self, at, entry, entry_at, entry_at_mut, ENTRY};
 use crate::jobs::Rule;
@@ -18,15 +21,16 @@ use crate::reads::Query;
 use self::night::Lapse;
 use order::{Call, Swapped};
 use outside::Slip;
+use push::Split;
 use why::Guess;
 
 #[derive(Clone, Copy, PartialEq, Eq, Debug)]
 pub enum Fault {
     /// The rule is never taken: the job answers that no rule holds.
     LeftOut(Rule),
-    /// The rule makes its second store although it is cut.
+    /// The rule makes all its stores although it is cut.
     NeverCut(Rule),
-    /// The rule leaves its second store out although it is not cut.
+    /// The rule makes its first store alone although it is not cut.
     AlwaysCut(Rule),
     /// The rule gives no event.
     Silent(Rule),
@@ -40,6 +44,8 @@ pub enum Fault {
     AppliedForgotten,
     /// Of what a cut has left to the job's next call.
     Retried(Again),
+    /// A push is stored, or a cut taken, otherwise (order 8).
+    Push(Split),
     /// A master that has reconnected is refused.
     ReconnectedRefused,
     /// A master that has reconnected is freed, and conn is set to 0.
@@ -96,13 +102,14 @@ pub enum Fault {
 
 impl Fault {
     pub fn all() -> Vec<Fault> {
-        let two_stores = || Rule::ALL.iter().copied().filter(|rule| rule.stores() == 2);
+        let some_stores = || Rule::ALL.iter().copied().filter(|rule| rule.stores() > 1);
         let mut all: Vec<Fault> = Rule::ALL.iter().copied().map(Fault::LeftOut).collect();
-        all.extend(two_stores().map(Fault::NeverCut));
-        all.extend(two_stores().map(Fault::AlwaysCut));
-        all.extend(two_stores().map(Fault::Silent));
+        all.extend(some_stores().map(Fault::NeverCut));
+        all.extend(some_stores().map(Fault::AlwaysCut));
+        all.extend(some_stores().map(Fault::Silent));
         all.extend([Fault::AbortedOnceBegun, Fault::RestInFlight, Fault::StaleTerm, Fault::AppliedForgotten]);
         all.extend(Again::ALL.map(Fault::Retried));
+        all.extend(Split::all().into_iter().map(Fault::Push));
         all.extend([Fault::ReconnectedRefused, Fault::ReconnectedForgetsConn, Fault::ReconnectedForgetsTerm]);
         all.extend([Fault::FreedAtConn, Fault::AppliedReadFromTarget, Fault::OrdinalReadFromRollback]);
         all.extend(Hindrance::ALL.map(Fault::FoldDespite));
@@ -130,10 +137,11 @@ impl Fault {
             narrow(narrowed.numbers(), argument, bits);
             return act(state, &narrowed);
         }
-        if let Fault::Outside(slip) = self {
-            return slip.act(state, request);
+        match self {
+            Fault::Outside(slip) => slip.act(state, request),
+            Fault::Push(split) => split.act(state, request),
+            _ => self.acted(state, request),
         }
-        self.acted(state, request)
     }
 
     /// As `northbound::serve` of bytes that are no image, with this fault in it.
@@ -350,7 +358,7 @@ impl Fault {
     }
 }
 
-/// Faults of order 3: what the store that a cut has left does wrong when the job is called again.
+/// Faults of orders 3 and 8: what the stores that a cut has left do wrong when the job is called again.
 #[derive(Clone, Copy, PartialEq, Eq, Debug)]
 pub enum Again {
     /// A commit's finish counts the ordinal again.
@@ -361,28 +369,56 @@ pub enum Again {
     Tells,
     /// A rejected outcome refuses it.
     AsksOutcome,
-    /// A cut leaves it out again.
-    IsCut,
+    /// That cut leaves it out again.
+    IsCutBy(u64),
+    /// A push is made again where only its status is left.
+    PushesAgain,
+    /// A push whose values the target has already is refused, gives no event, or stores the status alone.
+    RefusedOnceLaid,
+    SilentOnceLaid,
+    FinishedOnceLaid,
 }
 
 impl Again {
-    const ALL: [Again; 5] = [Again::CountsOrdinal, Again::LeavesTarget, Again::Tells, Again::AsksOutcome, Again::IsCut];
+    const ALL: [Again; 10] = [
+        Again::CountsOrdinal,
+        Again::LeavesTarget,
+        Again::Tells,
+        Again::AsksOutcome,
+        Again::IsCutBy(1),
+        Again::IsCutBy(2),
+        Again::PushesAgain,
+        Again::RefusedOnceLaid,
+        Again::SilentOnceLaid,
+        Again::FinishedOnceLaid,
+    ];
 
     /// What a call comes to with this fault, from the state before it and the one that it left.
     fn acted(self, before: &State, state: &mut State, request: &Request, served: Served) -> Served {
-        let Request::Work { job, number, outcome, cut, .. } = *request else {
+        let Some(rule) = served.rule.filter(|_| served.reply.is_ok()) else {
             return served;
         };
-        let Some(rule) = served.rule.filter(|rule| rule.stores() == 1) else {
+        match rule.stores() {
+            1 => self.closed(before, state, request, served),
+            3 if before.target.values == state.target.values => self.laid_again(before, state, served),
+            _ => served,
+        }
+    }
+
+    /// The one store that a cut may have left.
+    fn closed(self, before: &State, state: &mut State, request: &Request, served: Served) -> Served {
+        let (&Request::Work { job, number, outcome, cut, .. }, Some(rule)) = (request, served.rule) else {
             return served;
         };
         let number = state.given(number).expect("a job's number is given");
         let place = state.place(number).expect("a job's number is kept");
-        let transaction = &mut state.log[place];
-        let (phase, progress) = match job {
-            1 | 2 => (Phase::Change, &mut transaction.c),
-            _ => (Phase::Rollback, &mut transaction.r),
+        let Transaction { change, c, r, .. } = &mut state.log[place];
+        let (phase, progress, pairs) = match job {
+            1 | 2 => (Phase::Change, c, *change),
+            _ => (Phase::Rollback, r, before.log[place].returning_pairs()),
         };
+        let (stage, status) = if job % 2 == 1 { (Stage::Commit, progress.commit) } else { (Stage::Apply, progress.apply) };
+        let told = Served { reply: Ok(Answer::Told(Event { phase, stage, number, status })), ..served };
         match self {
             Again::CountsOrdinal if matches!(rule, Rule::CommitChangeFinish | Rule::CommitRollbackFinish) => {
                 state.committed.ordinal.0 += 1;
@@ -391,19 +427,37 @@ impl Again {
             Again::LeavesTarget if matches!(rule, Rule::ApplyChangeClose | Rule::ApplyRollbackClose) => {
                 state.applied.target = before.applied.target;
             }
-            Again::Tells => {
-                let (stage, status) =
-                    if job % 2 == 1 { (Stage::Commit, progress.commit) } else { (Stage::Apply, progress.apply) };
-                return Served { reply: Ok(Answer::Told(Event { phase, stage, number, status })), ..served };
+            Again::Tells => return told,
+            Again::PushesAgain if matches!(rule, Rule::ApplyChangeFinish | Rule::ApplyRollbackFinish) => {
+                overlay(&mut state.target.values, pairs.pairs());
+                overlay(&mut state.applied.values, pairs.pairs());
+                return told;
             }
             Again::AsksOutcome if outcome == 1 => {
                 *state = before.clone();
                 return Served { reply: Err(Refusal::PushRejected), ..served };
             }
-            Again::IsCut if cut == 1 => *state = before.clone(),
+            Again::IsCutBy(by) if cut == by => *state = before.clone(),
             _ => {}
         }
         served
+    }
+
+    /// A push that has laid nothing new on the target.
+    fn laid_again(self, before: &State, state: &mut State, served: Served) -> Served {
+        let reply = match self {
+            Again::RefusedOnceLaid => {
+                *state = before.clone();
+                Err(Refusal::NoRule)
+            }
+            Again::SilentOnceLaid => Ok(Answer::Nothing),
+            Again::FinishedOnceLaid => {
+                state.applied = before.applied.clone();
+                Ok(Answer::Nothing)
+            }
+            _ => return served,
+        };
+        Served { reply, ..served }
     }
 }
 

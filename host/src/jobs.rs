@@ -1,7 +1,7 @@
-//! The four jobs. Each looks for the first rule that holds, makes its first store, and then, unless cut, its second.
+//! The four jobs. Each looks for the first rule that holds, makes its first store, and then, unless cut, those that follow.
 
 use crate::controller::{
-    overlay, Applied, Committed, Event, Node, Number, Ordinal, Phase, Refusal, Stage, Status, Transaction, Values,
+    overlay, Applied, Change, Committed, Event, Node, Number, Ordinal, Phase, Refusal, Stage, Status, Transaction, Values,
 };
 
 #[derive(Clone, Copy, PartialEq, Eq, Hash, Debug)]
@@ -24,8 +24,16 @@ pub enum Outcome {
     Rejected,
 }
 
-/// The operands of a job where every one is in range: node, job, outcome, and whether what follows "then" is left out.
-pub fn ranged(node: u64, job: u64, outcome: u64, cut: u64) -> Option<(Node, Job, Outcome, bool)> {
+/// After which store a job ends early, as by a crash. A rule with no store after that one is whole.
+#[derive(Clone, Copy, PartialEq, Eq, Hash, Debug)]
+pub enum Cut {
+    Nowhere,
+    AfterFirst,
+    AfterSecond,
+}
+
+/// The operands of a job where every one is in range.
+pub fn ranged(node: u64, job: u64, outcome: u64, cut: u64) -> Option<(Node, Job, Outcome, Cut)> {
     let node = Node::new(node)?;
     let job = match job {
         1 => Job::CommitChange,
@@ -39,11 +47,13 @@ pub fn ranged(node: u64, job: u64, outcome: u64, cut: u64) -> Option<(Node, Job,
         1 => Outcome::Rejected,
         _ => return None,
     };
-    match cut {
-        0 => Some((node, job, outcome, false)),
-        1 => Some((node, job, outcome, true)),
-        _ => None,
-    }
+    let cut = match cut {
+        0 => Cut::Nowhere,
+        1 => Cut::AfterFirst,
+        2 => Cut::AfterSecond,
+        _ => return None,
+    };
+    Some((node, job, outcome, cut))
 }
 
 macro_rules! rules {
@@ -80,7 +90,7 @@ rules! {
     ApplyChangeClose 1 "Aborted or Failed, next.",
     ApplyChangeFinish 1 "InProgress, o at least 1, ordinal = o.",
     ApplyChangeFail 2 "InProgress, next, r.commit Complete.",
-    ApplyChangePush 2 "InProgress, next, line open, accepted.",
+    ApplyChangePush 3 "InProgress, next, line open, accepted.",
     ApplyChangeReject 2 "InProgress, next, line open, rejected.",
     ApplyChangeNoLine 0 "InProgress, next, line not open: 12.",
     ApplyRollbackBegin 1 "Pending, next, c.apply Complete or Failed, target = r.index.",
@@ -88,7 +98,7 @@ rules! {
     ApplyRollbackCancel 2 "Pending, next, settled, c.apply Aborted.",
     ApplyRollbackClose 1 "Canceled, next.",
     ApplyRollbackFinish 1 "InProgress, o at least 1, ordinal = o.",
-    ApplyRollbackPush 2 "InProgress, next, line open, accepted.",
+    ApplyRollbackPush 3 "InProgress, next, line open, accepted.",
     ApplyRollbackReject 0 "InProgress, next, line open, rejected: 13.",
     ApplyRollbackNoLine 0 "InProgress, next, line not open: 12.",
 }
@@ -111,7 +121,7 @@ pub struct Work<'a> {
     pub job: Job,
     pub number: Number,
     pub outcome: Outcome,
-    pub cut: bool,
+    pub cut: Cut,
     pub transaction: &'a mut Transaction,
     pub committed: &'a mut Committed,
     pub applied: &'a mut Applied,
@@ -295,13 +305,8 @@ impl Work<'_> {
     }
 
     fn push_change(&mut self) -> Worked {
-        overlay(self.target_values, self.transaction.change.pairs());
-        overlay(&mut self.applied.values, self.transaction.change.pairs());
-        self.applied.index = self.number;
-        self.applied.revision = self.number;
-        self.applied.ordinal = self.transaction.c.ordinal;
-        self.then(Self::finish_apply_change);
-        self.told(Rule::ApplyChangePush, Status::Complete)
+        let Transaction { change, c, .. } = *self.transaction;
+        self.push(Rule::ApplyChangePush, change, (self.number, c.ordinal), Self::finish_apply_change)
     }
 
     fn finish_apply_change(&mut self) {
@@ -358,23 +363,33 @@ impl Work<'_> {
     }
 
     fn push_rollback(&mut self) -> Worked {
+        let Transaction { r_index, r, .. } = *self.transaction;
         let returning = self.transaction.returning_pairs();
-        overlay(self.target_values, returning.pairs());
-        overlay(&mut self.applied.values, returning.pairs());
-        self.applied.index = self.number;
-        self.applied.revision = self.transaction.r_index;
-        self.applied.ordinal = self.transaction.r.ordinal;
-        self.then(Self::finish_apply_rollback);
-        self.told(Rule::ApplyRollbackPush, Status::Complete)
+        self.push(Rule::ApplyRollbackPush, returning, (r_index, r.ordinal), Self::finish_apply_rollback)
     }
 
     fn finish_apply_rollback(&mut self) {
         self.transaction.r.apply = Status::Complete;
     }
 
-    /// What follows "then": left out where the job is cut.
+    /// An accepted push (order 8): the target's values, then Applied with the event, then the status.
+    fn push(&mut self, rule: Rule, pairs: Change, applied: (Number, Ordinal), finish: fn(&mut Self)) -> Worked {
+        overlay(self.target_values, pairs.pairs());
+        if self.cut == Cut::AfterFirst {
+            return self.silent(rule);
+        }
+        overlay(&mut self.applied.values, pairs.pairs());
+        self.applied.index = self.number;
+        (self.applied.revision, self.applied.ordinal) = applied;
+        if self.cut != Cut::AfterSecond {
+            finish(self);
+        }
+        self.told(rule, Status::Complete)
+    }
+
+    /// The second of two stores: left out where the job is cut after the first.
     fn then(&mut self, store: impl FnOnce(&mut Self)) {
-        if !self.cut {
+        if self.cut != Cut::AfterFirst {
             store(self);
         }
     }

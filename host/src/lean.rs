@@ -8,7 +8,7 @@ use crate::controller::{
     Transaction, LOG_LIMIT,
 };
 use crate::image::{self, at, entry, put_u16, put_u32, u16_at, u32_at, ENTRY, LENGTH};
-use crate::jobs::{ranged, Job, Outcome, Work};
+use crate::jobs::{ranged, Cut, Job, Outcome, Work};
 use crate::night::EVENT;
 use crate::northbound::{Answer, Request, Served};
 use crate::reads::{Query, CONNECTION_FIELDS, RECORD_FIELDS, TRANSACTION_FIELDS};
@@ -778,7 +778,7 @@ fn turn(state: &mut State, low: usize, line_open: bool, outcomes: &Outcomes) -> 
                 job,
                 number: Number(state.folded.0 + 1 + place as u16),
                 outcome: outcome_of(job, &outcomes[place]),
-                cut: false,
+                cut: Cut::Nowhere,
                 transaction: &mut transaction,
                 committed: &mut state.committed,
                 applied: &mut state.applied,

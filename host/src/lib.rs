@@ -21,4 +21,5 @@ pub mod random;
 pub mod reads;
 pub mod requests;
 pub mod retry;
+pub mod switch;
 pub mod why;

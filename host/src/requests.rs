@@ -129,7 +129,7 @@ fn job(state: &State, random: &mut Random) -> Request {
         _ => (random.between(1, 4) as u64, any_number(state, random)),
     };
     let outcome = random.once_in(7).into();
-    let cut = random.once_in(3).into();
+    let cut = random.one_of(&[0, 0, 0, 0, 1, 2]);
     Request::Work { node, job, number, outcome, cut }
 }
 
@@ -209,7 +209,7 @@ fn any(state: &State, random: &mut Random) -> Request {
         _ => {
             let job = if random.once_in(9) { random.one_of(&[0, 5, 256, 257, 65535]) } else { random.between(1, 4) as u64 };
             let outcome = if random.once_in(20) { random.one_of(&[2, 256, 65535]) } else { random.below(2) as u64 };
-            let cut = if random.once_in(20) { random.one_of(&[2, 256, 65535]) } else { random.below(2) as u64 };
+            let cut = if random.once_in(20) { random.one_of(&[3, 256, 65535]) } else { random.below(3) as u64 };
             Request::Work { node: node(random), job, number: number(random), outcome, cut }
         }
     }

@@ -1,7 +1,7 @@
 //! Order 4: why a job that answers 11 does not move: one reason, and what it names.
 
 use crate::controller::{settled, Node, Number, Ordinal, Progress, Refusal, State, Status, Transaction};
-use crate::jobs::{ranged, Job, Outcome, Work};
+use crate::jobs::{ranged, Cut, Job, Outcome, Work};
 
 /// A job on a number, by a node: each as wide as in the C interface.
 #[derive(Clone, Copy, PartialEq, Eq, Hash, Debug)]
@@ -140,7 +140,7 @@ impl Asked<'_> {
             job: self.job,
             number: self.number,
             outcome: Outcome::Accepted,
-            cut: false,
+            cut: Cut::Nowhere,
             transaction: &mut transaction,
             committed: &mut state.committed.clone(),
             applied: &mut state.applied.clone(),

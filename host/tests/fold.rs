@@ -134,6 +134,8 @@ fn no_fold_while_a_push_is_not_settled() {
     commit(&mut state, 2);
     assert!(work(&mut state, 2, 2, ACCEPTED).reply.is_ok());
     cut(&mut state, 2, 2);
+    assert_eq!(state.clone().fold(1), Err(Refusal::NotFinished));
+    assert!(state.work(1, 2, 2, ACCEPTED, 2).reply.is_ok());
     refused_for(&state, 1, Hindrance::NotSettled);
     assert!(work(&mut state, 2, 2, ACCEPTED).reply.is_ok());
     assert_eq!(state.fold(2), Ok(()));

@@ -123,8 +123,8 @@ fn p12_an_invalid_change_takes_no_ordinal() {
 fn a_cut_job_is_taken_up_again() {
     let mut state = with_open_line();
     state.append(&[(3, 7)]).unwrap();
-    for job in [1, 2] {
-        while state.work(1, job, 1, ACCEPTED, 1).reply.is_ok() {}
+    for (job, cut) in [(1, 1), (2, 2)] {
+        while state.work(1, job, 1, ACCEPTED, cut).reply.is_ok() {}
     }
     let done = transaction(&state, 1).c;
     assert_eq!((done.commit, done.apply, done.ordinal), (Status::Complete, Status::Complete, Ordinal(1)));

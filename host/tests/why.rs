@@ -17,7 +17,7 @@ fn why(state: &State, job: u64, number: u64) -> Result<(Reason, u32), Refusal> {
 
 /// The job answers 11, whatever its outcome and cut, and this is why.
 fn waits(state: &State, job: u64, number: u64, reason: Reason, named: u32) {
-    for (outcome, cut) in [(0, 0), (0, 1), (1, 0), (1, 1)] {
+    for (outcome, cut) in [(0, 0), (0, 1), (0, 2), (1, 0), (1, 1), (1, 2)] {
         let reply = state.clone().work(1, job, number, outcome, cut).reply;
         assert_eq!(reply, Err(Refusal::NoRule), "job {job} on {number}");
     }
@@ -96,9 +96,11 @@ fn a_change_waits_for_its_apply() {
     waits(&state, 2, 2, Reason::EarlierOrdinal, 1);
     waits(&state, 2, 3, Reason::EarlierOrdinal, 1);
     assert!(work(&mut state, 2, 1, ACCEPTED).reply.is_ok());
-    cut(&mut state, 2, 1);
-    waits(&state, 2, 2, Reason::EarlierOrdinal, 1);
-    waits(&state, 2, 3, Reason::EarlierOrdinal, 1);
+    for cut in [1, 2] {
+        assert!(state.work(1, 2, 1, ACCEPTED, cut).reply.is_ok());
+        waits(&state, 2, 2, Reason::EarlierOrdinal, 1);
+        waits(&state, 2, 3, Reason::EarlierOrdinal, 1);
+    }
     assert!(work(&mut state, 2, 1, ACCEPTED).reply.is_ok());
     waits(&state, 2, 1, Reason::Finished, 0);
     waits(&state, 2, 3, Reason::EarlierOrdinal, 2);
@@ -321,7 +323,7 @@ fn a_reason_is_given_exactly_where_the_job_answers_11() {
             act(&mut state, &request);
             for (job, number) in (1..=4).flat_map(|job| numbers(&state).map(move |number| (job, number))) {
                 let node = state.mastership.master.map_or(1, |master| master.number().into());
-                let (outcome, cut) = (random.below(2) as u64, random.below(2) as u64);
+                let (outcome, cut) = (random.below(2) as u64, random.below(3) as u64);
                 let answer = state.clone().work(node, job, number, outcome, cut).reply;
                 match (state.why(Question { node, job, number }), answer) {
                     (Ok(why), Err(Refusal::NoRule)) => seen[why.reason as usize - 1] += 1,

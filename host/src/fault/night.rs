@@ -29,8 +29,8 @@ pub enum Lapse {
     /// A job that is refused so ends the turn.
     EndsAt(Refusal),
     // ---- what a job is told
-    /// Every job is cut.
-    Cut,
+    /// Every job is cut so.
+    Cut(u64),
     /// The push of a rollback is told what the table has for the push of the change, or for its validation.
     RollbackByPush,
     RollbackByValidation,
@@ -122,7 +122,7 @@ impl Lapse {
         all.extend([GoesOn, GoesRound, EndsWhereIdle]);
         all.extend(ORDERS.map(Jobs));
         all.extend([Refusal::LineNotOpen, Refusal::CounterAtLimit].map(EndsAt));
-        all.extend([Cut, RollbackByPush, RollbackByValidation, TableByNumber, TableBySlot, PlacesSwapped]);
+        all.extend([Cut(1), Cut(2), RollbackByPush, RollbackByValidation, TableByNumber, TableBySlot, PlacesSwapped]);
         all.extend([ValidationForBoth, PushForBoth, OneForEach, OfTheNext, OnePlaceFurther, UsedUp, AllAccepted, AllRejected]);
         let each_two = Stopped::ALL.into_iter().flat_map(|one| Stopped::ALL.map(|other| (one, other)));
         all.extend(each_two.filter(|(one, other)| one != other).map(|(one, other)| StoppedAs(one, other)));
@@ -222,7 +222,8 @@ impl Lapse {
             let folded = if self == Lapse::CountedFrom1 { 0 } else { state.folded.0.into() };
             let number = folded + 1 + place as u64;
             let outcome = self.outcome(night, place, number, job, done);
-            match state.work(night.node, job, number, outcome, (self == Lapse::Cut).into()) {
+            let cut = if let Lapse::Cut(cut) = self { cut } else { 0 };
+            match state.work(night.node, job, number, outcome, cut) {
                 Worked { reply: Ok(event), rule } => {
                     let number = state.given(number).expect("a job's number is given");
                     return Ok(Done { job, number, outcome, rule, event });

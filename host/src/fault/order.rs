@@ -213,7 +213,8 @@ fn in_range(argument: Argument, number: u64) -> u64 {
     match argument {
         Argument::Node => number.clamp(1, 8),
         Argument::Job => number.clamp(1, 4),
-        Argument::Outcome | Argument::Cut => number.min(1),
+        Argument::Outcome => number.min(1),
+        Argument::Cut => number.min(2),
         _ => number,
     }
 }

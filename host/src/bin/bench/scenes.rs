@@ -258,16 +258,16 @@ fn whys(length: usize, base: &State, before_last: &State) -> Vec<Scene> {
         return vec![asked("why: no such number", length, base, 1, 1, Err(Refusal::NoSuchNumber))];
     }
     let (last, before) = (length, length - 1);
-    let cut = |job, number: usize| Request::Work { node: 1, job, number: number as u64, outcome: 0, cut: 1 };
+    let cut = |job, number: usize, cut| Request::Work { node: 1, job, number: number as u64, outcome: 0, cut };
     let rollback = Request::Rollback(before as u64);
     let appended = led(before_last.clone(), &[append(last)]);
     let two_appended = led(applied(length - 2), &[append(before), append(last)]);
     let committed = led(appended.clone(), &[work(1, last), work(1, last)]);
     let two_committed = led(two_appended.clone(), &[before, before, last, last].map(|number| work(1, number)));
-    let unsettled = led(two_committed.clone(), &[work(2, before), cut(2, before)]);
+    let unsettled = led(two_committed.clone(), &[work(2, before), cut(2, before, 2)]);
     let opened = led(appended.clone(), &[rollback.clone(), work(1, last)]);
     let begun = led(appended.clone(), &[rollback.clone(), work(3, before)]);
-    let cut_off = led(appended.clone(), &[rollback.clone(), cut(3, before)]);
+    let cut_off = led(appended.clone(), &[rollback.clone(), cut(3, before, 1)]);
     let covered = led(base.clone(), &[rollback]);
     [
         ("why: finished", base, 2, last, Ok(Reason::Finished)),

@@ -2,7 +2,7 @@
 //! be kept. They are the same on every machine.
 
 use crate::desk::{Compared, Desk};
-use crate::nights::{night, Room};
+use crate::nights::{night, Behind, Room};
 use crate::outside::{self, lent};
 use crate::sessions::opened;
 use crate::states::made_up;
@@ -40,7 +40,7 @@ pub fn is_due(state: &State, once_in: usize, random: &mut Random) -> bool {
 }
 
 /// A night at random from a state, in a room at random.
-pub fn any(desk: &mut Desk, state: &State, bytes: &[u8], random: &mut Random) -> Compared<Option<(State, Vec<u8>)>> {
+pub fn any(desk: &mut Desk, state: &State, bytes: &[u8], random: &mut Random) -> Compared<Option<Behind>> {
     let asked = any_night(state, random);
     night(desk, Some(state), bytes, &asked, random.one_of(&Room::ALL))
 }
@@ -68,7 +68,7 @@ fn session(desk: &mut Desk, folded: Number, random: &mut Random) -> Compared<()>
         desk.call(&mut state, &mut bytes, &request)?;
         some(desk, &state, &bytes, random)?;
         if random.once_in(STOPPED_ONE_IN) {
-            if let Some((stopped, stopped_bytes)) = desk.call_from(&state, &bytes, &Request::Stop)? {
+            if let Some((stopped, stopped_bytes, _)) = desk.call_from(&state, &bytes, &Request::Stop)? {
                 some(desk, &stopped, &stopped_bytes, random)?;
             }
         }

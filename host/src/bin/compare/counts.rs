@@ -1,8 +1,9 @@
-//! What a comparison has seen: calls, replies, and rules taken, whole and cut. Something not seen is a failure.
+//! What a comparison has seen: calls, replies, and rules taken, with each cut. Something not seen is a failure.
 
 use crate::folds;
 use crate::nights;
 use crate::retries;
+use crate::switches;
 use crate::whys;
 use crate::wide;
 use makowist_host::controller::{Refusal, State};
@@ -19,8 +20,8 @@ pub struct Counts {
     pub states: u64,
     /// By answer: accepted is 0, a refusal its number.
     answers: [u64; ANSWERS],
-    /// By rule: whole, then cut.
-    rules: [[u64; 2]; Rule::ALL.len()],
+    /// By rule and cut.
+    rules: [[u64; CUTS]; Rule::ALL.len()],
     /// Masters that had reconnected and were freed.
     pub freed: u64,
     /// Logs led to the last number.
@@ -33,6 +34,8 @@ pub struct Counts {
     pub whys: whys::Seen,
     /// What order 2 brings.
     pub nights: nights::Seen,
+    /// What order 8 brings.
+    pub switches: switches::Seen,
     /// Numbers of more than 16 bits, and rooms by the byte.
     pub wide: wide::Seen,
     /// By what is read: how often each table, field or reason was shown.
@@ -40,6 +43,9 @@ pub struct Counts {
     /// By what is read: how often each refusal was answered.
     refused: [[u64; ANSWERS]; KINDS.len()],
 }
+
+/// Cut 0, 1 and 2: where a rule has fewer stores, they leave the same.
+const CUTS: usize = 3;
 
 /// One more than the greatest answer; not every number below it is one.
 const ANSWERS: usize = Refusal::Folded as usize + 1;
@@ -58,7 +64,7 @@ impl Counts {
         self.calls += 1;
         self.answers[served.reply.map_or_else(|refusal| refusal.number().into(), |_| 0)] += 1;
         if let (Some(rule), Request::Work { cut, .. }) = (served.rule, request) {
-            self.rules[rule as usize][usize::from(*cut == 1)] += 1;
+            self.rules[rule as usize].get_mut(*cut as usize).into_iter().for_each(|count| *count += 1);
         }
     }
 
@@ -116,19 +122,20 @@ impl Counts {
         let unseen_folds = self.folds.told();
         let unseen_whys = self.whys.told();
         let unseen_nights = self.nights.told();
+        let unseen_switches = self.switches.told();
         let unseen_wide = self.wide.told();
         let unseen_reads = self.told_reads();
-        println!("{:>12}  {:>12}  rule", "whole", "cut");
-        for (rule, [whole, cut]) in Rule::ALL.iter().zip(&self.rules) {
-            println!("{whole:>12}  {cut:>12}  {rule:?}");
+        println!("{:>12}  {:>12}  {:>12}  rule, and its stores", "cut 0", "cut 1", "cut 2");
+        for (rule, [whole, first, second]) in Rule::ALL.iter().zip(&self.rules) {
+            println!("{whole:>12}  {first:>12}  {second:>12}  {rule:?} {}", rule.stores());
         }
         let refusals = Refusal::ALL.iter().filter(|refusal| self.answers[usize::from(refusal.number())] > 0).count();
         let unseen_answers = Refusal::ALL.len() - refusals + usize::from(self.answers[0] == 0);
         let unseen_rules = self.rules.iter().flatten().filter(|count| **count == 0).count();
-        let rules = self.rules.iter().filter(|[whole, cut]| whole + cut > 0).count();
+        let rules = self.rules.iter().filter(|counts| counts.iter().sum::<u64>() > 0).count();
         println!("rules seen: {rules} of {}; refusals seen: {refusals} of {}", Rule::ALL.len(), Refusal::ALL.len());
         let unseen = [self.states, self.freed, self.migrations].iter().filter(|count| **count == 0).count();
-        let unseen_orders = unseen_retries + unseen_folds + unseen_whys + unseen_nights;
+        let unseen_orders = unseen_retries + unseen_folds + unseen_whys + unseen_nights + unseen_switches;
         unseen + unseen_answers + unseen_rules + unseen_reads + unseen_orders + unseen_wide
     }
 }

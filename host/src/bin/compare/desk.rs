@@ -118,7 +118,7 @@ impl Desk {
     /// Sends a call to both from the state and its image, which has been lent, and leaves both after the call. A job that was
     /// cut is also called again, on copies; one that was answered 11 is asked after.
     pub fn call(&mut self, state: &mut State, bytes: &mut [u8], request: &Request) -> Compared<Served> {
-        let may_be_cut = matches!(request, Request::Work { cut: 1, .. });
+        let may_be_cut = matches!(request, Request::Work { cut: 1 | 2, .. });
         let before = may_be_cut.then(|| (state.clone(), bytes.to_vec()));
         let served = self.act(state, request);
         if served.reply.is_ok() {
@@ -135,8 +135,8 @@ impl Desk {
         Ok(served)
     }
 
-    /// As `call`, leaving state and image as they were: answers those after the call where it was accepted.
-    pub fn call_from(&mut self, state: &State, bytes: &[u8], request: &Request) -> Compared<Option<(State, Vec<u8>)>> {
+    /// As `call`, leaving state and image as they were: answers those after the call where it was accepted, and the reply.
+    pub fn call_from(&mut self, state: &State, bytes: &[u8], request: &Request) -> Compared<Option<(State, Vec<u8>, Served)>> {
         let mut after = state.clone();
         let served = self.act(&mut after, request);
         if served.reply.is_err() {
@@ -148,7 +148,7 @@ impl Desk {
         self.hold(&after_bytes, request, served)?;
         self.retry(request, &served, (state, bytes), (&after, &after_bytes))?;
         self.lend(bytes);
-        Ok(Some((after, after_bytes)))
+        Ok(Some((after, after_bytes, served)))
     }
 
     fn act(&mut self, state: &mut State, request: &Request) -> Served {
@@ -168,8 +168,8 @@ impl Desk {
         }
     }
 
-    /// Calls a job again where it was cut after the first of two stores, by both, on copies of the state and the image before
-    /// it and behind it: it must leave what the uncut job leaves, from the copies before it.
+    /// Calls a job again where it was cut before its last store, by both, on copies of the state and the image before it and
+    /// behind it: it must leave what the uncut job leaves, from the copies before it.
     fn retry(
         &mut self,
         request: &Request,

@@ -11,11 +11,15 @@ use makowist_host::northbound::{bytes_of, Request};
 use makowist_host::random::Random;
 use makowist_host::reads::Query;
 use makowist_host::requests::numbers;
+use makowist_host::switch::Switch;
 use std::collections::HashSet;
 
 /// The changes that are appended, one after another. They meet on two paths, and one deletes.
 const CHANGES: [&[(u16, u16)]; 5] =
     [&[(3, 7)], &[(3, 9), (5, 1)], &[(3, 0), (5, 2)], &[(0, 1), (3, 4), (5, 0), (31, 65535)], &[(5, 6)]];
+
+/// With which a job on a kept number is called; on another number with the first alone.
+const OUTCOMES_AND_CUTS: [(u64, u64); 6] = [(0, 0), (0, 1), (0, 2), (1, 0), (1, 1), (1, 2)];
 
 /// Of how many states one is read whole.
 const READ_ONE_IN: usize = 15;
@@ -43,19 +47,23 @@ pub fn run(desk: &mut Desk, transactions: usize) -> Compared<bool> {
 fn walk(desk: &mut Desk, folded: Number, transactions: usize) -> Compared<bool> {
     let mut random = Random::new(2);
     let mut seen = HashSet::new();
-    let mut level = vec![opened(desk, folded)?];
-    seen.insert(level[0].0.clone());
+    let (state, bytes) = opened(desk, folded)?;
+    seen.insert((state.clone(), Switch::default()));
+    let mut level = vec![(state, bytes, Switch::default())];
     while !level.is_empty() {
         let mut next = Vec::new();
-        for (place, (state, bytes)) in level.iter().enumerate() {
+        for (place, (state, bytes, switch)) in level.iter().enumerate() {
             if desk.is_half_over() {
                 return Ok(false);
             }
             desk.edge = if place % 2 == 0 { Edge::End } else { Edge::Begin };
             desk.lend(bytes);
             for (request, walks) in requests(state, usize::from(state.highest().0 - folded.0), transactions) {
-                let reached = desk.call_from(state, bytes, &request)?;
-                next.extend(reached.filter(|(after, _)| walks && seen.insert(after.clone())));
+                if let (Some((after, after_bytes, served)), true) = (desk.call_from(state, bytes, &request)?, walks) {
+                    let mut switch = switch.clone();
+                    desk.switched(&mut switch, (&after, &after_bytes), &request, &served)?;
+                    next.extend(seen.insert((after.clone(), switch.clone())).then_some((after, after_bytes, switch)));
+                }
             }
             for room in 0..=2 * transactions + 1 {
                 desk.read(Some(state), bytes, room)?;
@@ -94,15 +102,17 @@ fn requests(state: &State, appended: usize, transactions: usize) -> Vec<(Request
     for number in numbers(state) {
         all.push((Request::Rollback(number), true));
         all.push((Request::Fold(number), true));
+        let is_kept = state.given(number).is_ok_and(|number| state.transaction(number).is_some());
+        let tried = if is_kept { &OUTCOMES_AND_CUTS[..] } else { &OUTCOMES_AND_CUTS[..1] };
         for job in 1..=4 {
-            for (outcome, cut) in [(0, 0), (0, 1), (1, 0), (1, 1)] {
+            for (outcome, cut) in tried.iter().copied() {
                 all.push((Request::Work { node: 1, job, number, outcome, cut }, true));
             }
             all.push((Request::Work { node: 2, job, number, outcome: 0, cut: 0 }, false));
         }
     }
     let number = u64::from(state.highest().0);
-    for [node, job, outcome, cut] in [[0, 1, 0, 0], [9, 1, 0, 0], [1, 0, 0, 0], [1, 5, 0, 0], [1, 1, 2, 0], [1, 1, 0, 2]] {
+    for [node, job, outcome, cut] in [[0, 1, 0, 0], [9, 1, 0, 0], [1, 0, 0, 0], [1, 5, 0, 0], [1, 1, 2, 0], [1, 1, 0, 3]] {
         all.push((Request::Work { node, job, number, outcome, cut }, false));
     }
     let number = Wide::Above16.of(number);

@@ -1,6 +1,6 @@
-//! Holds the proved controller and the independent one together, call by call, reply and every byte; each of them to what order 3
-//! promises, at every job that is cut; and the proved one to what order 4 does, at every job that is answered 11 or asked after,
-//! and to what order 2 does, at every night.
+//! Holds the proved controller and the independent one together, call by call, reply and every byte; each of them to what orders
+//! 3 and 8 promise, at every job that is cut; both to what order 8 says of the target, at every state of a session; and the
+//! proved one to what order 4 does, at every job that is answered 11 or asked after, and to what order 2 does, at every night.
 //!
 //! Arguments, each `name=value`, in any order:
 //!
@@ -13,7 +13,7 @@
 //! - `fault=all`: try every fault, and end with 1 where one is not found; `found=NAME` tries that one alone
 //! - `overrun=End`, `overrun=Begin`: write the byte outside that edge of a lent slice, which must end the program
 //!
-//! Ends with 0 where there is no difference and no count is 0: every answer, every rule, whole and cut and called again, every
+//! Ends with 0 where there is no difference and no count is 0: every answer, every rule, with each cut and called again, every
 //! reason of every job, every read, every way for a night to pass, every argument too great in every way.
 
 mod by_itself;
@@ -27,6 +27,7 @@ mod outside;
 mod retries;
 mod sessions;
 mod states;
+mod switches;
 mod waiting;
 mod watch;
 mod whys;

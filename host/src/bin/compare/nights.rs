@@ -50,6 +50,10 @@ enum Kind {
     CutFinished,
     /// A job that is refused by 9 is passed over.
     CounterPassedOver,
+    /// The target has other values than Applied, the line open, as where a push was cut at its first store; then a push is made,
+    /// or rejected.
+    CutPushPushed,
+    CutPushRejected,
     /// Six jobs for each, with the line open.
     Enough,
     /// Refused, for that alone.
@@ -64,7 +68,7 @@ enum Kind {
 }
 
 impl Kind {
-    const ALL: [Kind; 25] = [
+    const ALL: [Kind; 27] = [
         Kind::Stopped(Stopped::NothingLeft),
         Kind::Stopped(Stopped::NoLine),
         Kind::Stopped(Stopped::BudgetSpent),
@@ -78,6 +82,8 @@ impl Kind {
         Kind::RollbackPushedDespiteTable,
         Kind::CutFinished,
         Kind::CounterPassedOver,
+        Kind::CutPushPushed,
+        Kind::CutPushRejected,
         Kind::Enough,
         Kind::NotWellFormed,
         Kind::NodeOutOfRange,
@@ -132,15 +138,17 @@ impl Seen {
     }
 }
 
-/// Compares a night from bytes, `state` being what they decode to, on copies. Answers state and image after it, where it was
-/// accepted.
+/// State and image behind a night, and what it did.
+pub type Behind = (State, Vec<u8>, Passed);
+
+/// Compares a night from bytes, `state` being what they decode to, on copies. Answers what is behind it, where it was accepted.
 pub fn night(
     desk: &mut Desk,
     state: Option<&State>,
     bytes: &[u8],
     night: &Night,
     room: Room,
-) -> Compared<Option<(State, Vec<u8>)>> {
+) -> Compared<Option<Behind>> {
     let mut after = state.cloned();
     let passed = match (desk.fault, &mut after) {
         (Some(fault), after) => fault.night(after.as_mut(), night),
@@ -167,7 +175,7 @@ pub fn night(
     one_by_one(desk, bytes, night, &passed, &expected.bytes)?;
     promised(desk, state, &after, night, &passed)?;
     accepted(desk, state, night, &passed, room);
-    Ok(Some((after, expected.bytes)))
+    Ok(Some((after, expected.bytes, passed)))
 }
 
 /// What the independent controller answers and leaves.
@@ -289,6 +297,9 @@ fn accepted(desk: &mut Desk, state: &State, night: &Night, passed: &Passed, room
         done.rule == Some(Rule::ApplyRollbackPush) && night.outcomes[2 * place + 1] == 1
     };
     let spent = passed.jobs.len() as u64 == night.budget && passed.stopped != Stopped::BudgetSpent;
+    let is_open = Node::new(night.node).is_some_and(|node| state.line_open(node));
+    let differs = is_open && state.target.values != state.applied.values;
+    let pushed = did(Rule::ApplyChangePush) || did(Rule::ApplyRollbackPush);
     let kinds = [
         (Kind::Stopped(passed.stopped), true),
         (Kind::SpentAndStopped(passed.stopped), spent),
@@ -299,6 +310,8 @@ fn accepted(desk: &mut Desk, state: &State, night: &Night, passed: &Passed, room
         (Kind::PushRejected, did(Rule::ApplyChangeReject)),
         (Kind::RollbackPushedDespiteTable, passed.jobs.iter().any(despite_table)),
         (Kind::CutFinished, passed.jobs.iter().any(|done| done.event.is_none())),
+        (Kind::CutPushPushed, differs && pushed),
+        (Kind::CutPushRejected, differs && did(Rule::ApplyChangeReject)),
         (Kind::Room(room), !passed.jobs.is_empty()),
     ];
     kinds.into_iter().filter(|(_, seen)| *seen).for_each(|(kind, _)| desk.counts.nights.saw(kind, desk.reached));

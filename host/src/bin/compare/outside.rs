@@ -25,6 +25,7 @@ pub fn run(desk: &mut Desk) -> Compared<()> {
         for net in few_nets() {
             every_call(desk, &with_net(&log, net), &log_requests(&log))?;
         }
+        every_call(desk, &with_net(&log, SYNCHRONISING), &net_requests())?;
         damaged(desk, &with_net(&log, OPEN))?;
         damaged(desk, &with_net(&log, STOPPED))?;
     }
@@ -119,6 +120,9 @@ pub const OPEN: Net = Net {
 
 /// The target is stopped.
 const STOPPED: Net = Net { running: false, ..OPEN };
+
+/// The next synchronise of node 1 writes.
+const SYNCHRONISING: Net = Net { state: ConfigurationState::InProgress, same_term: false, ..OPEN };
 
 /// The line open, closed by the target, closed by the term, and not the node's.
 fn few_nets() -> [Net; 5] {
@@ -217,6 +221,8 @@ fn logs() -> Vec<State> {
     returning.applied.ordinal = Ordinal(1);
     let mut pushing = one(Status::Complete, Phase::Change);
     pushing.log[0].c.apply = Status::InProgress;
+    let mut failed = pushing.clone();
+    failed.log[0].c.apply = Status::Failed;
     let mut finished = one(Status::Complete, Phase::Change);
     finished.log[0].c.apply = Status::Complete;
     finished.applied.ordinal = Ordinal(1);
@@ -228,6 +234,7 @@ fn logs() -> Vec<State> {
         at_limit,
         returning,
         pushing,
+        failed,
         finished,
         in_flight(),
         many(2, 1),
@@ -255,7 +262,9 @@ fn log_requests(state: &State) -> Vec<Request> {
     for number in numbers(state).filter(|number| !kept.contains(number)) {
         all.extend([Request::Rollback(number), Request::Fold(number)]);
         for (node, job) in [1, 2].into_iter().flat_map(|node| (1..=4).map(move |job| (node, job))) {
-            all.extend([0, 1].map(|outcome| Request::Work { node, job, number, outcome, cut: 0 }));
+            for (outcome, cut) in [(0, 0), (0, 1), (0, 2), (0, 3), (1, 0), (1, 1)] {
+                all.push(Request::Work { node, job, number, outcome, cut });
+            }
         }
         all.push(Request::Work { node: 0, job: 1, number, outcome: 0, cut: 0 });
     }

@@ -1,5 +1,5 @@
-//! Order 3: every job that is cut after the first of its two stores is called again on copies, and must leave what the uncut
-//! job leaves, in each of the two controllers by itself and in both alike. Other nodes may come and go in between.
+//! Orders 3 and 8: every job that is cut before its last store is called again on copies, and must leave what the uncut job
+//! leaves, in each of the two controllers by itself and in both alike. Other nodes may come and go in between.
 
 use crate::desk::{Compared, Difference};
 use makowist_host::controller::State;
@@ -13,25 +13,37 @@ use makowist_host::retry::CutJob;
 /// The most calls between a cut job and its retry.
 const MOST_BETWEEN: usize = 3;
 
-/// What is counted of each rule's retries: all of them, those with a call between that was accepted, or refused, those with the
-/// other outcome, and those that were cut again.
-const COLUMNS: [&str; 5] = ["retried", "call accepted", "call refused", "other outcome", "cut again"];
+/// What is counted of the retries behind each rule's cut: all of them, those with a call between that was accepted, or refused;
+/// and, where they are promised with any outcome and cut, those with the other outcome, and those that were cut again.
+const COLUMNS: [&str; 6] = ["retried", "call accepted", "call refused", "other outcome", "cut at 1", "cut at 2"];
+const COLUMNS_OF_THE_SAME: usize = 3;
 
-/// Counts by rule and column.
+/// The most stores that a cut keeps.
+const MOST_MADE: usize = 2;
+
+/// The cuts that retries take in turn.
+const CUTS: [u64; 3] = [1, 2, 0];
+
+type Row = [u64; COLUMNS.len()];
+
+/// Counts by rule, stores made, and column.
 #[derive(Default)]
-pub struct Seen([[u64; COLUMNS.len()]; Rule::ALL.len()]);
+pub struct Seen([[Row; MOST_MADE]; Rule::ALL.len()]);
 
 impl Seen {
     /// How often a job was called again.
     pub fn retries(&self) -> u64 {
-        self.0.iter().map(|counts| counts[0]).sum()
+        self.0.iter().flatten().map(|row| row[0]).sum()
     }
 
-    /// The next retry of a job: its rule's retries take the outcomes and cuts in turn, the other outcome and a cut first, half of
-    /// them with some calls between.
+    /// The next retry of a job: those behind one cut of its rule take the cuts and the outcomes in turn, the other outcome first,
+    /// half of them with some calls between. Where more than the last store is left, the job is called again as it was, whole.
     pub fn next(&self, cut: CutJob, random: &mut Random) -> Retry {
-        let [retried, ..] = self.0[cut.rule as usize];
-        let (other_outcome, cut_again) = (retried % 2 == 0, retried / 2 % 2 == 0);
+        let [retried, ..] = self.0[cut.rule as usize][cut.made as usize - 1];
+        let (other_outcome, cut_again) = match cut.lacks_the_last_alone() {
+            true => (retried / CUTS.len() as u64 % 2 == 0, CUTS[retried as usize % CUTS.len()]),
+            false => (false, 0),
+        };
         let count = if random.once_in(2) { random.between(1, MOST_BETWEEN) } else { 0 };
         let between = (0..count).map(|_| cut.elsewhere(random)).collect();
         Retry { cut, between, other_outcome, cut_again }
@@ -41,21 +53,25 @@ impl Seen {
     pub fn saw(&mut self, retry: &Retry, between: &[u64]) {
         let accepted = between.iter().any(|reply| *reply == 0);
         let refused = between.iter().any(|reply| *reply != 0);
-        let seen = [true, accepted, refused, retry.other_outcome, retry.cut_again];
-        let counts = &mut self.0[retry.cut.rule as usize];
+        let seen = [true, accepted, refused, retry.other_outcome, retry.cut_again == 1, retry.cut_again == 2];
+        let counts = &mut self.0[retry.cut.rule as usize][retry.cut.made as usize - 1];
         counts.iter_mut().zip(seen).for_each(|(count, seen)| *count += u64::from(seen));
     }
 
-    /// Prints every count, and answers how many are 0.
+    /// Prints every count, and answers how many are 0 that must not be.
     pub fn told(&self) -> usize {
-        let row = |cells: [String; COLUMNS.len()]| cells.map(|cell| format!("{cell:>13}")).join("  ");
+        let row = |cells: &[String]| cells.iter().map(|cell| format!("{cell:>13}")).collect::<Vec<_>>().join("  ");
         println!("{:>12}  cut jobs called again, which left every byte as the uncut job", self.retries());
-        println!("{}  rule (a call: between the two)", row(COLUMNS.map(str::to_string)));
-        let two_stores = || Rule::ALL.iter().zip(&self.0).filter(|(rule, _)| rule.stores() == 2);
-        for (rule, counts) in two_stores() {
-            println!("{}  {rule:?}", row(counts.map(|count| count.to_string())));
+        println!("{}  rule and where it was cut (a call: between the two)", row(&COLUMNS.map(str::to_string)));
+        let mut unseen = 0;
+        for (rule, rows) in Rule::ALL.iter().zip(&self.0) {
+            for (made, counts) in (1..rule.stores()).zip(rows) {
+                println!("{}  {rule:?} at {made} of {}", row(&counts.map(|count| count.to_string())), rule.stores());
+                let expected = if made + 1 == rule.stores() { COLUMNS.len() } else { COLUMNS_OF_THE_SAME };
+                unseen += counts[..expected].iter().filter(|count| **count == 0).count();
+            }
         }
-        two_stores().flat_map(|(_, counts)| counts).filter(|count| **count == 0).count()
+        unseen
     }
 }
 
@@ -64,7 +80,7 @@ pub struct Retry {
     cut: CutJob,
     between: Vec<Request>,
     other_outcome: bool,
-    cut_again: bool,
+    cut_again: u64,
 }
 
 /// What calls answered, and what they left.
@@ -84,11 +100,13 @@ impl Retry {
         self.between.iter().cloned().chain([self.cut.again(self.other_outcome, self.cut_again)]).collect()
     }
 
-    /// Holds one controller to what is promised of a retry, where the cut job was answered so: the uncut job is answered the
-    /// same, the calls between the same in both runs, the retry with 0 and no event, and what they leave is the same.
+    /// Holds one controller to what is promised of a retry, where the cut job was answered so: of the two calls one is answered
+    /// as the uncut job and the other with 0 and no event, the calls between the same in both runs, and what they leave is the
+    /// same. The first of the two gives the event, but where a push was cut at its first store.
     pub fn hold<S: PartialEq>(&self, side: &str, first: &Served, uncut: &Made<S>, again: &Made<S>) -> Compared<()> {
-        let expected: Vec<u64> = [&[first.packed()], &again.replies[..self.between.len()]].concat();
-        let what = if uncut.replies != expected || again.replies.last() != Some(&0) {
+        let (last, between) = again.replies.split_last().expect("the job is called again");
+        let two = if self.cut.lacks_the_last_alone() { [first.packed(), *last] } else { [*last, first.packed()] };
+        let what = if two != [uncut.replies[0], 0] || uncut.replies[1..] != *between {
             "is answered otherwise"
         } else if uncut.left != again.left {
             "does not leave what the uncut job leaves"

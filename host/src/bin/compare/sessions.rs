@@ -9,6 +9,7 @@ use makowist_host::northbound::Request;
 use makowist_host::random::Random;
 use makowist_host::reads::Query;
 use makowist_host::requests::{change, sensible, wild};
+use makowist_host::switch::Switch;
 
 /// The calls of a long session, which takes the numbers round the ring more than once.
 const LONG: usize = 12_000;
@@ -66,7 +67,7 @@ pub fn run(desk: &mut Desk, calls: u64, random: &mut Random) -> Compared<()> {
 fn session(desk: &mut Desk, random: &mut Random) -> Compared<()> {
     let mut bytes: Vec<u8> = (0..LENGTH).map(|_| random.bits() as u8).collect();
     desk.lend(&bytes);
-    let mut state = State::fresh();
+    let (mut state, mut switch) = (State::fresh(), Switch::default());
     desk.call(&mut state, &mut bytes, &Request::Fresh)?;
     let log_limit = random.one_of(&[1, 2, 3, 4, 6, 16, 40, 128, 130]);
     let length = if random.once_in(30) { LONG } else { 20 + random.below(25 * log_limit) };
@@ -82,7 +83,8 @@ fn session(desk: &mut Desk, random: &mut Random) -> Compared<()> {
             true => wild(&state, random),
             false => sensible(&state, log_limit, random),
         };
-        desk.call(&mut state, &mut bytes, &request)?;
+        let served = desk.call(&mut state, &mut bytes, &request)?;
+        desk.switched(&mut switch, (&state, &bytes), &request, &served)?;
         if random.once_in(16) {
             desk.read(Some(&state), &bytes, random.below(MOST_ROOM + 1))?;
         }
@@ -91,9 +93,10 @@ fn session(desk: &mut Desk, random: &mut Random) -> Compared<()> {
         }
         if by_itself::is_due(&state, NIGHT_ONE_IN, random) {
             let passed = by_itself::any(desk, &state, &bytes, random)?;
-            if let Some((after, after_bytes)) = passed.filter(|_| random.once_in(GOES_ON_ONE_IN)) {
+            if let Some((after, after_bytes, passed)) = passed.filter(|_| random.once_in(GOES_ON_ONE_IN)) {
                 (state, bytes) = (after, after_bytes);
                 desk.lend(&bytes);
+                desk.switched_by_night(&mut switch, (&state, &bytes), &passed)?;
             }
         }
     }

@@ -226,7 +226,7 @@ impl Focus {
                     _ => random.one_of(&[1, 2, 2]),
                 };
                 let number = near(random);
-                let (outcome, cut) = (random.below(2) as u64, random.below(2) as u64);
+                let (outcome, cut) = (random.below(2) as u64, random.below(3) as u64);
                 Request::Work { node: master, job, number, outcome, cut }
             }
         }

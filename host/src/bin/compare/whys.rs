@@ -46,7 +46,7 @@ pub fn answer_for(job: u64) -> u64 {
 impl Seen {
     /// The job that a question asks after, each outcome and cut in turn.
     pub fn next_job(&self, Question { node, job, number }: Question) -> Request {
-        Request::Work { node, job, number, outcome: self.called & 1, cut: self.called >> 1 & 1 }
+        Request::Work { node, job, number, outcome: self.called % 2, cut: self.called / 2 % 3 }
     }
 
     /// Counts a job that was called behind the question after it.

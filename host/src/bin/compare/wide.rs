@@ -133,7 +133,8 @@ fn in_range(function: &str, argument: Argument, state: &State) -> RangeInclusive
         Argument::Node => 1..=NODES as u64,
         Argument::Job => 1..=4,
         Argument::Number => 1..=state.highest().0.into(),
-        Argument::Outcome | Argument::Cut => 0..=1,
+        Argument::Outcome => 0..=1,
+        Argument::Cut => 0..=2,
         Argument::Table => 1..=TABLES,
         Argument::Path => 0..=PATHS as u64 - 1,
         Argument::Field if function == "transaction" => 1..=TRANSACTION_FIELDS,
@@ -196,7 +197,7 @@ fn requests(state: &State) -> Vec<Request> {
     for number in state.kept().map(|(number, _)| u64::from(number.0)) {
         all.extend([Request::Rollback(number), Request::Fold(number)]);
         for (node, job) in [1, 2].into_iter().flat_map(|node| (1..=4).map(move |job| (node, job))) {
-            for (outcome, cut) in [(0, 0), (0, 1), (1, 0), (1, 1)] {
+            for (outcome, cut) in [(0, 0), (0, 1), (0, 2), (1, 0), (1, 1)] {
                 all.push(Request::Work { node, job, number, outcome, cut });
             }
         }
