@@ -5,13 +5,24 @@
  * Reads one call a line and writes one answer a line, as the program `stepper` does, and the heads at the end of the
  * input. An accepted call's image is in the file, and on the disk, before its answer is written; so the server can be
  * killed at any moment and started again on the same file, and no answered call is lost. A call that was not answered
- * was made wholly or not at all. A night is made in slices, and each is kept before the next begins: one that was not
- * answered was made up to a slice, and asked again, with what is left of its budget, it goes on from there.
+ * was made wholly or not at all, or is a push that has landed (below). A night is made in slices, and each is kept before the
+ * next begins: one that was not answered was made up to a slice, and asked again, with what is left of its budget, it goes on
+ * from there.
+ *
+ * The switch is told first. What a push, a synchronise that writes, a start or a stop brings about is on the switch before
+ * the image that shows it is kept; IMAGE.switch (target.h) stands in for the switch. Whenever a call has been answered, the
+ * switch has what the image's target table says. Killed between the two, the kept image is behind the switch by that one
+ * call, and in a night too by one push alone, since a push is a slice by itself: so it is a step from the kept image. The
+ * next start looks at the switch and makes the image show what it has: a start, a stop or a synchronise whole, and a push as
+ * far as the first of its three stores, by cut 1, with no event. It is made good by who asks for the same job again, with the
+ * same outcome and cut 0, or for the rest of the night; or by losing the line and synchronising, which takes it back. A host
+ * that cannot read its switch asks for the job again, or synchronises, before anything else.
  *
  * Where IMAGE does not exist it is made fresh. A file that is no well-formed image is refused and left as it is.
- * Four files lie beside it: IMAGE.new, written before it takes IMAGE's name; IMAGE.lock, held while a server runs;
- * IMAGE.archive, a line for each entry that was folded (archive.h), without which a folded image is refused; and
- * IMAGE.events, a line for each event, those of a night too, which its answer does not show:
+ * These files lie beside it: IMAGE.new, written before it takes IMAGE's name, and IMAGE.switch.new likewise; IMAGE.lock, held
+ * while a server runs; IMAGE.switch, which is made as the image has it where there is none, and refused where no one call
+ * leads from the image to it; IMAGE.archive, a line for each entry that was folded (archive.h), without which a folded image
+ * is refused; and IMAGE.events, a line for each event, those of a night too, which its answer does not show:
  *
  *     phase=1 stage=1 number=3 status=2
  *     from=73186d7df2954737
@@ -33,9 +44,20 @@
 
 #include "archive.h"
 #include "fail.h"
+#include "keep.h"
 #include "makowist.h"
+#include "target.h"
 
 static uint8_t image[MAKOWIST_IMAGE_LENGTH];
+
+/* A copy, on which a step is tried before the switch or the archive is told. */
+static uint8_t tried[MAKOWIST_IMAGE_LENGTH];
+
+static uint8_t *copy(void) { return memcpy(tried, image, sizeof tried); }
+
+static int accepted(uint64_t reply) { return makowist_reply_answer(reply) == MAKOWIST_ACCEPTED; }
+
+static unsigned shown(unsigned field) { return makowist_reply_value(makowist_record(image, sizeof image, field)); }
 
 /* ---- The file. */
 
@@ -47,6 +69,7 @@ struct place {
     int folder;
     FILE *events; /* the record, open for more */
     uint64_t sum; /* of the image that is kept */
+    struct target target;
 };
 
 static char *joined(const char *name, const char *ending) {
@@ -60,43 +83,25 @@ static char *joined(const char *name, const char *ending) {
 
 /* Opens what keeping needs and makes sure that no other server keeps this image. */
 static struct place place_of(const char *name) {
-    struct place place = {name, joined(name, ".new"), joined(name, ".archive"), joined(name, ".events"), -1, NULL, 0};
-    char *copy = joined(name, ""), *lock = joined(name, ".lock");
+    struct place place = {name, joined(name, ".new"), joined(name, ".archive"), joined(name, ".events"), -1, NULL, 0,
+                          {joined(name, ".switch"), joined(name, ".switch.new"), -1, 0, {0}}};
+    char *path = joined(name, ""), *lock = joined(name, ".lock");
     int held = open(lock, O_RDWR | O_CREAT | O_CLOEXEC, 0644);
     if (held < 0)
         fail(lock, strerror(errno));
     if (flock(held, LOCK_EX | LOCK_NB) != 0)
         fail(lock, errno == EWOULDBLOCK ? "another server keeps this image" : strerror(errno));
-    place.folder = open(dirname(copy), O_RDONLY | O_DIRECTORY | O_CLOEXEC);
+    place.folder = open(dirname(path), O_RDONLY | O_DIRECTORY | O_CLOEXEC);
     if (place.folder < 0)
         fail(name, strerror(errno));
-    free(copy);
+    place.target.folder = place.folder;
+    free(path);
     free(lock);
     return place;
 }
 
-static void sync_folder(const struct place *place) {
-    if (fsync(place->folder) != 0)
-        fail(place->name, strerror(errno));
-}
-
-/* Writes the image aside, then gives it the name: whoever reads the name finds the old image or the new one, whole. */
 static void keep(struct place *place) {
-    int file = open(place->aside, O_WRONLY | O_CREAT | O_TRUNC | O_CLOEXEC, 0644);
-    if (file < 0)
-        fail(place->aside, strerror(errno));
-    for (size_t written = 0; written < sizeof image;) {
-        ssize_t count = write(file, image + written, sizeof image - written);
-        if (count > 0)
-            written += (size_t)count;
-        else if (count == 0 || errno != EINTR)
-            fail(place->aside, count == 0 ? "nothing was written" : strerror(errno));
-    }
-    if (fsync(file) != 0 || close(file) != 0)
-        fail(place->aside, strerror(errno));
-    if (rename(place->aside, place->name) != 0)
-        fail(place->name, strerror(errno));
-    sync_folder(place);
+    keep_whole(place->name, place->aside, place->folder, image, sizeof image);
     place->sum = sum_of(SUM_OF_NOTHING, image, sizeof image);
 }
 
@@ -126,6 +131,12 @@ static int load(struct place *place) {
 struct event {
     unsigned phase, stage, number, status; /* all 0 where there is none */
 };
+
+static struct event event_in(uint64_t reply) {
+    struct event event = {makowist_reply_phase(reply), makowist_reply_stage(reply), makowist_reply_number(reply),
+                          makowist_reply_status(reply)};
+    return event;
+}
 
 /* Puts the events of a job, or of a slice, on the disk, and behind them the sum of the image from which they led. */
 static void record(const struct place *place, const struct event *events, size_t count) {
@@ -189,17 +200,117 @@ static void open_record(struct place *place, int kept) {
     fprintf(stderr, "server: %s: %jd bytes taken back: their image was not kept\n", place->record, (intmax_t)(found - length));
 }
 
-/* Loads the image and opens what lies beside it. A fresh image is kept only then: beside an archive or a record it would be
- * refused. */
+/* ---- The switch. */
+
+static unsigned transaction(unsigned number, unsigned field) {
+    return makowist_reply_value(makowist_transaction(image, sizeof image, number, field));
+}
+
+static int is_push(const struct event *event) {
+    return event->stage == MAKOWIST_STAGE_APPLY && event->status == MAKOWIST_STATUS_COMPLETE;
+}
+
+/* Has the switch take what a push with this event brings it. */
+static void push(struct target *target, const struct event *event) {
+    unsigned value = event->phase == MAKOWIST_PHASE_CHANGE ? MAKOWIST_TRANSACTION_VALUE : MAKOWIST_TRANSACTION_R_VALUE;
+    unsigned pairs = transaction(event->number, MAKOWIST_TRANSACTION_PAIRS);
+    for (unsigned k = 0; k < pairs; ++k)
+        target->values[transaction(event->number, MAKOWIST_TRANSACTION_PATH + k)] =
+            (uint16_t)transaction(event->number, value + k);
+    target_take(target);
+}
+
+/* A job. Uncut, on the copy, it shows by its event whether it pushes; then the switch takes the values, and the image comes
+ * after it. */
+static uint64_t work(struct place *place, const unsigned *n) {
+    struct event event = event_in(makowist_work(copy(), sizeof tried, n[0], n[1], n[2], n[3], MAKOWIST_CUT_NONE));
+    if (is_push(&event) && n[4] <= MAKOWIST_CUT_AFTER_SECOND)
+        push(&place->target, &event);
+    return makowist_work(image, sizeof image, n[0], n[1], n[2], n[3], n[4]);
+}
+
+/* A synchronise. Where it writes, the switch takes all applied values. */
+static uint64_t synchronise(struct place *place, unsigned node) {
+    int writes = shown(MAKOWIST_CONFIGURATION_STATE) == MAKOWIST_STATUS_IN_PROGRESS;
+    if (writes && accepted(makowist_sync(copy(), sizeof tried, node))) {
+        for (unsigned path = 0; path < MAKOWIST_PATHS; ++path)
+            place->target.values[path] = (uint16_t)makowist_reply_value(
+                makowist_value(image, sizeof image, MAKOWIST_TABLE_APPLIED, path));
+        target_take(&place->target);
+    }
+    return makowist_sync(image, sizeof image, node);
+}
+
+static uint64_t start(struct place *place) {
+    if (accepted(makowist_start(copy(), sizeof tried)))
+        target_power(&place->target, 1);
+    return makowist_start(image, sizeof image);
+}
+
+static uint64_t stop(struct place *place) {
+    if (accepted(makowist_stop(copy(), sizeof tried)))
+        target_power(&place->target, 0);
+    return makowist_stop(image, sizeof image);
+}
+
+/* The calls by which an image comes to show what the switch has, from 0 on: the last are the pushes, jobs 2 and 4 of each
+ * transaction kept, as far as their first store. */
+enum { STOP, START, SYNCHRONISE, PUSHES };
+
+static uint64_t shows_switch(unsigned k, const char **what) {
+    static const char *const names[] = {"a stop", "a start", "a synchronise", "a push"};
+    unsigned master = shown(MAKOWIST_MASTERSHIP_MASTER), place = k < PUSHES ? 0 : k - PUSHES;
+    *what = names[k < PUSHES ? k : PUSHES];
+    if (k == STOP)
+        return makowist_stop(copy(), sizeof tried);
+    if (k == START)
+        return makowist_start(copy(), sizeof tried);
+    if (k == SYNCHRONISE)
+        return makowist_sync(copy(), sizeof tried, master);
+    return makowist_work(copy(), sizeof tried, master, place % 2 ? MAKOWIST_JOB_APPLY_ROLLBACK : MAKOWIST_JOB_APPLY_CHANGE,
+                         shown(MAKOWIST_LAST_FOLD) + 1 + place / 2, MAKOWIST_OUTCOME_ACCEPTED, MAKOWIST_CUT_AFTER_FIRST);
+}
+
+/* Makes the image show what the switch has, where the server was killed between the two. */
+static void catch_up(struct place *place) {
+    const char *what;
+    unsigned pushes = 2 * (shown(MAKOWIST_LOG_LENGTH) - shown(MAKOWIST_LAST_FOLD));
+    if (target_is(&place->target, image))
+        return;
+    for (unsigned k = 0; k < PUSHES + pushes; ++k) {
+        if (!accepted(shows_switch(k, &what)) || !target_is(&place->target, tried))
+            continue;
+        fprintf(stderr, "server: %s: %s ahead of the image, which shows it now\n", place->target.name, what);
+        memcpy(image, tried, sizeof image);
+        keep(place);
+        return;
+    }
+    fail(place->target.name, "no call leads from the image to what the switch has");
+}
+
+/* Makes the switch as the image has it, where there is none. */
+static void make_switch(struct place *place) {
+    target_set(&place->target, image);
+    target_take(&place->target);
+}
+
+/* Loads the image and opens what lies beside it. A fresh image is kept only then: beside an archive, a record or a switch it
+ * would be refused. The record is looked at before the image catches up: it knows the image by its sum. */
 static struct archive opened(struct place *place) {
     struct archive archive;
-    int kept = load(place);
+    int kept = load(place), is_there = target_open(&place->target);
+    if (!kept && is_there)
+        fail(place->target.name, "the switch of an image that is missing");
     archive_open(&archive, place->archive, image);
     open_record(place, kept);
     /* they may be new: their names are on the disk before anything is in them */
-    sync_folder(place);
+    sync_folder(place->name, place->folder);
     if (!kept)
         keep(place);
+    if (is_there)
+        catch_up(place);
+    else
+        make_switch(place);
     return archive;
 }
 
@@ -257,18 +368,13 @@ static uint64_t append(const char *at, const char *end) {
 
 /* A fold. What it drops is archived before the image without it is kept; a copy shows whether it is accepted. */
 static uint64_t fold(struct archive *archive, unsigned number) {
-    uint8_t folded[MAKOWIST_IMAGE_LENGTH];
-    memcpy(folded, image, sizeof folded);
-    uint64_t reply = makowist_fold(folded, sizeof folded, number);
-    if (makowist_reply_answer(reply) == MAKOWIST_ACCEPTED) {
+    if (accepted(makowist_fold(copy(), sizeof tried, number)))
         archive_add(archive, image, number);
-        memcpy(image, folded, sizeof folded);
-    }
-    return reply;
+    return makowist_fold(image, sizeof image, number);
 }
 
 /* The reply to a line. One that is no call is refused as out of range. */
-static uint64_t reply_to(struct archive *archive, const char *line, const char *end) {
+static uint64_t reply_to(struct place *place, struct archive *archive, const char *line, const char *end) {
     const char *after = line;
     unsigned n[5];
     if (takes(&after, end, "call=append pairs=", n))
@@ -276,9 +382,9 @@ static uint64_t reply_to(struct archive *archive, const char *line, const char *
     if (is(line, end, "call=rollback number=#", n))
         return makowist_rollback(image, sizeof image, n[0]);
     if (is(line, end, "call=start", n))
-        return makowist_start(image, sizeof image);
+        return start(place);
     if (is(line, end, "call=stop", n))
-        return makowist_stop(image, sizeof image);
+        return stop(place);
     if (is(line, end, "call=connect node=#", n))
         return makowist_connect(image, sizeof image, n[0]);
     if (is(line, end, "call=disconnect node=#", n))
@@ -286,9 +392,9 @@ static uint64_t reply_to(struct archive *archive, const char *line, const char *
     if (is(line, end, "call=master node=#", n))
         return makowist_master(image, sizeof image, n[0]);
     if (is(line, end, "call=sync node=#", n))
-        return makowist_sync(image, sizeof image, n[0]);
+        return synchronise(place, n[0]);
     if (is(line, end, "call=work node=# job=# number=# outcome=# cut=#", n))
-        return makowist_work(image, sizeof image, n[0], n[1], n[2], n[3], n[4]);
+        return work(place, n);
     if (is(line, end, "call=fold number=#", n))
         return fold(archive, n[0]);
     return MAKOWIST_OUT_OF_RANGE;
@@ -312,10 +418,9 @@ static int explained(const char *line, const char *end) {
 
 /* Makes the call that a line asks for and answers it. A refused call has changed nothing. */
 static void call(struct place *place, struct archive *archive, const char *line, const char *end) {
-    uint64_t reply = reply_to(archive, line, end);
-    struct event event = {makowist_reply_phase(reply), makowist_reply_stage(reply), makowist_reply_number(reply),
-                          makowist_reply_status(reply)};
-    if (makowist_reply_answer(reply) == MAKOWIST_ACCEPTED) {
+    uint64_t reply = reply_to(place, archive, line, end);
+    struct event event = event_in(reply);
+    if (accepted(reply)) {
         record(place, &event, 1);
         keep(place);
     }
@@ -324,7 +429,7 @@ static void call(struct place *place, struct archive *archive, const char *line,
 
 /* ---- A night. */
 
-/* The jobs of a slice: as many are lost at most where the server is killed. */
+/* The jobs of a slice, at most: as many are lost at most where the server is killed. */
 enum { SLICE = 8 };
 
 struct night {
@@ -351,11 +456,10 @@ static int reads_night(const char *at, const char *end, struct night *night) {
     return 1;
 }
 
-/* Does a slice of a night, with room for all its events, and keeps what it has done. */
-static uint64_t slice(struct place *place, const struct night *night, unsigned budget) {
+/* Does jobs of a night on the image or on the copy, and reads their events. */
+static uint64_t sleep_on(uint8_t *bytes, const struct night *night, unsigned budget, struct event *events) {
     uint8_t room[SLICE * MAKOWIST_EVENT_LENGTH];
-    struct event events[SLICE];
-    uint64_t reply = makowist_night(image, sizeof image, night->node, budget, night->outcomes, night->length, room,
+    uint64_t reply = makowist_night(bytes, sizeof image, night->node, budget, night->outcomes, night->length, room,
                                     sizeof room);
     for (uint32_t k = 0; k < makowist_reply_events(reply); ++k) {
         events[k].phase = makowist_night_event(room, k, MAKOWIST_EVENT_PHASE);
@@ -363,6 +467,21 @@ static uint64_t slice(struct place *place, const struct night *night, unsigned b
         events[k].number = makowist_night_event(room, k, MAKOWIST_EVENT_NUMBER);
         events[k].status = makowist_night_event(room, k, MAKOWIST_EVENT_STATUS);
     }
+    return reply;
+}
+
+/* Does a slice of a night and keeps what it has done. Where a push is among its jobs it ends before that, and where the push
+ * comes first the switch takes it and it is the slice: killed behind it, the kept image is that from which it was pushed. */
+static uint64_t slice(struct place *place, const struct night *night, unsigned budget) {
+    struct event events[SLICE];
+    unsigned jobs = makowist_reply_events(sleep_on(copy(), night, budget, events)), first = 0;
+    while (first < jobs && !is_push(&events[first]))
+        ++first;
+    if (first < jobs)
+        budget = first > 0 ? first : 1;
+    if (first == 0 && jobs > 0)
+        push(&place->target, &events[0]);
+    uint64_t reply = sleep_on(image, night, budget, events);
     if (makowist_reply_jobs(reply) > 0) {
         record(place, events, makowist_reply_events(reply));
         keep(place);
@@ -388,7 +507,15 @@ static int slept(struct place *place, const char *line, const char *end) {
     return 1;
 }
 
-static unsigned shown(unsigned field) { return makowist_reply_value(makowist_record(image, sizeof image, field)); }
+static void close_all(struct place *place, struct archive *archive) {
+    free(place->aside);
+    free(place->archive);
+    free(place->record);
+    free(place->target.name);
+    free(place->target.aside);
+    fclose(archive->file);
+    fclose(place->events);
+}
 
 int main(int count, char **words) {
     if (count != 2) {
@@ -413,10 +540,6 @@ int main(int count, char **words) {
     printf("committed=%u committed_ordinal=%u applied=%u applied_ordinal=%u\n", shown(MAKOWIST_COMMITTED_REVISION),
            shown(MAKOWIST_COMMITTED_ORDINAL), shown(MAKOWIST_APPLIED_REVISION), shown(MAKOWIST_APPLIED_ORDINAL));
     free(line);
-    free(place.aside);
-    free(place.archive);
-    free(place.record);
-    fclose(archive.file);
-    fclose(place.events);
+    close_all(&place, &archive);
     return fflush(stdout) == 0 ? 0 : 1;
 }

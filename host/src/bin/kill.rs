@@ -4,15 +4,19 @@
 //! same file in FOLDER, which must be empty; every few kills the file is a new one, missing at first or with a used image.
 //! The calls that were answered, and at most the one that was being made, must be what the file shows, byte by byte. The
 //! archive beside it must hold each folded transaction once, as it stood when it was folded, and behind them at most a part
-//! of what the fold that was being made would archive, which the next start must cut off. A job that was cut after the first
-//! of its two stores is called again, by the server that is started next where the kill came first. Of a night whole slices
+//! of what the fold that was being made would archive, which the next start must cut off. A job that was cut before the last
+//! of its stores is called again, by the server that is started next where the kill came first. Of a night whole slices
 //! must be kept, and what is left of it is asked of the server that is started next. The record of events must have each of
 //! those that led to the image, once and in order, and behind them at most a part of those of the step that was being made,
-//! which the next start must take back. In the end all three files must be those of a server that was never killed, made each
-//! cut job whole, and was asked each night once. Ends with 1 where this is not so.
+//! which the next start must take back. The switch must have what the image says of it, or what it has by the one call that was
+//! being made: a push, which the next start must show by its first store alone and which is asked for again, with the line
+//! open or lost meanwhile; or a synchronise, a start or a stop, which it must show whole. In the end the image, the archive,
+//! the events and the switch must be those of a server that was never killed, made each cut job whole, and was asked each night
+//! once. Ends with 1 where this is not so.
 
-use makowist_host::controller::{Number, State, Status, Transaction, LOG_LIMIT, NODES};
+use makowist_host::controller::{ConfigurationState, Number, State, Status, Transaction, LOG_LIMIT, NODES};
 use makowist_host::image::{self, LENGTH};
+use makowist_host::jobs::Rule;
 use makowist_host::lines;
 use makowist_host::night::{Done, Night, BUDGET_LIMIT, OUTCOMES};
 use makowist_host::northbound::{self, act, Answer, Request, Served};
@@ -36,21 +40,27 @@ const CALLS: usize = 1000;
 const EARLY: usize = 30;
 const EARLY_EVENINGS: usize = 4;
 const LATE_EVENINGS: usize = 60;
+/// One in how many servers begins with a switch that stops.
+const OUTAGES: usize = 5;
 /// The longest wait for the kill, from the first answer.
 const LONGEST: Duration = Duration::from_millis(25);
 /// The same from the start, for the kills that fall into it.
 const LONGEST_START: Duration = Duration::from_millis(40);
-/// The longest wait for a file to grow, for the kills that wait for it, and by how many bytes it grows at most: some lines, so
-/// that folds are kept before the one that is cut short, and slices.
-const LONGEST_GROWING: Duration = Duration::from_millis(500);
+/// The longest wait for a file to change, for the kills that wait for it, the pause between two looks at it, and by how many bytes
+/// it grows at most: some lines, so that folds are kept before the one that is cut short, and slices.
+const LONGEST_GROWING: Duration = Duration::from_millis(700);
+const PAUSE: Duration = Duration::from_micros(10);
 const LONGEST_GROWTH: usize = 1000;
-/// What the server says where it cuts lines of a fold that was not kept off the archive, and where it takes events back.
+/// What the server says where it cuts lines of a fold that was not kept off the archive, where it takes events back, and where
+/// its image comes to show what the switch has.
 const MENDED: &str = "cut off";
 const TAKEN_BACK: &str = "taken back";
+const CAUGHT_UP: &str = "ahead of the image";
 /// The files beside an image.
 const ARCHIVE: &str = ".archive";
 const RECORD: &str = ".events";
-/// How many jobs of a night the server does before it keeps them.
+const SWITCH: &str = ".switch";
+/// How many jobs of a night the server does at most before it keeps them.
 const SLICE: usize = 8;
 
 type Checked<T> = Result<T, String>;
@@ -75,7 +85,12 @@ struct Seen {
     resumed: usize,
     events_ahead: usize,
     taken_back: usize,
+    landed: [usize; Told::ALL.len()],
+    caught_up: usize,
+    stood: usize,
+    lost: usize,
     idle: u64,
+    kills: u64,
 }
 
 impl Seen {
@@ -94,14 +109,14 @@ impl Seen {
         self.resumed += usize::from(kept.rest.is_some());
         kept.asked_for(night, &slept);
         let mut done = 0;
-        for slice in slept.jobs.chunks(SLICE) {
+        for slice in &slept.slices {
             kept.sleep(slice);
             done += slice.len();
             if found.is_some_and(|found| found == kept.bytes) {
                 break;
             }
         }
-        kept.rest = (done < slept.jobs.len()).then(|| later(night, done));
+        kept.rest = (done < slept.jobs()).then(|| later(night, done));
         self.night_jobs += done;
         self.in_night += usize::from(kept.rest.is_some());
         slept.is_accepted()
@@ -109,26 +124,33 @@ impl Seen {
 
     /// Makes a call that the server has made.
     fn called(&mut self, request: &Request, kept: &mut Kept) -> bool {
-        let (folded, was_cut) = (kept.state.folded.0, kept.cut.is_some());
+        let (folded, cut) = (kept.state.folded.0, kept.cut);
         let accepted = kept.make(request);
-        self.retried += usize::from(was_cut && kept.cut.is_none());
+        if let Some(cut) = cut {
+            let complete = kept.state.configuration.state == ConfigurationState::Complete;
+            self.retried += usize::from(kept.cut.is_none());
+            self.stood += usize::from(kept.cut.is_none() && stands(Some(cut)));
+            self.lost += usize::from(accepted && complete && matches!(request, Request::Sync(_)));
+        }
         self.folds += usize::from(kept.state.folded.0 > folded);
         self.dropped += usize::from(kept.state.folded.0 - folded);
         accepted
     }
 
-    /// Whether so many kills have shown what they must.
-    fn enough(&self, kills: u64) -> Checked<()> {
-        let Seen { idle, folds, mended, cut_by_kill, in_night, resumed, taken_back, .. } = self;
-        if 2 * idle > kills {
-            return Err(format!("{idle} of {kills} kills fell when every call had been answered: feed more"));
+    /// Whether the kills have shown what they must.
+    fn is_enough(&self) -> bool {
+        let Seen { folds, mended, cut_by_kill, in_night, resumed, taken_back, caught_up, stood, lost, .. } = self;
+        let counts = [folds, mended, cut_by_kill, in_night, resumed, taken_back, caught_up, stood, lost];
+        counts.iter().copied().chain(&self.landed).all(|count| *count > 0)
+    }
+
+    fn shows(self) -> Checked<Seen> {
+        let Seen { idle, kills, .. } = self;
+        match self.is_enough() {
+            _ if 2 * idle > kills => Err(format!("{idle} of {kills} kills fell when every call had been answered: feed more")),
+            false => Err(format!("too few kills to see what they must: {self}")),
+            true => Ok(self),
         }
-        if [folds, mended, cut_by_kill, in_night, resumed, taken_back].contains(&&0) {
-            let seen = format!("{folds} folds, {mended} archives mended, {cut_by_kill} jobs cut");
-            let nights = format!("killed in {in_night} nights, {resumed} of them gone on with, events taken back {taken_back}");
-            return Err(format!("{seen}, {nights}: too few kills to see what they must"));
-        }
-        Ok(())
     }
 }
 
@@ -137,6 +159,7 @@ impl fmt::Display for Seen {
         let Seen { answered, accepted, before_any_answer, in_flight_kept, left_aside, .. } = self;
         let Seen { folds, dropped, left_ahead, mended, retried, cut_by_kill, made_whole, .. } = self;
         let Seen { nights, night_jobs, in_night, resumed, events_ahead, taken_back, .. } = self;
+        let Seen { landed: [pushes, in_nights, synchronised, powered], caught_up, stood, lost, .. } = self;
         write!(
             to,
             "{answered} calls answered, {accepted} of them accepted; killed before any answer {before_any_answer}, with a call \
@@ -145,8 +168,12 @@ impl fmt::Display for Seen {
              archived whose fold was not kept {left_ahead}, archives mended at a start {mended}\n\
              kill: {nights} nights of {night_jobs} jobs; killed between two slices {in_night}, gone on with {resumed}; killed \
              with events recorded whose image was not kept {events_ahead}, events taken back at a start {taken_back}\n\
-             kill: {retried} cut jobs called again; killed before that {cut_by_kill}; {made_whole} images, archives and records \
-             in the end as those of a server that was never killed and made each job and each night whole"
+             kill: killed between the switch and the image: in a push {pushes}, in a push of a night {in_nights}, in a \
+             synchronise {synchronised}, in a start or a stop {powered}; shown by the image at a start {caught_up}\n\
+             kill: {retried} cut jobs called again; killed before that {cut_by_kill}; {stood} of them pushes at their first store; \
+             synchronises that took such a push back {lost}\n\
+             kill: {made_whole} images, archives, events and switches in the end as those of a server that was never killed and \
+             made each job and each night whole"
         )
     }
 }
@@ -233,9 +260,9 @@ fn asking(night: &Night) -> String {
     lines::nightly(night).expect("a night that a line can ask for")
 }
 
-/// What a night does, and how it is answered.
+/// What a night does, slice by slice, and how it is answered.
 struct Slept {
-    jobs: Vec<Request>,
+    slices: Vec<Vec<Request>>,
     answer: String,
 }
 
@@ -244,16 +271,31 @@ impl Slept {
         self.answer.starts_with("answer=0 ")
     }
 
-    /// The night from a state, job by job.
+    fn jobs(&self) -> usize {
+        self.slices.iter().map(Vec::len).sum()
+    }
+
+    /// The night from a state. A push is a slice by itself.
     fn of(state: &State, night: &Night) -> Slept {
         let passed = state.clone().night(night);
         let work = |done: &Done| {
             let Done { job, number, outcome, .. } = *done;
             Request::Work { node: night.node, job, number: number.0.into(), outcome, cut: 0 }
         };
-        let jobs = passed.iter().flat_map(|passed| &passed.jobs).map(work).collect();
-        Slept { jobs, answer: lines::passed(passed) }
+        let mut left = passed.as_ref().map_or(&[][..], |passed| &passed.jobs);
+        let mut slices = Vec::new();
+        while !left.is_empty() {
+            let before_push = left.iter().take(SLICE).take_while(|done| !is_push(done.rule)).count();
+            let (slice, rest) = left.split_at(before_push.max(1));
+            slices.push(slice.iter().map(work).collect());
+            left = rest;
+        }
+        Slept { slices, answer: lines::passed(passed) }
     }
+}
+
+fn is_push(rule: Option<Rule>) -> bool {
+    matches!(rule, Some(Rule::ApplyChangePush | Rule::ApplyRollbackPush))
 }
 
 /// What a line asks for.
@@ -261,6 +303,74 @@ impl Slept {
 enum Asked {
     Call(Request),
     Night(Night),
+}
+
+impl Asked {
+    /// The calls that it comes to from a state.
+    fn calls(&self, state: &State) -> Vec<Request> {
+        match self {
+            Asked::Call(request) => vec![request.clone()],
+            Asked::Night(night) => Slept::of(state, night).slices.concat(),
+        }
+    }
+
+    /// By what it tells the switch something, if by anything.
+    fn tells(&self) -> Told {
+        match self {
+            Asked::Call(Request::Work { .. }) => Told::Push,
+            Asked::Call(Request::Sync(_)) => Told::Synchronise,
+            Asked::Call(_) => Told::Power,
+            Asked::Night(_) => Told::NightPush,
+        }
+    }
+}
+
+/// By what the switch is told something.
+#[derive(Clone, Copy, PartialEq, Eq)]
+enum Told {
+    Push,
+    NightPush,
+    Synchronise,
+    Power,
+}
+
+impl Told {
+    const ALL: [Told; 4] = [Told::Push, Told::NightPush, Told::Synchronise, Told::Power];
+}
+
+/// What the switch has, as its file says it.
+fn switch_of(state: &State) -> String {
+    let present = state.target.values.iter().enumerate().filter(|(_, value)| **value != 0);
+    let pairs: Vec<String> = present.map(|(path, value)| format!("{path}:{value}")).collect();
+    format!("running={} values={}\n", u8::from(state.target.running), pairs.join(","))
+}
+
+/// What the switch has by a call, where that is not what it had.
+fn told(state: &State, request: &Request) -> Option<String> {
+    let mut after = state.clone();
+    act(&mut after, request);
+    Some(switch_of(&after)).filter(|switch| *switch != switch_of(state))
+}
+
+/// A call that the switch shows and the image does not, since the server was killed between the two.
+#[derive(Clone)]
+struct Landed {
+    /// By which the next start makes the image show it: a push cut at its first store, else the call itself.
+    shown_by: Request,
+    /// The night to which it belongs is gone on with, and makes it good.
+    in_rest: bool,
+    /// What the switch has.
+    switch: String,
+}
+
+impl Landed {
+    fn of(request: Request, in_rest: bool, switch: &str) -> Landed {
+        let shown_by = match request {
+            Request::Work { node, job, number, outcome, .. } => Request::Work { node, job, number, outcome, cut: 1 },
+            whole => whole,
+        };
+        Landed { shown_by, in_rest, switch: switch.to_string() }
+    }
 }
 
 /// A server's image, archive and record as they must be on the disk.
@@ -275,6 +385,8 @@ struct Kept {
     record: String,
     /// What a step that was not kept may have left behind the record, until the next start.
     events_ahead: String,
+    /// What the switch shows and the image does not, until the next start.
+    landed: Option<Landed>,
     /// How many transactions the calls let it keep: where they are few, more of them get finished and folded.
     limit: usize,
     /// The job that was cut and is still to be called again.
@@ -298,8 +410,9 @@ impl Kept {
         let mut bytes = vec![0; LENGTH];
         northbound::serve(&mut bytes, &Request::Fresh);
         let (archive, ahead, whole) = (Archive::empty(), String::new(), Whole::default());
-        let (record, events_ahead) = (String::new(), String::new());
-        Kept { state: State::fresh(), bytes, archive, ahead, record, events_ahead, limit, cut: None, rest: None, whole }
+        let (state, record, events_ahead) = (State::fresh(), String::new(), String::new());
+        let (landed, cut, rest) = (None, None, None);
+        Kept { state, bytes, archive, ahead, record, events_ahead, landed, limit, cut, rest, whole }
     }
 
     /// An image that sensible calls have led to.
@@ -324,14 +437,15 @@ impl Kept {
         served
     }
 
-    /// Makes a call, and takes it into the run without cuts: a cut job whole, and a retry not at all.
+    /// Makes a call, and takes it into the run without cuts: a cut job whole, and a retry not at all; but a push that stands at
+    /// its first store not yet, and its retry as the job.
     fn make(&mut self, request: &Request) -> bool {
         let recorded = self.recorded_by(std::slice::from_ref(request));
         let served = self.serve(request);
         self.record.push_str(&recorded);
-        if !is_retry(self.cut, request) {
-            let asked = CutJob::of(request, &served).map_or(request.clone(), CutJob::uncut);
-            self.whole.asked.extend(lines::asking(&asked));
+        let cut = CutJob::of(request, &served);
+        if !stands(cut) && (!is_retry(self.cut, request) || stands(self.cut)) {
+            self.whole.asked.extend(lines::asking(&cut.map_or(request.clone(), CutJob::uncut)));
         }
         if matches!(served.reply, Ok(Answer::Told(_))) {
             self.whole.answers.push(lines::written(&served));
@@ -357,21 +471,35 @@ impl Kept {
         }
     }
 
-    /// A server that has begun must have said what it cut off the archive, and what it took back of the record.
-    fn is_mended(&mut self, begun: bool, aside: &str, seen: &mut Seen) -> Checked<()> {
-        let (mended, taken_back) = (aside.contains(MENDED), aside.contains(TAKEN_BACK));
+    /// A server that has begun must have said what it cut off the archive, what it took back of the record, and that its image
+    /// comes to show what the switch has.
+    fn starts(&mut self, begun: bool, aside: &str, seen: &mut Seen) -> Checked<()> {
+        let (mended, taken_back, caught_up) = (aside.contains(MENDED), aside.contains(TAKEN_BACK), aside.contains(CAUGHT_UP));
         seen.mended += usize::from(mended);
         seen.taken_back += usize::from(taken_back);
+        seen.caught_up += usize::from(caught_up);
         if !begun {
             return Ok(());
         }
-        if mended == self.ahead.is_empty() || taken_back == self.events_ahead.is_empty() {
-            let (ahead, events_ahead) = (&self.ahead, &self.events_ahead);
-            return Err(format!("{ahead:?} lay behind the archive, {events_ahead:?} the record, and the server said {aside:?}"));
+        if (mended, taken_back, caught_up) != (!self.ahead.is_empty(), !self.events_ahead.is_empty(), self.landed.is_some()) {
+            let Kept { ahead, events_ahead, landed, .. } = self;
+            let landed = landed.as_ref().map(|landed| &landed.switch);
+            let lay = format!("{ahead:?} lay behind the archive, {events_ahead:?} the record, the switch has {landed:?}");
+            return Err(format!("{lay}, and the server said {aside:?}"));
         }
+        self.start();
+        Ok(())
+    }
+
+    /// What a start makes of the files.
+    fn start(&mut self) {
         self.ahead.clear();
         self.events_ahead.clear();
-        Ok(())
+        match self.landed.take() {
+            Some(Landed { shown_by, in_rest: true, .. }) => drop(self.serve(&shown_by)),
+            Some(Landed { shown_by, in_rest: false, .. }) => drop(self.make(&shown_by)),
+            None => {}
+        }
     }
 
     /// What calls that are kept together have to record.
@@ -392,7 +520,7 @@ impl Kept {
             Asked::Call(request) => self.recorded_by(std::slice::from_ref(request)),
             Asked::Night(night) => {
                 let slept = Slept::of(&self.state, night);
-                slept.jobs.chunks(SLICE).next().map_or(String::new(), |slice| self.recorded_by(slice))
+                slept.slices.first().map_or(String::new(), |slice| self.recorded_by(slice))
             }
         }
     }
@@ -417,10 +545,17 @@ struct Call {
 }
 
 impl Call {
+    /// A call, made on the state, where a line can ask for it.
+    fn made(request: Request, state: &mut State) -> Option<Call> {
+        let line = lines::asking(&request)?;
+        let answer = lines::written(&act(state, &request));
+        Some(Call { asked: Asked::Call(request), line, answer })
+    }
+
     /// A night, made on the state.
     fn night(night: Night, state: &mut State) -> Call {
-        let Slept { jobs, answer } = Slept::of(state, &night);
-        for job in &jobs {
+        let Slept { slices, answer } = Slept::of(state, &night);
+        for job in slices.iter().flatten() {
             act(state, job);
         }
         Call { line: asking(&night), asked: Asked::Night(night), answer }
@@ -432,17 +567,46 @@ fn is_retry(cut: Option<CutJob>, request: &Request) -> bool {
     cut.is_some() && matches!(request, Request::Work { .. })
 }
 
+/// Whether a job is a push cut at its first store: the target has it, and no event was given.
+fn stands(cut: Option<CutJob>) -> bool {
+    cut.is_some_and(|cut| !cut.lacks_the_last_alone())
+}
+
 /// The job that is to be called again after a call.
 fn cut_after(cut: Option<CutJob>, request: &Request, served: &Served) -> Option<CutJob> {
-    if is_retry(cut, request) { None } else { cut.or(CutJob::of(request, served)) }
+    if is_retry(cut, request) { CutJob::of(request, served) } else { cut.or(CutJob::of(request, served)) }
+}
+
+/// What leads to the retry of a job that was cut, and then that. Of a push that stands at its first store the line may be lost.
+fn toward_retry(cut: CutJob, state: &State, loses_line: bool) -> Request {
+    let Request::Work { node, .. } = cut.uncut() else { unreachable!("a job") };
+    match opening(state, node).filter(|_| stands(Some(cut))) {
+        Some(request) => request,
+        None if stands(Some(cut)) && loses_line => Request::Disconnect(node),
+        None => cut.again(false, 0u64),
+    }
+}
+
+/// The next call that opens the line for a node, where no other is master and it is not open.
+fn opening(state: &State, node: u64) -> Option<Request> {
+    let connected = state.connections[node as usize - 1].connected;
+    match state.mastership.master {
+        None if !connected => Some(Request::Connect(node)),
+        None => Some(Request::Master(node)),
+        Some(master) if !connected || state.reconnected(master) => Some(Request::Master(node)),
+        Some(_) => (state.configuration.term < state.mastership.term).then_some(Request::Sync(node)),
+    }
 }
 
 /// Calls from a state on, most of them accepted. A job that was cut is called again before anything else is done but on other
-/// nodes' connections, and what is left of a night comes first of all.
+/// nodes' connections, or to lose the line and open it again, and what is left of a night comes first of all.
 fn calls(kept: &Kept, random: &mut Random) -> Vec<Call> {
     let (mut state, mut cut) = (kept.state.clone(), kept.cut);
     let early_evenings = random.one_of(&[EARLY_EVENINGS, LATE_EVENINGS]);
     let mut calls: Vec<Call> = kept.rest.iter().map(|night| Call::night(night.clone(), &mut state)).collect();
+    if cut.is_none() && state.target.running && random.once_in(OUTAGES) {
+        calls.extend(outage(&mut state));
+    }
     while calls.len() < CALLS {
         let evenings = if calls.len() < EARLY { early_evenings } else { LATE_EVENINGS };
         if cut.is_none() && state.mastership.master.is_some() && random.once_in(evenings) {
@@ -451,7 +615,8 @@ fn calls(kept: &Kept, random: &mut Random) -> Vec<Call> {
         }
         let request = match cut {
             Some(cut) if random.once_in(3) => cut.elsewhere(random),
-            Some(cut) => cut.again(random.once_in(2), random.once_in(2)),
+            Some(cut) if stands(Some(cut)) => toward_retry(cut, &state, random.once_in(2)),
+            Some(cut) => cut.again(random.once_in(2), random.below(3) as u64),
             None if random.once_in(12) => wild(&state, random),
             None => onward(&state, kept.limit, random),
         };
@@ -466,16 +631,22 @@ fn calls(kept: &Kept, random: &mut Random) -> Vec<Call> {
     calls
 }
 
+/// The switch stops and forgets, and the line is opened again: a synchronise that has something to bring.
+fn outage(state: &mut State) -> Vec<Call> {
+    let node = state.mastership.master.map_or(1, |master| master.number().into());
+    let mut calls: Vec<Call> = [Request::Stop, Request::Start].into_iter().filter_map(|request| Call::made(request, state)).collect();
+    while let Some(request) = opening(state, node) {
+        calls.extend(Call::made(request, state));
+    }
+    calls
+}
+
 /// Changes, as far as there is room, and then a night.
 fn evening(state: &mut State, limit: usize, random: &mut Random) -> Vec<Call> {
     let room = limit.saturating_sub(state.log.len());
     let mut calls = Vec::new();
     for _ in 0..random.below(room.min(SLICE) + 1) {
-        let request = Request::Append(change(random));
-        if let Some(line) = lines::asking(&request) {
-            let answer = lines::written(&act(state, &request));
-            calls.push(Call { asked: Asked::Call(request), line, answer });
-        }
+        calls.extend(Call::made(Request::Append(change(random)), state));
     }
     let night = any_night(state, random);
     calls.push(Call::night(night, state));
@@ -502,19 +673,24 @@ enum Moment {
     AtArchive(usize),
     /// As soon as the record is longer than this: an answer may be that of a whole night.
     AtRecord(usize),
+    /// As soon as the switch has this: the image comes to show it after that.
+    AtSwitch(String),
+    /// As soon as the image is this: the switch must have what it shows.
+    AtImage(Vec<u8>),
 }
 
 impl Moment {
-    fn any(kept: &Kept, calls: &[Call], random: &mut Random) -> Moment {
+    fn any(kept: &Kept, calls: &[Call], seen: &Seen, random: &mut Random) -> Moment {
         let mut within = |longest: Duration| Duration::from_micros(random.below(longest.as_micros() as usize) as u64);
         let (from_start, from_answer) = (within(LONGEST_START), within(LONGEST));
         let early = &calls[..EARLY];
-        let chosen = match random.below(10) {
+        let chosen = match random.below(16) {
             0 => Some(Moment::FromStart(from_start)),
             1 | 2 => Some(Moment::AtArchive(kept.archive.text.len() + random.below(LONGEST_GROWTH))),
             3 => Some(Moment::AtRecord(kept.record.len() + random.below(LONGEST_GROWTH))),
             4 | 5 => Moment::in_night(kept, early, random),
             6 => Moment::at_cut(kept, early),
+            7..=12 => Moment::at_switch(kept, early, &seen.landed, random),
             _ => None,
         };
         chosen.unwrap_or(Moment::FromAnswer(1, from_answer))
@@ -535,16 +711,34 @@ impl Moment {
         let mut kept = kept.clone();
         for Call { asked, .. } in calls {
             if let Asked::Night(night) = asked {
-                let jobs = Slept::of(&kept.state, night).jobs;
-                if jobs.len() > SLICE {
-                    let slices = jobs.chunks(SLICE).take(random.between(1, (jobs.len() - 1) / SLICE));
-                    slices.for_each(|slice| kept.sleep(slice));
+                let slices = Slept::of(&kept.state, night).slices;
+                if slices.len() > 1 {
+                    let before = slices.iter().take(random.between(1, slices.len() - 1));
+                    before.for_each(|slice| kept.sleep(slice));
                     return Some(Moment::AtRecord(kept.record.len()));
                 }
             }
             Seen::default().made(asked, &mut kept);
         }
         None
+    }
+
+    /// As soon as the switch has taken something, or now and then as soon as the image shows it, of the kind at which the fewest
+    /// kills fell yet: the first of that, or a later one.
+    fn at_switch(kept: &Kept, calls: &[Call], fell: &[usize], random: &mut Random) -> Option<Moment> {
+        let mut kept = kept.clone();
+        let mut by_kind = [const { Vec::new() }; Told::ALL.len()];
+        for Call { asked, .. } in calls {
+            for request in asked.calls(&kept.state) {
+                let switch = told(&kept.state, &request);
+                kept.serve(&request);
+                by_kind[asked.tells() as usize].extend(switch.map(|switch| (switch, kept.bytes.clone())));
+            }
+        }
+        let (chosen, _) = by_kind.iter().zip(fell).filter(|(told, _)| !told.is_empty()).min_by_key(|(_, fell)| **fell)?;
+        let place = if random.once_in(2) { 0 } else { random.below(chosen.len()) };
+        let (switch, image) = chosen[place].clone();
+        Some(if random.once_in(4) { Moment::AtImage(image) } else { Moment::AtSwitch(switch) })
     }
 }
 
@@ -592,32 +786,45 @@ impl Server<'_> {
         }
     }
 
-    /// The image, the archive and the record.
-    fn files(&self) -> Checked<(Option<Vec<u8>>, String, String)> {
-        Ok((self.kept()?, self.text(ARCHIVE)?, self.text(RECORD)?))
+    /// The image, the archive, the switch, and the events in the record, without the sums of the images that they led from: a
+    /// push that stands shows in those.
+    fn files(&self) -> Checked<(Option<Vec<u8>>, String, String, Vec<String>)> {
+        let record = self.text(RECORD)?;
+        let events = record.lines().filter(|line| !line.starts_with("from=")).map(str::to_string).collect();
+        Ok((self.kept()?, self.text(ARCHIVE)?, self.text(SWITCH)?, events))
+    }
+
+    /// Whether the files are as they must be.
+    fn holds(&self, kept: &Kept) -> Checked<bool> {
+        let Kept { state, bytes, archive, record, .. } = kept;
+        let beside = self.text(ARCHIVE)? == archive.text && self.text(RECORD)? == *record && self.text(SWITCH)? == switch_of(state);
+        Ok(beside && self.kept()?.as_ref() == Some(bytes))
     }
 
     /// Waits for the moment, and hands on the answers that had to be awaited.
     fn wait_for(&self, moment: Moment, output: &mut impl BufRead) -> Checked<Vec<String>> {
         let awaited = match moment {
-            Moment::FromStart(_) | Moment::AtRecord(_) => 0,
+            Moment::FromStart(_) | Moment::AtRecord(_) | Moment::AtSwitch(_) | Moment::AtImage(_) => 0,
             Moment::AtArchive(_) => 1,
             Moment::FromAnswer(answers, _) => answers,
         };
         let answers = (0..awaited).map_while(|_| whole_line(output).transpose()).collect();
         match moment {
             Moment::FromStart(wait) | Moment::FromAnswer(_, wait) => thread::sleep(wait),
-            Moment::AtArchive(length) => self.wait_for_growth(ARCHIVE, length),
-            Moment::AtRecord(length) => self.wait_for_growth(RECORD, length),
+            Moment::AtArchive(length) => self.wait_for_file(ARCHIVE, |file| is_longer(file, length)),
+            Moment::AtRecord(length) => self.wait_for_file(RECORD, |file| is_longer(file, length)),
+            Moment::AtSwitch(has) => self.wait_for_file(SWITCH, |file| is_so(file, has.as_bytes())),
+            Moment::AtImage(bytes) => self.wait_for_file("", |file| is_so(file, &bytes)),
         }
         answers
     }
 
-    /// Waits for a file beside the image to be longer than that; without a pause, since its lines soon have their image.
-    fn wait_for_growth(&self, ending: &str, length: usize) {
+    /// Waits for a file beside the image to be so; with hardly a pause, since the image soon shows it.
+    fn wait_for_file(&self, ending: &str, has_come: impl Fn(&Path) -> bool) {
         let (file, began) = (self.beside(ending), Instant::now());
-        let grown = || fs::metadata(&file).is_ok_and(|found| found.len() > length as u64);
-        while !grown() && began.elapsed() < LONGEST_GROWING {}
+        while !has_come(&file) && began.elapsed() < LONGEST_GROWING {
+            thread::sleep(PAUSE);
+        }
     }
 
     /// Starts it, feeds it the calls, and kills it.
@@ -674,9 +881,10 @@ impl Server<'_> {
 
     /// What is left is asked for: a job that is still cut, or the rest of a night.
     fn goes_on_with(&self, kept: &mut Kept, seen: &mut Seen) -> Checked<()> {
-        if let Some(retry) = kept.cut.map(|cut| cut.again(false, false)) {
-            self.fed(&lines::asking(&retry).ok_or("a job that no line asks for")?)?;
-            seen.called(&retry, kept);
+        while let Some(cut) = kept.cut {
+            let request = toward_retry(cut, &kept.state, false);
+            self.fed(&lines::asking(&request).ok_or("a call that no line asks for")?)?;
+            seen.called(&request, kept);
         }
         if let Some(night) = kept.rest.clone() {
             self.fed(&asking(&night))?;
@@ -696,27 +904,38 @@ impl Server<'_> {
         if !shown.split_inclusive('\n').filter(is_shown).eq(&kept.whole.answers) {
             return Err("a server that was never killed and made all whole gave other events or nights".to_string());
         }
-        let files = self.files()?;
-        if files != whole.files()? || files != (Some(kept.bytes.clone()), kept.archive.text.clone(), kept.record.clone()) {
-            return Err("the files are not those of a server that was never killed and made all whole".to_string());
+        let (files, wholes) = (self.files()?, whole.files()?);
+        if files != wholes || !self.holds(kept)? {
+            let switches = format!("the switch has {:?} and that of the other {:?}", files.2, wholes.2);
+            return Err(format!("the files are not those of a server that was never killed and made all whole; {switches}"));
         }
         seen.made_whole += 1;
         Ok(())
     }
 
-    /// Starts it without a call: it must mend archive and record, show the heads, leave by itself and change nothing else.
+    /// Starts it without a call: it must mend archive and record, make the image show what the switch has, show the heads, leave
+    /// by itself and change nothing else.
     fn closes_with(&self, kept: &mut Kept, seen: &mut Seen) -> Checked<()> {
         let output = self.start()?.wait_with_output().map_err(|error| error.to_string())?;
         let shown = String::from_utf8_lossy(&output.stdout);
         let aside = String::from_utf8_lossy(&output.stderr);
-        if !output.status.success() || shown != lines::closing(&kept.state) || self.kept()? != Some(kept.bytes.clone()) {
-            return Err(format!("started without a call it ended with {} and showed {shown:?}, {aside:?}", output.status));
+        if !output.status.success() {
+            return Err(format!("started without a call it ended with {} and said {aside:?}", output.status));
         }
-        if self.text(ARCHIVE)? != kept.archive.text || self.text(RECORD)? != kept.record {
-            return Err(format!("started without a call it left another archive or record: {aside:?}"));
+        kept.starts(true, &aside, seen)?;
+        match shown == lines::closing(&kept.state) && self.holds(kept)? {
+            true => Ok(()),
+            false => Err(format!("started without a call it showed {shown:?} and left other files: {aside:?}")),
         }
-        kept.is_mended(true, &aside, seen)
     }
+}
+
+fn is_so(file: &Path, bytes: &[u8]) -> bool {
+    fs::read(file).is_ok_and(|found| found == bytes)
+}
+
+fn is_longer(file: &Path, length: usize) -> bool {
+    fs::metadata(file).is_ok_and(|found| found.len() > length as u64)
 }
 
 /// The next line. A line without its end was not answered.
@@ -728,9 +947,14 @@ fn whole_line(output: &mut impl BufRead) -> Checked<Option<String>> {
 
 /// One kill. Brings `kept` to what the server kept, which must be what was answered, or one call more, or slices of a night.
 fn kill_once(server: &Server, kept: &mut Kept, seen: &mut Seen, random: &mut Random) -> Checked<()> {
-    let existed = server.kept()?.is_some();
-    let calls = calls(kept, random);
-    let Said { answers, aside } = server.killed(&calls, Moment::any(kept, &calls, random))?;
+    let (existed, had_switch) = (server.kept()?.is_some(), server.beside(SWITCH).exists());
+    let mut started = kept.clone();
+    started.start();
+    let calls = calls(&started, random);
+    let Said { answers, aside } = server.killed(&calls, Moment::any(&started, &calls, seen, random))?;
+    let found = server.kept()?;
+    let begun = !answers.is_empty() || found.as_ref().is_some_and(|found| *found != kept.bytes);
+    kept.starts(begun, &aside, seen)?;
     for (call, answer) in calls.iter().zip(&answers) {
         if *answer != call.answer {
             return Err(format!("{:?} was answered {answer:?}, not {:?}", call.line, call.answer));
@@ -741,17 +965,19 @@ fn kill_once(server: &Server, kept: &mut Kept, seen: &mut Seen, random: &mut Ran
     seen.before_any_answer += usize::from(answers.is_empty());
     seen.left_aside += usize::from(server.beside(".new").exists());
     seen.idle += u64::from(answers.len() == calls.len());
-    let next = calls.get(answers.len()).map(|call| &call.asked);
-    let answered = kept.bytes.clone();
-    let not_kept = match server.kept()? {
+    let next = calls.get(answers.len()).map(|call| &call.asked).filter(|_| kept.landed.is_none());
+    let not_kept = match found {
         Some(found) => holds_image(&found, next, kept, seen).map_err(|why| format!("after {} answers {why}", answers.len()))?,
         None if !existed && answers.is_empty() => next.cloned(),
         None => return Err("the file is gone".to_string()),
     };
-    kept.is_mended(!answers.is_empty() || kept.bytes != answered, &aside, seen)?;
     seen.cut_by_kill += usize::from(kept.cut.is_some());
     holds_archive(&server.text(ARCHIVE)?, not_kept.as_ref(), kept, seen)?;
-    holds_record(&server.text(RECORD)?, not_kept.as_ref(), kept, seen)
+    holds_record(&server.text(RECORD)?, not_kept.as_ref(), kept, seen)?;
+    if begun || had_switch || server.beside(SWITCH).exists() {
+        holds_switch(&server.text(SWITCH)?, not_kept.as_ref(), kept, seen)?;
+    }
+    Ok(())
 }
 
 /// The image must be what the answered calls lead to, or those and the next, or slices of that. Answers what was not kept.
@@ -816,30 +1042,48 @@ fn holds_record(found: &str, not_kept: Option<&Asked>, kept: &mut Kept, seen: &m
     Ok(())
 }
 
+/// The switch must have what the kept image says of it, or what it had before the server was started, or what it has by the
+/// step that was not kept.
+fn holds_switch(found: &str, not_kept: Option<&Asked>, kept: &mut Kept, seen: &mut Seen) -> Checked<()> {
+    let said = kept.landed.as_ref().map_or_else(|| switch_of(&kept.state), |landed| landed.switch.clone());
+    if found == said {
+        return Ok(());
+    }
+    let step = not_kept.and_then(|asked| Some((asked.tells(), asked.calls(&kept.state).into_iter().next()?)));
+    let Some((tells, request)) = step.filter(|(_, request)| told(&kept.state, request).as_deref() == Some(found)) else {
+        return Err(format!("the switch has {found:?}, the image says {said:?}, and what was not kept is {not_kept:?}"));
+    };
+    seen.landed[tells as usize] += 1;
+    kept.landed = Some(Landed::of(request, kept.rest.is_some(), found));
+    Ok(())
+}
+
 fn run(kills: u64, seed: u64, folder: &Path, command: &[String]) -> Checked<Seen> {
     let mut random = Random::new(seed);
     let mut seen = Seen::default();
     let mut kept = Kept::fresh(LOG_LIMIT);
     let (mut server, mut whole) = (Server { command, file: PathBuf::new() }, Server { command, file: PathBuf::new() });
-    for kill in 0..kills {
-        if kill % KILLS_TO_A_FILE == 0 {
-            server.file = folder.join(format!("image{}", kill / KILLS_TO_A_FILE));
+    let mut kill = 0;
+    // On a machine that is slow just now more kills come too late: then it goes on until each thing was seen.
+    while kill < kills || kill < 2 * kills && !seen.is_enough() {
+        if kill % KILLS_TO_A_FILE == 0 || kill == kills {
+            server.file = folder.join(format!("image{kill}"));
             whole.file = server.beside(".whole");
             let limit = random.one_of(&[3, 8, LOG_LIMIT]);
             kept = if random.once_in(2) { Kept::fresh(limit) } else { Kept::used(limit, &mut random) };
             [&server, &whole].iter().try_for_each(|server| server.lay(&kept))?;
         }
-        kill_once(&server, &mut kept, &mut seen, &mut random).map_err(|error| format!("kill {}: {error}", kill + 1))?;
-        let is_last = kill % KILLS_TO_A_FILE == KILLS_TO_A_FILE - 1 || kill == kills - 1;
+        kill += 1;
+        kill_once(&server, &mut kept, &mut seen, &mut random).map_err(|error| format!("kill {kill}: {error}"))?;
+        let is_last = kill % KILLS_TO_A_FILE == 0 || kill == kills;
         let closed = match random.once_in(3) {
             _ if is_last => server.ends_as(&whole, &mut kept, &mut seen),
             true => server.closes_with(&mut kept, &mut seen),
             false => Ok(()),
         };
-        closed.map_err(|error| format!("after kill {}: {error}", kill + 1))?;
+        closed.map_err(|error| format!("after kill {kill}: {error}"))?;
     }
-    seen.enough(kills)?;
-    Ok(seen)
+    Seen { kills: kill, ..seen }.shows()
 }
 
 fn main() -> ExitCode {
@@ -857,7 +1101,8 @@ fn main() -> ExitCode {
     let began = Instant::now();
     match run(*kills, *seed, Path::new(folder), command) {
         Ok(seen) => {
-            println!("kill: {kills} kills in {:.1} s, nothing lost, nothing half-written; {seen}", began.elapsed().as_secs_f64());
+            let (kills, seconds) = (seen.kills, began.elapsed().as_secs_f64());
+            println!("kill: {kills} kills in {seconds:.1} s, nothing lost, nothing half-written; {seen}");
             ExitCode::SUCCESS
         }
         Err(error) => {
