@@ -36,7 +36,7 @@
  *     anything else                         the outcome is not looked at; ask nobody
  *
  * Then make the call on the image with the outcome, and with nothing else called on it in between. Job 3 never looks at
- * the outcome. cut is 0, unless the host plays a node that is lost between its two stores.
+ * the outcome. cut is 0, unless the host plays a node that is lost between two stores, or shows a push that has landed.
  *
  * Which call is a push, and with which values. Job 2, where c.commit is Complete, c.apply InProgress, r.commit not
  * Complete, c.ordinal one above MAKOWIST_APPLIED_ORDINAL, and the line open for the node: the change's pairs, path
@@ -62,6 +62,7 @@
  * Where many jobs wait, make slices of it (examples/server.c): a small budget, then image and events kept, and again while
  * it stops with MAKOWIST_STOPPED_BUDGET_SPENT. Slices with nothing else called between them do, show and leave what one
  * night of all their jobs does, with the same table: its places are those of the kept transactions, and a night folds none.
+ * A push is best a slice by itself, the switch having taken it first: then what may have landed is a step from the kept image.
  * With the line open, 6 jobs for each kept transaction are enough in an image that began with makowist_fresh (the theorem
  * is night-enough).
  *
@@ -70,18 +71,38 @@
  * copy shows what is left of a step that was cut, and a push that the image does not show is a push again. What was lost
  * is reported, disconnect or stop; then start, connect, master (twice where the master has a new connection), sync.
  *
- * Calling a job again. A job that was cut between its two stores, and is called again by the same node, leaves every byte as
- * the uncut job would have left it, and the two calls give its event once: the first gives it, the second is accepted and
- * gives none. It is so from every well-formed image, with outcome and cut 0 or 1 the second time: what was rejected stays so,
- * and nothing is pushed twice. Other nodes may connect and disconnect between the two, and then their connections are all that
- * differs. (The theorems are retry-harmless and, of every byte, retry-then and retry-at-once.)
+ * A push that may have landed. An accepted push is three stores: the target's values, then Applied with the event, then the
+ * status. What the first of them records is on the switch before the call, so that a host can be lost with the values on the
+ * switch and an image that shows nothing: the status is InProgress, and a try on a copy pushes. Either of two ways makes it good.
+ * While the line is open, the same job again with outcome 0 and cut 0, driven as any push: the switch takes the same values once
+ * more, and then the image shows them, with the event, given once. Or, the line lost, sync: the switch takes the applied values,
+ * in which the push is not, and the job pushes anew. If the switch, asked again, rejects what it may have, take the second way
+ * first. And take one of them before its rollback is committed (job 3, also in a night): a push that has landed and then ends
+ * Failed, rejected or overtaken by its rollback, stays on the switch until its rollback is pushed or a sync writes.
+ *
+ * MAKOWIST_TABLE_TARGET meanwhile is what the switch held before; the switch may be ahead of it by that one push (by every push of
+ * a night's slice that was not kept: make each push a slice). A host that can read its switch, and finds the values there, brings
+ * the table to it by the same job, outcome 0, the line open by the image, with MAKOWIST_CUT_AFTER_FIRST: the first store alone,
+ * accepted with no event (examples/server.c does so at its start). The job called again, as above, gives the
+ * event. With the line open the table has the applied values; or, after such a cut, those overlaid with the pairs or the
+ * rollback's values of one transaction that has begun to apply and whose rollback is not through its apply, until that one is
+ * pushed again and not so cut, or a sync writes.
+ *
+ * Calling a job again. A job that was cut with its last store, and no other, left out, and is called again by the same node, leaves every byte
+ * as the uncut job would have left it, and the two calls give its event once: the first gives it, the second is accepted and
+ * gives none. It is so from every well-formed image, with outcome 0 or 1 and cut 0, 1 or 2 the second time: what was rejected
+ * stays so, and nothing is pushed twice. Of a push that was cut after the first of its three stores it is so with the line still
+ * open, the same outcome and cut 0: there the first call is accepted and gives none, the second pushes the same values and gives
+ * the event. Other nodes may connect and disconnect between the two, and then their connections are all that differs. (The
+ * theorems are retry-harmless and, of every byte, retry-then and retry-at-once.)
  *
  * Not promised: anything once the node is not master any more (MAKOWIST_NOT_MASTER), or after other calls between the two; nor
- * that a job which was not cut may be called twice, and a host that keeps its images as above leaves none cut but by cut 1.
- * Where the first call went through whole, the second is the job's next step, with an event and an outcome of its own or the
- * refusals of a step, MAKOWIST_NO_RULE among them where the job is finished. Who has no answer to the first call tries the
- * second on a copy. In an image that began with makowist_fresh (by the rules; this is no part of the theorems): accepted without
- * an event, it is the rest of a job that was cut, and asks nobody; with an event it is a step like any other, driven as above.
+ * that a job which was not cut may be called twice, and a host that keeps its images as above leaves none cut but by a cut that
+ * it asked for, and one push that may have landed. Where the first call went through whole, the second is the job's next step,
+ * with an event and an outcome of its own or the refusals of a step, MAKOWIST_NO_RULE among them where the job is finished. Who
+ * has no answer to the first call tries the second on a copy, with cut 0. In an image that began with makowist_fresh (by the
+ * rules; this is no part of the theorems): accepted without an event, it is the last store of a job that was cut, and asks
+ * nobody; with an event it is a step like any other, a push that has landed among them, driven as above.
  *
  * To build and link, on x86-64 (elsewhere with a cross compiler, x86_64-linux-gnu-gcc):
  *
@@ -161,6 +182,9 @@ enum {
     MAKOWIST_JOB_APPLY_ROLLBACK = 4
 };
 enum { MAKOWIST_OUTCOME_ACCEPTED = 0, MAKOWIST_OUTCOME_REJECTED = 1 };
+
+/* After which of its stores a step of a job is cut; it is whole where it has none behind that. */
+enum { MAKOWIST_CUT_NONE = 0, MAKOWIST_CUT_AFTER_FIRST = 1, MAKOWIST_CUT_AFTER_SECOND = 2 };
 
 /* Why a job does not move a number: what makowist_why answers. In brackets what goes with it. */
 enum {
@@ -284,9 +308,10 @@ uint64_t makowist_master(uint8_t *image, size_t length, uint64_t node);
  * the target has taken them. Refuses MAKOWIST_OUT_OF_RANGE, MAKOWIST_NOT_MASTER, MAKOWIST_NO_RULE, MAKOWIST_LINE_NOT_OPEN. */
 uint64_t makowist_sync(uint8_t *image, size_t length, uint64_t node);
 
-/* One step of a job on a transaction, by a node; its event is in the reply where the step gives one. A cut of 1 leaves
- * out the second store of a step that has two, as when the node is lost between them; the same job called again makes it good
- * ("Calling a job again", above).
+/* One step of a job on a transaction, by a node; its event is in the reply where the step gives one. A step has one store, or
+ * two, or, an accepted push, three. cut says after which of them it ends, as when the node is lost there: 1, the first; 2, the
+ * second; 0, or where no store would come behind, it is whole. A push cut after its first store has laid its values over the
+ * target's, and gives no event. The same job called again makes it good ("Calling a job again", above).
  * Refuses MAKOWIST_OUT_OF_RANGE, MAKOWIST_NO_SUCH_NUMBER, MAKOWIST_FOLDED, MAKOWIST_NOT_MASTER, MAKOWIST_NO_RULE,
  * MAKOWIST_COUNTER_AT_LIMIT, MAKOWIST_LINE_NOT_OPEN, MAKOWIST_PUSH_REJECTED. */
 uint64_t makowist_work(uint8_t *image, size_t length, uint64_t node, uint64_t job, uint64_t number, uint64_t outcome,

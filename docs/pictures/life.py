@@ -53,6 +53,15 @@ class Panel:
             self.shapes.append(text(x, y - 25 - 12 * place, words, 10.5, colour=SOFT))
         self.shapes.append(text(x + 22, y + 51, closing, 11.5, colour=CUT, weight="bold"))
 
+    def target_first(self, column, rule):
+        """A push's first store, the target's: after a cut there the same rule pushes again."""
+        left, y = self.middle(column) + WIDE / 2, self.y + ROWS[0] + HIGH / 2
+        x = left + 16
+        arc = f"M {figures(x, y + 6)} C {figures(x, y + 40, left - 12, y + 42, left - 12, y + HIGH / 2 + 2)}"
+        self.shapes.append(path(arc, colour=CUT, dashes="4 3"))
+        self.shapes.append(diamond(x, y, CUT))
+        self.shapes.append(text(left + 22, y + 51, rule, 11.5, colour=CUT, weight="bold"))
+
     def entry_then_head(self, column, rule, conditions, closing):
         """A rule downwards: the status is stored first, then the head, which the closing rule stores after a cut."""
         self.rules |= {rule, closing}
@@ -110,6 +119,7 @@ def panels():
     two.enters("append")
     two.head_then_entry(0, "Aim", ["settled, revision = r.index"], "Begin")
     two.head_then_entry(1, "Push", ["line open, accepted"], "Finish")
+    two.target_first(1, "Push")
     two.entry_then_head(0, "Abort", ["settled, r.commit Complete", "or revision < r.index"], "Close")
     two.entry_then_head(1, "Fail", ["rejected, or", "r.commit Complete"], "Close")
     two.head(0, 1, "close: target, index = i, ordinal = c.ordinal")
@@ -124,7 +134,7 @@ def panels():
 
     for y, words in (
         (194, "A job leads to i where it is of the change, to r.index where it is of the rollback."),
-        (216, "First store, in all four panels:"),
+        (216, "The store before the status, in all four panels; of Push the first two:"),
     ):
         three.shapes.append(text(three.x + 22, three.y + y, words, 11.5, "start", SOFT))
     three.lines(
@@ -132,8 +142,8 @@ def panels():
         ("Aim", "target = where the job leads"),
         ("Land", "index = i, revision = where the job leads, ordinal + 1, and the"),
         ("", "committed values overlaid; in job 1 also change = i"),
-        ("Push", "the target's and the applied values overlaid, index = i,"),
-        ("", "revision = where the job leads, ordinal = the job's own"),
+        ("Push", "the target's values overlaid; then the applied values overlaid,"),
+        ("", "index = i, revision = where the job leads, ordinal = the job's own"),
     )
 
     holds = "r.commit Complete; next: applied ordinal = r.ordinal − 1 (Finish: = r.ordinal)"
@@ -142,6 +152,7 @@ def panels():
     four.enters("rollback asked")
     four.head_then_entry(0, "Aim", ["settled, c.apply", "Complete or Failed"], "Begin")
     four.head_then_entry(1, "Push", ["line open, accepted"], "Finish")
+    four.target_first(1, "Push")
     four.entry_then_head(0, "Cancel", ["settled,", "c.apply Aborted"], "Close")
     four.head(0, 2, "close: target = r.index, index = i, ordinal = r.ordinal", wider=-16)
     four.note(1, ROWS[0] + HIGH + 60, "rejected: 13, nothing stored")
@@ -181,9 +192,9 @@ def legend(y):
         line(x, y + 34, x + 46, y + 34, colour=CUT, dashes="4 3"),
     ]
     for down, words in (
-        (0, "one call, two stores. The first gives the event, with the status that the arrow leads to."),
+        (0, "one call, two stores. The first gives the event, with the status that the arrow leads to. Push has three: the second gives it."),
         (16, "A cut leaves it at the diamond: sideways the head is stored and not the status, downwards the other way round."),
-        (38, "a later call of the same job makes the second store good, by the rule named; it gives no event."),
+        (38, "a later call of the same job makes the rest good, by the rule named; it gives no event, but Push does: before, only the target was stored."),
     ):
         shapes.append(text(x + 58, y + down, words, 11.5, "start"))
     words = "Refusals store nothing and are not drawn: Wait (11), Full (9), NoLine (12), Rejected (13)."
