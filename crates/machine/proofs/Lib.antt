@@ -12,9 +12,14 @@ pub mod FoldWitnesses
 pub mod WhyWitnesses
 pub mod NightWitnesses
 pub mod PushWitnesses
+pub mod ImportWitnesses
+pub mod Worked
 pub mod Traps
 pub mod Reconnected
 pub mod Retried
 pub mod Waits
-pub mod Worked
 pub mod Turns
+pub mod Judged
+pub mod Verdicts
+pub mod ImportCalls
+pub mod Imported

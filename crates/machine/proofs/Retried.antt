@@ -52,6 +52,7 @@ use Rattle.machine.proofs.Next.{putting, heading, targeting, performedB
 use Rattle.machine.proofs.Overlay.{laid-again}
 use Rattle.machine.proofs.Cases.{and-left, and-right, or-cases, commit-change, commit-rollback, apply-change, apply-rollback}
 use Rattle.machine.proofs.Entries.{and-both, entry-put, last-put}
+use Rattle.machine.proofs.Worked.{work-step}
 use Rattle.machine.proofs.Kept.{formed, step-keeps-well-formed, reached-well-formed}
 
 not-same : (b : Bool) → not b ≡ true → b ≡ true → ⊥
@@ -221,17 +222,6 @@ module _ (s : State) (i : ℕ) (p : s .log .folded .0 < i) (q : i ≤ last (s .l
         go false true ey false ez = again2 ok
         go false false ey true ez = again3 b
         go false false ey false ez = again4 ok
-
--- ---- a job that passes the refusals before its rules
-module _ (s : State) (n j i r c : ℕ) where
-  abbrev plan : Plan
-  plan = planOf s n j i (eqb r 0)
-
-  work-step : wellFormed s ≡ true → workOk n j r c ≡ true → inLog s i ≡ true → isKept s i ≡ true → isMaster (s .net) n ≡ true
-      → step s (work n j i r c)
-      ≡ record { reply = record { answer = plan .answer; event = eventOf plan (eqb c 1) }; next = performed (commits j) s plan i (eqb c 1) (eqb c 2) }
-  unfolding step outcome decide
-  work-step w a l k m = simp (w, a, l, k, m, rows-performed (commits j) s plan i (eqb c 1) (eqb c 2))
 
 stepped : {a b : ℕ} {e f : Event} {x y : State} → a ≡ b → e ≡ f → x ≡ y
     → _≡_ {A = Stepped} (record { reply = record { answer = a; event = e }; next = x }) (record { reply = record { answer = b; event = f }; next = y })

@@ -12,7 +12,7 @@ use Rattle.rules.specs.declared.Order.{Order}
 use Rattle.rules.specs.declared.Order.the-variants.{Neither, EntryOnly, HeadOnly, EntryThenHead, HeadThenEntry, TargetThenHeadThenEntry}
 use Rattle.machine.specs.State.{State, last, inLog, isKept, isNode, isMaster, lineOpenFor}
 use Rattle.machine.specs.Stores.{afters}
-use Rattle.machine.specs.Rows.{rowsOf}
+use Rattle.machine.specs.Rows.{rowsOf, eventOf}
 use Rattle.machine.specs.WellFormed.{wellFormed}
 use Rattle.machine.specs.Calls.{work, unless, planOf, planned, commits, workOk, decide}
 use Rattle.machine.specs.Step.{outcome, step}
@@ -84,3 +84,14 @@ performed-leaves b s p i first second = go (p .order) b first second
 
 pub worked-leaves : (s : State) (n j i r c : ℕ) → Worked s n j i r c → Leaves s (step s (work n j i r c) .next)
 worked-leaves s n j i r c w = subst (Leaves s) (sym (w .next)) (performed-leaves (commits j) s (planOf s n j i (eqb r 0)) i (eqb c 1) (eqb c 2))
+
+-- ---- a job that passes the refusals before its rules
+module _ (s : State) (n j i r c : ℕ) where
+  abbrev plan : Plan
+  plan = planOf s n j i (eqb r 0)
+
+  pub work-step : wellFormed s ≡ true → workOk n j r c ≡ true → inLog s i ≡ true → isKept s i ≡ true → isMaster (s .net) n ≡ true
+      → step s (work n j i r c)
+      ≡ record { reply = record { answer = plan .answer; event = eventOf plan (eqb c 1) }; next = performed (commits j) s plan i (eqb c 1) (eqb c 2) }
+  unfolding step outcome decide
+  work-step w a l k m = simp (w, a, l, k, m, rows-performed (commits j) s plan i (eqb c 1) (eqb c 2))

@@ -22,3 +22,7 @@ pub mod WhySessions
 pub mod Night
 pub mod NightSessions
 pub mod PushSessions
+pub mod Import
+pub mod Entered
+pub mod Imports
+pub mod ImportSessions
