@@ -23,3 +23,4 @@ pub mod Named
 pub mod Left
 pub mod Ends
 pub mod Nights
+pub mod Imports

@@ -37,7 +37,7 @@ use Rattle.history.specs.Ops.{Op, stack, stack-falls, Falls, mem, mem-lo
 use Rattle.history.specs.Invariant.{Invariant}
 use Rattle.history.specs.Whole.{whole, shown, Front, Passed}
 use Rattle.history.specs.Stages.{Stages}
-use Rattle.history.specs.Finished.{Rollback, unasked, finished, under, Ended, Slept, IsJobs, Act, call, nightly, acted, callsIn}
+use Rattle.history.specs.Finished.{Rollback, unasked, finished, under, Ended, Slept, IsJobs, Start, Act, call, nightly, acted, callsIn}
 use Rattle.history.proofs.ByNumber.{above}
 use Rattle.history.proofs.Follow.{entry-seen, last-seen, plan-seen}
 use Rattle.history.proofs.Fronts.{ways, rest-seen, settled-seen, live-above}
@@ -592,11 +592,11 @@ same-past s t es fs p q = ap (λ x. record { state = x; events = es }) p ∙ ap 
 abbrev nightPast : Past → ℕ → ℕ → List ℕ → Past
 nightPast p n b os = let o = night (p .state) n b os in record { state = o .next; events = o .events ++ p .events }
 
-pub acted-run : (xs : List Act) → acted xs ≡ run (callsIn xs)
+pub acted-run : (b : Start) (xs : List Act) → acted b xs ≡ run (callsIn b xs)
 unfolding acted callsIn run
-acted-run [] = refl
-acted-run (call c ∷ xs) = ap (λ p. let o = step (p .state) c in record { state = o .next; events = o .reply .event ∷ p .events }) (acted-run xs)
-acted-run (nightly n b os ∷ xs) =
-    let k = night-is-jobs (callsIn xs) n b os in
-    ap (λ p. nightPast p n b os) (acted-run xs) ∙ same-past _ _ _ _ (k .next) (k .events)
-    ∙ ap (λ p. run (night (p .state) n b os .calls ++ callsIn xs)) (sym (acted-run xs))
+acted-run b [] = refl
+acted-run b (call c ∷ xs) = ap (λ p. let o = step (p .state) c in record { state = o .next; events = o .reply .event ∷ p .events }) (acted-run b xs)
+acted-run b (nightly n m os ∷ xs) =
+    let k = night-is-jobs (callsIn b xs) n m os in
+    ap (λ p. nightPast p n m os) (acted-run b xs) ∙ same-past _ _ _ _ (k .next) (k .events)
+    ∙ ap (λ p. run (night (p .state) n m os .calls ++ callsIn b xs)) (sym (acted-run b xs))

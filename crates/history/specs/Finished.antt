@@ -1,16 +1,21 @@
 -- Order 2, stated: what is left of a transaction where no job is possible, and what a night of enough jobs comes to; a night
--- is its jobs. Proved in Nights. Assumes nothing.
+-- is its jobs; and what a history begins with (order 6). Proved in Nights and Imports. Assumes nothing.
 use Prim.Native.Nat.{ℕ, _≤_, _<_}
 use mathlib.Core.List.{List, [], _∷_, _++_}
-use mathlib.Core.Bool.{true}
-use mathlib.Core.Path.{_≡_}
+use mathlib.Core.Bool.{true, _&&_}
+use mathlib.Core.Path.{_≡_, refl}
+use lib.Dec.{eqb}
 use lib.ListN.{length}
 use Rattle.kinds.specs.declared.Status.the-variants.{None, Pending}
 use Rattle.machine.specs.State.{State, entryOf, last}
+use Rattle.machine.specs.Stores.{after, afters}
+use Rattle.machine.specs.Rows.{overlay, rowsOf}
+use Rattle.machine.specs.WellFormed.{allFrom, pairsOk, entryOk, headOk, wellFormed}
 use Rattle.machine.specs.LiveList as list
-use Rattle.machine.specs.Calls.{Call, work}
-use Rattle.machine.specs.Step.{step, Past, run}
+use Rattle.machine.specs.Calls.{Call, append, work, valuesOk, present, planOf, decide}
+use Rattle.machine.specs.Step.{outcome, step, Past, run}
 use Rattle.machine.specs.Night.{Night, night}
+use Rattle.machine.specs.Import.{Entry, adds, judgedFrom, judged, numberAt, callsUpTo, import}
 use Rattle.machine.specs.Why.{holds}
 use Rattle.history.specs.Ops.{mem}
 
@@ -41,18 +46,44 @@ pub record IsJobs (w : Night) (cs : List Call) : Type 0 where
   pub next : w .next ≡ run (w .calls ++ cs) .state
   pub events : w .events ++ run cs .events ≡ run (w .calls ++ cs) .events
 
--- ---- histories of calls and nights: the state after them from fresh, and the events given, the newest first
+-- ---- what a history begins with: a fresh controller, or an import in its place (order 6), and the calls that it stands for
+pub data Start : Type 0 where
+  freshly : Start
+  imports : List Entry → Start
+
+abbrev pub startCalls : Start → List Call
+startCalls freshly = []
+startCalls (imports es) = import es .calls
+
+-- ---- histories of calls and nights behind it: the state after them, and the events given, the newest first
 pub data Act : Type 0 where
   call : Call → Act
   nightly : (node budget : ℕ) → List ℕ → Act
 
-unfoldable pub acted : List Act → Past
-acted [] = run []
-acted (call c ∷ xs) = let o = step (acted xs .state) c in record { state = o .next; events = o .reply .event ∷ acted xs .events }
-acted (nightly n b os ∷ xs) = let o = night (acted xs .state) n b os in record { state = o .next; events = o .events ++ acted xs .events }
+unfoldable pub acted : Start → List Act → Past
+acted b [] = run (startCalls b)
+acted b (call c ∷ xs) = let o = step (acted b xs .state) c in record { state = o .next; events = o .reply .event ∷ acted b xs .events }
+acted b (nightly n m os ∷ xs) = let o = night (acted b xs .state) n m os in record { state = o .next; events = o .events ++ acted b xs .events }
 
 -- the calls that they come to
-unfoldable pub callsIn : List Act → List Call
-callsIn [] = []
-callsIn (call c ∷ xs) = c ∷ callsIn xs
-callsIn (nightly n b os ∷ xs) = night (acted xs .state) n b os .calls ++ callsIn xs
+unfoldable pub callsIn : Start → List Act → List Call
+callsIn b [] = startCalls b
+callsIn b (call c ∷ xs) = c ∷ callsIn b xs
+callsIn b (nightly n m os ∷ xs) = night (acted b xs .state) n m os .calls ++ callsIn b xs
+
+-- by computing: an append behind an import of one change is of number 2, the first is committed, and the six calls of the import
+-- and their events are there; behind a fresh start it is of number 1 and alone
+abbrev appends : List Act
+appends = call (append (record { path = 3; value = 9 } ∷ [])) ∷ []
+
+abbrev one : Start
+one = imports (adds (record { path = 3; value = 7 } ∷ []) ∷ [])
+
+abbrev shows : Start → (number revision calls : ℕ) → Type 0
+shows b n r c =
+    let p = acted b appends in
+    ((eqb (last (p .state .log)) n && eqb (p .state .committed .head .revision .0) r) && (eqb (length (p .events)) c && eqb (length (callsIn b appends)) c)) ≡ true
+
+pub starts-hold : shows one 2 1 7 × shows freshly 1 0 1
+unfolding acted callsIn import judged judgedFrom numberAt callsUpTo run step outcome decide planOf afters after overlay rowsOf allFrom pairsOk entryOk headOk wellFormed valuesOk present
+starts-hold = (refl, refl)
