@@ -10,3 +10,6 @@ pub mod Shows
 pub mod Explained
 pub mod Idle
 pub mod Turned
+pub mod Lent
+pub mod Entered
+pub mod Imported

@@ -6,14 +6,15 @@ use lib.Dec.{eqb}
 use lib.ListN.{length, getD}
 use Rattle.machine.specs.WellFormed.{pairsOk}
 use Rattle.machine.specs.Calls.{Pair, Call, append}
+use Rattle.machine.specs.Import as list
 
 -- every one is a byte
 abbrev pub AllBytes : List ℕ → Type 0
 AllBytes b = (j : ℕ) → getD b j 0 < 256
 
--- the number of two bytes at a place; bytes past the end count as 0
+-- the number of two bytes at a place, as in a list of entries (order 6); bytes past the end count as 0
 abbrev pub two : List ℕ → ℕ → ℕ
-two b k = getD b k 0 + 256 * getD b (k + 1) 0
+two b k = list.two b k
 
 unfoldable pub pairsOf : List ℕ → List Pair
 pairsOf [] = []

@@ -6,4 +6,5 @@ pub mod Live
 pub mod Reads
 pub mod Reasons
 pub mod Nights
+pub mod Imports
 pub mod Promises

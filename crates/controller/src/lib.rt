@@ -8,6 +8,7 @@ ghost use Rattle.controller.specs.Claims.{Claims, Does};
 ghost use Rattle.controller.specs.Bytes.{appendOf};
 ghost use Rattle.controller.specs.Promises.{Explains};
 ghost use Rattle.controller.specs.Nights.{Nights};
+ghost use Rattle.controller.specs.Imports.{Imports};
 use image::well_formed;
 use kinds::Reply;
 
@@ -21,9 +22,11 @@ mod walking; // walking.rt: the live list
 mod reads; // reads.rt: one number of the state at a time
 mod reasons; // reasons.rt: why a job answers 11
 mod nights; // nights.rt: work by itself through the night
+mod imports; // imports.rt: the old controller's lists
 
 pub use clearing::fresh;
 pub use image::IMAGE_LENGTH;
+pub use imports::Imported;
 pub use nights::Night;
 pub use reads::Heads;
 pub use reads::Read;
@@ -164,5 +167,19 @@ pub fn night(s: &mut [u8], node: u16, budget: u16, outcomes: &[u8], events: &mut
         jobs: 0,
         stopped: 0,
         events: 0,
+    }
+}
+
+// Takes a list of the old controller in place of a fresh start: 20 bytes an entry, at most 256 of them. The image becomes the one
+// that `fresh` and the calls that the list stands for leave; refused, it is what it had been.
+pub fn import(s: &mut [u8], list: &[u8]) -> Imported
+    ensures { λ r. ⌜ Imports (now (s .entry)) (now (list .entry)) r (now (s .exit)) ⌝ }
+{
+    if s.len() == IMAGE_LENGTH {
+        return imports::take(s, list);
+    }
+    Imported {
+        answer: 1,
+        position: 0,
     }
 }

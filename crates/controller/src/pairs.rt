@@ -28,8 +28,9 @@ fn byte_at(b: &[u8], k: usize) -> u16
     0
 }
 
-fn two_at(b: &[u8], k: usize) -> u16
-    requires { ⌜ k < 1000 ⌝ }
+// The number of two bytes at a place.
+pub fn two_at(b: &[u8], k: usize) -> u16
+    requires { ⌜ k < 65536 ⌝ }
     ensures { λ r. ⌜ r ≡ two (now (b .entry)) k ⌝ }
 {
     let x = byte_at(b, k);
@@ -74,7 +75,7 @@ fn low(x: u16) -> u8
 
 // The path at a place, 0 from the end on.
 fn path_at(b: &[u8], k: usize) -> u8
-    requires { ⌜ (k < 1000) × (two (now b) k < 256) ⌝ }
+    requires { ⌜ (k < 65536) × (two (now b) k < 256) ⌝ }
     ensures { λ r. ⌜ r ≡ two (now (b .entry)) k ⌝ }
 {
     low(two_at(b, k))

@@ -1,9 +1,8 @@
 -- Any calls on bytes that `fresh` made: they run as the machine's from the fresh state. Assumes nothing.
-use Prim.Native.Nat.{ℕ, zero, suc}
+use Prim.Native.Nat.{ℕ}
 use mathlib.Core.Path.{_≡_, ap, subst, _∙_}
 use mathlib.Core.Bool.{Bool, true}
 use mathlib.Core.List.{List, map}
-use native.Mathlib.Omega.{arith}
 use borrow.Author.Tests.{eq-eqb}
 use lib.ListN.{length}
 use Rattle.kinds.specs.declared.Reply.{Reply}
@@ -11,25 +10,18 @@ use Rattle.fields.proofs.Laws.{Bytes}
 use Rattle.machine.specs.State.{State}
 use Rattle.machine.specs.Calls.{Call}
 use Rattle.machine.specs.Step.{run, stateFrom}
-use Rattle.image.specs.Layout.{configurationAt, imageLength}
+use Rattle.image.specs.Layout.{imageLength}
 use Rattle.image.specs.View.{view}
 use Rattle.image.specs.Formed.{formed}
-use Rattle.image.specs.Fresh.{zeros, freshImage}
+use Rattle.image.specs.Fresh.{freshImage}
 use Rattle.image.proofs.Freshened.{shows-fresh, formed-fresh}
 use Rattle.controller.specs.Fresh.{imageIf, Freshens}
+use Rattle.controller.proofs.Freshened as freshened
 use Rattle.link.specs.Runs.{Calling, repliesFrom}
-use Rattle.staying.proofs.Lent.{bytes-put}
 use Rattle.link.proofs.Link.{Shows, shows-run, state-run, events-run, eventOf}
 
-zero-bytes : (n : ℕ) → Bytes (zeros n)
-unfolding zeros
-zero-bytes zero j = omega arith
-zero-bytes (suc n) zero = omega arith
-zero-bytes (suc n) (suc j) = zero-bytes n j
-
 pub fresh-bytes : Bytes freshImage
-unfolding freshImage
-fresh-bytes = bytes-put 1 (zeros imageLength) configurationAt 1 (zero-bytes imageLength)
+fresh-bytes = freshened.fresh-bytes
 
 -- the image that is left shows the state of the machine's run, and the events are the run's
 pub shows-run-fresh : {cs : List Call} {rs : List Reply} {m : List ℕ} → Calling freshImage cs rs m

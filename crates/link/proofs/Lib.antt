@@ -3,7 +3,7 @@ pub mod Refused
 pub mod Link
 pub mod Unused
 pub mod Agree
-pub mod Same
 pub mod Plain
 pub mod Fresh
 pub mod Nights
+pub mod Imports

@@ -47,7 +47,7 @@ unfoldable pub repliesIn : List ℕ → List Call → List Reply
 repliesIn l [] = []
 repliesIn l (c ∷ cs) = outcomeOf (lentFrom l cs) c .reply ∷ repliesIn l cs
 
-lent-calling : (l : List ℕ) (cs : List Call) → Calling l cs (repliesIn l cs) (lentFrom l cs)
+pub lent-calling : (l : List ℕ) (cs : List Call) → Calling l cs (repliesIn l cs) (lentFrom l cs)
 unfolding lentFrom repliesIn
 lent-calling l [] = none
 lent-calling l (c ∷ cs) = next (lent-calling l cs) c _ _ (refl, refl)

@@ -22,7 +22,8 @@ use Rattle.staying.proofs.Rooms.{Stills, none, more, isPlain, decide-still}
 use Rattle.link.specs.Runs as runs
 use Rattle.link.specs.Runs.{Calling}
 use Rattle.link.proofs.Link.{stays-bytes, stays-formed}
-use Rattle.link.proofs.Unused.{Free, isAppend, keeps-unused}
+use Rattle.staying.proofs.Unused.{Free}
+use Rattle.link.proofs.Unused.{isAppend, keeps-unused}
 
 -- ---- the ends after a row of such stores
 module _ (b n : ℕ) (f : Room b n) where

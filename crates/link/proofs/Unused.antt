@@ -1,28 +1,26 @@
 -- Slots of no number kept are not read, and only append changes one of them: the new entry's. Assumes nothing.
 use Prim.Native.Nat.{ℕ, zero, suc, _+_, _*_, _≤_, _<_}
 use mathlib.Core.Path.{_≡_, refl, ap, ap₂, sym, _∙_, subst}
-use mathlib.Core.Logic.{_⊎_, inl, inr, ⊎-elim}
-use mathlib.Core.Bool.{Bool, true, false, _&&_, cond, true≢false}
+use mathlib.Core.Logic.{_⊎_, inr, ⊎-elim}
+use mathlib.Core.Bool.{Bool, true, false, _&&_, true≢false}
 use mathlib.Core.List.{List, [], _∷_, _++_}
 use native.Mathlib.Omega.{arith}
 use lib.Dec.{eqb, leb, ltb}
 use lib.ListN.{length, getD}
-use Rattle.kinds.specs.declared.Transaction.{Transaction}
 use Rattle.kinds.specs.declared.Reply.{Reply}
 use Rattle.kinds.specs.Numbers.{num}
-use Rattle.fields.specs.Field.{field, putField, fieldsAt, putFields, total}
-use Rattle.fields.proofs.Laws.{Outside, Bytes, put-outside}
-use Rattle.fields.proofs.Runs.{puts-outside}
-use Rattle.machine.specs.State.{State, last, isKept}
+use Rattle.fields.specs.Field.{field, fieldsAt, total}
+use Rattle.fields.proofs.Laws.{Outside, Bytes}
+use Rattle.machine.specs.State.{last, isKept}
 use Rattle.machine.specs.WellFormed.{wellFormed}
 use Rattle.machine.specs.LiveList.{live}
 use Rattle.machine.specs.Folding.{mayFold, baseRow}
-use Rattle.machine.specs.Stores.{Table, ofCommitted, ofApplied, ofTarget, ofBase, Store, grow, entry, fold, change, committedHead, appliedHead, value, targetValues, configuration, mastership, connections, target}
+use Rattle.machine.specs.Stores.{Store, grow, fold}
 use Rattle.machine.specs.Calls as calls
 use Rattle.machine.specs.Calls.{Pair, Call, Outcome, append, foldTo, unless, accepted, validChange, appended, decide}
 use Rattle.machine.proofs.Kept as kept
-use Rattle.image.specs.Layout.{entryWidths, headWidths, tableWidths, configurationWidths, mastershipWidths, targetWidths, connectionsWidths, placeOf, lastAt, changeAt, committedAt, appliedAt, valuesAt, configurationAt, mastershipAt, targetAt, connectionsAt, foldedAt, imageLength, slots, highest, stride, valueSize, tableLength, numberSize}
-use Rattle.image.specs.Records.{toEntry, entryAt, entryNumbers, putEntryAt, lastOf, foldedOf, headNumbers, putHeadAt, configurationNumbers, putConfiguration, mastershipNumbers, putMastership, targetNumbers, putTarget, connectionsNumbers, eight, putConnections}
+use Rattle.image.specs.Layout.{entryWidths, placeOf, lastAt, foldedAt, imageLength, slots, highest, stride, numberSize}
+use Rattle.image.specs.Records.{toEntry, entryAt, lastOf, foldedOf}
 use Rattle.image.specs.View.{upFrom, entriesOf, view, write, written}
 use Rattle.image.specs.Formed.{allKept, statusesOk, entryStatusesOk, flagsOk, codesOk, formed}
 use Rattle.image.proofs.UpTo.{upFrom-same, kept-same}
@@ -32,12 +30,8 @@ use Rattle.image.proofs.Shown.{shown-log}
 use Rattle.controller.specs.Claims.{outcomeOf, Claims}
 use Rattle.controller.proofs.Performed.{written-append}
 use Rattle.staying.proofs.Sizes.{sizes}
-use Rattle.staying.proofs.Rooms.{Still, Stills, none, more, isPlain, decide-still, base-row-still}
-
--- a byte in use, where b is the last fold and n the highest number: past the ring, or of the entry of a number kept
-pub data Used (b n j : ℕ) : Type 0 where
-  past : lastAt ≤ j → Used b n j
-  slot : (k : ℕ) → b < k → k ≤ n → placeOf k ≤ j → j < placeOf k + stride → Used b n j
+use Rattle.staying.proofs.Unused.{Used, past, slot, Free, put-past, written-unused, grow-keeps}
+use Rattle.staying.proofs.Rooms.{Stills, isPlain, decide-still, base-row-still}
 
 -- images that agree in length and in every byte in use
 pub record Agree (l m : List ℕ) : Type 0 where
@@ -109,48 +103,7 @@ module _ (l m : List ℕ) (a : Agree l m) where
   pub same-reply : (c : Call) (r r' : Reply) (l' m' : List ℕ) → Claims l c r l' → Claims m c r' m' → r' ≡ r
   same-reply c r r' l' m' p q = q .0 ∙ ap (λ (x : Outcome). x .reply) (same-outcome c) ∙ sym (p .0)
 
--- ---- not changed: a byte of no entry kept
-abbrev pub Free : ℕ → ℕ → ℕ → Type 0
-Free b n j = (k : ℕ) → b < k → k ≤ n → (j < placeOf k) ⊎ (placeOf k + stride ≤ j)
-
-module _ (j : ℕ) (q : j < lastAt) where
-  put-past : (l : List ℕ) (at w x : ℕ) → lastAt ≤ at → getD (putField l at w x) j 0 ≡ getD l j 0
-  put-past l at w x h = put-outside w l at x j (inl (omega arith))
-
-  puts-past : (l ws xs : List ℕ) (at : ℕ) → lastAt ≤ at → getD (putFields l at ws xs) j 0 ≡ getD l j 0
-  puts-past l ws xs at h = puts-outside ws xs l at j (inl (omega arith))
-
-  value-past : (l : List ℕ) (x : Bool) (at v : ℕ) → lastAt ≤ at → getD (cond x (putField l at valueSize v) l) j 0 ≡ getD l j 0
-  value-past l true at v h = put-past l at valueSize v h
-  value-past l false at v h = refl
-
-  table-past : (t : Table) (p : ℕ) → lastAt ≤ valuesAt t + valueSize * p
-  table-past ofCommitted p = omega arith
-  table-past ofApplied p = omega arith
-  table-past ofTarget p = omega arith
-  table-past ofBase p = omega arith
-
-  module _ (b n : ℕ) (free : Free b n j) where
-    write-unused : (l : List ℕ) (e : Store) → Still b n e → getD (write l e) j 0 ≡ getD l j 0
-    unfolding write putEntryAt putHeadAt putConfiguration putMastership putConnections putTarget
-    write-unused l (grow t) h = absurd (omega (arith, h .last))
-    write-unused l (entry i t) h = puts-outside entryWidths (entryNumbers t) l (placeOf i) j (free i (h .fits .1 .0) (h .fits .1 .1))
-    write-unused l (fold k) h = put-past l foldedAt numberSize (k .0) (omega arith)
-    write-unused l (change k) h = put-past l changeAt numberSize (k .0) (omega arith)
-    write-unused l (committedHead k) h = puts-past l headWidths (headNumbers k) committedAt (omega arith)
-    write-unused l (appliedHead k) h = puts-past l headWidths (headNumbers k) appliedAt (omega arith)
-    write-unused l (value t p v) h = value-past l (ltb p tableLength) (valuesAt t + valueSize * p) v (table-past t p)
-    write-unused l (targetValues vs) h = puts-past l tableWidths vs (valuesAt ofTarget) (omega arith)
-    write-unused l (configuration g) h = puts-past l configurationWidths (configurationNumbers g) configurationAt (omega arith)
-    write-unused l (mastership x) h = puts-past l mastershipWidths (mastershipNumbers x) mastershipAt (omega arith)
-    write-unused l (connections xs) h = puts-past l connectionsWidths (connectionsNumbers (eight xs)) connectionsAt (omega arith)
-    write-unused l (target t) h = puts-past l targetWidths (targetNumbers t) targetAt (omega arith)
-
-    written-unused : {es : List Store} → Stills b n es → (l : List ℕ) → getD (written l es) j 0 ≡ getD l j 0
-    unfolding written
-    written-unused none l = refl
-    written-unused (more {e = e} h k) l = written-unused k (write l e) ∙ write-unused l e h
-
+-- ---- not changed
 abbrev pub isAppend : Call → Bool
 isAppend (append ps) = true
 isAppend (calls.rollback i) = false
@@ -206,12 +159,6 @@ module _ (l : List ℕ) (j : ℕ) (q : j < lastAt) where
       go true w = stays y w a c x
       go false w = refl
 
-  grow-keeps : (t : Transaction) → (j < placeOf (lastOf l + 1)) ⊎ (placeOf (lastOf l + 1) + stride ≤ j) → getD (write l (grow t)) j 0 ≡ getD l j 0
-  unfolding write putEntryAt
-  grow-keeps t a =
-      let m = putFields l (placeOf (lastOf l + 1)) entryWidths (entryNumbers t) in
-      put-outside numberSize m lastAt (lastOf l + 1) j (inl (omega arith)) ∙ puts-outside entryWidths (entryNumbers t) l (placeOf (lastOf l + 1)) j a
-
   -- append leaves every byte but the new entry's
   pub append-unused : (ps : List Pair) (r : Reply) (m : List ℕ) → Claims l (append ps) r m → (j < placeOf (lastOf l + 1)) ⊎ (placeOf (lastOf l + 1) + stride ≤ j)
       → getD m j 0 ≡ getD l j 0
@@ -228,7 +175,7 @@ module _ (l : List ℕ) (j : ℕ) (q : j < lastAt) where
           (unless 9 h (record { reply = record { answer = 0; event = Rattle.kinds.specs.Events.numbered (last (view l .log) + 1) }; stores = grow (appended ps) ∷ [] })))) .stores))
           j 0
           ≡ getD l j 0
-      go true true true true = grow-keeps (appended ps) a
+      go true true true true = grow-keeps j q l (appended ps) a
       go true true true false = refl
       go true true false h = refl
       go true false f h = refl

@@ -8,7 +8,5 @@
 // Unused   same-outcome     slots of no number kept are not read
 //          keeps-unused, append-unused    nor changed, but append's new entry
 // Plain    plain-run        calls that neither append nor fold leave the log's ends, and the slots of no number kept
-// Same     image-same       images that show the same state and agree in those slots are the same bytes
-//          beside-same      the same but for the connections, where only those differ
 // Agree    agree-run        images that agree on what is used give the same replies to any calls, and go on to agree
 // Refused has a lemma of theirs; the others are in the crate `staying`.

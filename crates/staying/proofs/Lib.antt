@@ -4,3 +4,7 @@ pub mod Rooms
 pub mod Codes
 pub mod Lent
 pub mod Stays
+pub mod Unused
+pub mod Both
+pub mod Same
+pub mod Entered

@@ -102,7 +102,7 @@ module _ (d n : ℕ) where
       let at : (k : ℕ) → Stills d n (layAt b ps vs m k) = λ k. lay-still (ltb k m) b _ _ (h k) in
       join d n (at 0) (join d n (at 1) (join d n (at 2) (at 3)))
 
-  laid-still : (b : Table) (v : Lay) (t : Transaction) → SizedEntry t → Stills d n (laid b v t)
+  pub laid-still : (b : Table) (v : Lay) (t : Transaction) → SizedEntry t → Stills d n (laid b v t)
   laid-still b Nothing t h = none
   laid-still b Values t h = overlay-still b (t .paths) (t .values) (t .count) (h .values .small)
   laid-still b Kept t h = overlay-still b (t .paths) (t .kept) (t .count) (h .kept .small)
@@ -138,7 +138,7 @@ module _ (d n : ℕ) where
             then-still first (laid-still ofTarget (p .lay) (p .entry) (r .entry)) (then-still second (head-still c p r) (entry-still p r))
 
 -- ---- the four jobs, whatever rule holds
-next-small : (o : Ordinal) → o .0 < 4294967296 → nextOrdinal o .0 < 4294967296
+pub next-small : (o : Ordinal) → o .0 < 4294967296 → nextOrdinal o .0 < 4294967296
 next-small o h = go (isFull (o .0)) refl
   where
     go : (b : Bool) → isFull (o .0) ≡ b → ordinalUnless b (o .0) .0 < 4294967296
@@ -212,7 +212,7 @@ module _ (t : Transaction) (h : Head) (i : ℕ) (f : SizedEntry t) (g : SizedHea
   apply-rollback return.Wait = record { entry = f; head = g }
 
 -- the present values of a change's paths
-present-small : (vs : List ℕ) (t : Transaction) → SizedTable vs → Four 65536 (present vs t)
+pub present-small : (vs : List ℕ) (t : Transaction) → SizedTable vs → Four 65536 (present vs t)
 unfolding present
 present-small vs t h = four 65536 _ _ _ _ (one (ltb 0 (t .count)) _) (one (ltb 1 (t .count)) _) (one (ltb 2 (t .count)) _) (one (ltb 3 (t .count)) _)
   where
@@ -254,7 +254,7 @@ few-pairs : (n : ℕ) (qs : List ℕ) → pairsOk n qs ≡ true → n ≤ 4
 unfolding pairsOk
 few-pairs n qs e = leb-true n 4 (and-right (leb 1 n) _ (and-left (leb 1 n && leb n 4) _ e))
 
-appended-sized : (ps : List Pair) → validChange ps ≡ true → SizedEntry (appended ps)
+pub appended-sized : (ps : List Pair) → validChange ps ≡ true → SizedEntry (appended ps)
 appended-sized ps e =
     let p : pairsOk (length ps) (map pathOf ps) ≡ true = and-left _ _ e in
     let v : valuesOk ps ≡ true = and-right (pairsOk (length ps) (map pathOf ps)) _ e in

@@ -9,7 +9,7 @@ use lib.Dec.{eqb}
 use lib.ListN.{length}
 use Rattle.fields.proofs.Laws.{Bytes}
 use Rattle.machine.specs.State.{last}
-use Rattle.machine.specs.Stores.{afters}
+use Rattle.machine.specs.Stores.{Store, afters}
 use Rattle.machine.specs.WellFormed.{wellFormed}
 use Rattle.machine.proofs.Entries.{and-both}
 use Rattle.machine.specs.Calls.{Call, Outcome, decide}
@@ -38,6 +38,17 @@ pub steps : (l : List ℕ) (c : Call) → formed l ≡ true → outcome (view l)
 unfolding outcome
 steps l c w = rw (formed-state l w)
 
+-- ---- a row of stores that fit, and leaves a state that is well-formed
+pub formed-written : (es : List Store) (l : List ℕ) → formed l ≡ true → FitsAll (foldedOf l) (lastOf l) es → wellFormed (view (written l es)) ≡ true
+    → formed (written l es) ≡ true
+unfolding formed
+formed-written es l w f d =
+    let z : length l ≡ imageLength = formed-length l w in
+    let a : length (written l es) ≡ imageLength = length-written es l z (formed-room l w) f in
+    let k = codes-written es l z (formed-room l w) f (codes l (formed-codes l w)) in
+    let b : codesOk (written l es) ≡ true = codes-ok _ (k .1 .0) (k .0) in
+    and-both (eqb (length (written l es)) imageLength) _ (eq-eqb _ _ a) (and-both (codesOk (written l es)) (wellFormed (view (written l es))) b d)
+
 -- ---- what is left
 module _ (l : List ℕ) (c : Call) (y : Bytes l) (w : formed l ≡ true) where
   abbrev left : List ℕ
@@ -56,12 +67,5 @@ module _ (l : List ℕ) (c : Call) (y : Bytes l) (w : formed l ≡ true) where
 
   -- and it stays well-formed
   pub stays-formed : formed left ≡ true
-  unfolding formed
   stays-formed =
-      let z : length l ≡ imageLength = formed-length l w in
-      let f : FitsAll (foldedOf l) (lastOf l) (decide (view l) c .stores) = decide-fits l c y w in
-      let a : length left ≡ imageLength = length-written (decide (view l) c .stores) l z (formed-room l w) f in
-      let k = codes-written (decide (view l) c .stores) l z (formed-room l w) f (codes l (formed-codes l w)) in
-      let b : codesOk left ≡ true = codes-ok _ (k .1 .0) (k .0) in
-      let d : wellFormed (view left) ≡ true = ap wellFormed shows ∙ step-keeps-well-formed (view l) c (formed-state l w) in
-      and-both (eqb (length left) imageLength) _ (eq-eqb _ _ a) (and-both (codesOk left) (wellFormed (view left)) b d)
+      formed-written (decide (view l) c .stores) l w (decide-fits l c y w) (ap wellFormed shows ∙ step-keeps-well-formed (view l) c (formed-state l w))

@@ -25,8 +25,8 @@ use Rattle.image.proofs.UpTo.{and-left, and-right, kept-at}
 use Rattle.image.proofs.Scanned.{view-folded, view-last, view-entry, formed-length, formed-codes, formed-room}
 use Rattle.image.proofs.Chain.{node-loaded}
 use Rattle.image.proofs.Back.{head-back, table-back, mastership-back, entry-stored-back, configuration-stored-back, target-stored-back, node-stored-back, connections-stored-back}
-use Rattle.link.proofs.Unused.{Used, past, slot, Free}
-use Rattle.link.proofs.Agree.{put-both, puts-both}
+use Rattle.staying.proofs.Unused.{Used, past, slot, Free}
+use Rattle.staying.proofs.Both.{put-both, puts-both}
 
 -- ---- the codes of a well-formed image
 flags : (l : List ℕ) → formed l ≡ true → flagsOk l ≡ true
