@@ -15,14 +15,16 @@ use Rattle.controller.specs.declared.reads.Read.{Read}
 use Rattle.controller.specs.declared.walking.Listed.{Listed}
 use Rattle.controller.specs.declared.reasons.Why.{Why}
 use Rattle.controller.specs.declared.nights.Night.{Night}
+use Rattle.controller.specs.declared.imports.Imported.{Imported}
 use Rattle.controller.specs.Claims as controller
 use Rattle.controller.specs.Fresh as fresh
 use Rattle.controller.specs.Live as live
 use Rattle.controller.specs.Nights as nightly
+use Rattle.controller.specs.Imports as list
 use Rattle.controller.specs.Reads.{readOf}
 use Rattle.controller.specs.Reasons.{whyOf}
-use Rattle.northbound.specs.Packing.{packed, packedRead, packedListed, packedWhy, packedNight, low, high, unpacked, unpackedRead, unpackedListed, unpackedWhy, unpackedNight, Packs, PacksRead, PacksListed, PacksWhy, PacksNight}
-use Rattle.northbound.specs.Exports.{Claims, Freshens, Nights, Lists, Shows, Explains, answerOf, Tells}
+use Rattle.northbound.specs.Packing.{packed, packedRead, packedListed, packedWhy, packedNight, packedImport, low, high, unpacked, unpackedRead, unpackedListed, unpackedWhy, unpackedNight, unpackedImport, Packs, PacksRead, PacksListed, PacksWhy, PacksNight, PacksImport}
+use Rattle.northbound.specs.Exports.{Claims, Freshens, Nights, Imports, Lists, Shows, Explains, answerOf, Tells}
 
 -- ---- nothing is lost
 -- the four bytes and the number of a sum of five
@@ -81,6 +83,10 @@ pub unpacks-listed : (r : Listed) → r .answer < 256 → unpackedListed (packed
 unfolding packedListed
 unpacks-listed r h = ap₂ (λ (x y : ℕ). record { answer = x; length = y }) (two-low (r .answer) (r .length) h) (two-high (r .answer) (r .length) h)
 
+pub unpacks-import : (r : Imported) → r .answer < 256 → unpackedImport (packedImport r) ≡ r
+unfolding packedImport
+unpacks-import r h = ap₂ (λ (x y : ℕ). record { answer = x; position = y }) (two-low (r .answer) (r .position) h) (two-high (r .answer) (r .position) h)
+
 -- a reason between the two
 pub unpacks-why : (r : Why) → r .answer < 256 → r .reason < 256 → unpackedWhy (packedWhy r) ≡ r
 unfolding packedWhy
@@ -117,6 +123,10 @@ pub adds-up-listed : (r : Listed) → r .answer < 256 → PacksListed r (r .answ
 unfolding packedListed
 adds-up-listed r h = (refl, unpacks-listed r h)
 
+pub adds-up-import : (r : Imported) → r .answer < 256 → PacksImport r (r .answer + 4294967296 * r .position)
+unfolding packedImport
+adds-up-import r h = (refl, unpacks-import r h)
+
 pub adds-up-why : (r : Why) → r .answer < 256 → r .reason < 256 → PacksWhy r (r .answer + 256 * r .reason + 4294967296 * r .named)
 unfolding packedWhy
 adds-up-why r h k = (refl, unpacks-why r h k)
@@ -142,6 +152,9 @@ shows l q r p k e = (e .0 ∙ ap packedRead k, e .1 ∙ k)
 pub nights : (l : List ℕ) (n b : ℕ) (os m : List ℕ) (r : Night) (l′ m′ : List ℕ) (p : ℕ) → nightly.Nights l n b os m r l′ m′ → PacksNight r p
     → Nights l n b os m p l′ m′
 nights l n b os m r l′ m′ p k e = ((e .0 ∙ ap packedNight (k .0), e .1 ∙ k .0), k .1, k .2)
+
+pub imports : (l b : List ℕ) (r : Imported) (m : List ℕ) (p : ℕ) → list.Imports l b r m → PacksImport r p → Imports l b p m
+imports l b r m p k e = ((e .0 ∙ ap packedImport (k .0), e .1 ∙ k .0), k .1)
 
 pub explains : (l : List ℕ) (n j i : ℕ) (r : Why) (p : ℕ) → r ≡ whyOf l n j i → PacksWhy r p → Explains l n j i p
 explains l n j i r p k e = (e .0 ∙ ap packedWhy k, e .1 ∙ k)

@@ -17,7 +17,8 @@ use Rattle.controller.specs.Live.{listingOf}
 use Rattle.controller.specs.Reads.{readOf}
 use Rattle.controller.specs.Reasons.{whyOf}
 use Rattle.controller.specs.Nights.{lentFrom, roomAfter, given, nightIn}
-use Rattle.northbound.specs.Packing.{Packs, PacksRead, PacksListed, PacksWhy, PacksNight}
+use Rattle.controller.specs.Imports.{importIn, told, imageAfter}
+use Rattle.northbound.specs.Packing.{Packs, PacksRead, PacksListed, PacksWhy, PacksNight, PacksImport}
 
 abbrev pub Claims : List ℕ → Call → ℕ → List ℕ → Type 0
 Claims l c p m = Packs (outcomeOf l c .reply) p × (m ≡ written l (outcomeOf l c .stores))
@@ -37,6 +38,9 @@ Explains l n j i p = PacksWhy (whyOf l n j i) p
 abbrev pub Nights : List ℕ → (node budget : ℕ) → (outcomes room : List ℕ) → ℕ → (image room : List ℕ) → Type 0
 Nights l n b os m p l′ m′ =
     let w = nightIn l n b os in PacksNight (given w m) p × (l′ ≡ lentFrom l (w .calls)) × (m′ ≡ roomAfter m (w .events))
+
+abbrev pub Imports : (image list : List ℕ) → ℕ → (image : List ℕ) → Type 0
+Imports l b p m = let x = importIn l b in PacksImport (told x) p × (m ≡ imageAfter x l)
 
 -- 0 where it is well-formed, else the refusal
 abbrev pub answerOf : Bool → ℕ

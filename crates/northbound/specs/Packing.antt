@@ -1,6 +1,6 @@
 -- What an answer is as one number: the answer in the lowest byte, and above it the event; or from bit 32 on the number read; or
 -- a reason, in the second byte, and from bit 32 on what it names; or why a night stopped, in the second byte, the jobs done in
--- the next two, and from bit 32 on the events shown. Assumes nothing.
+-- the next two, and from bit 32 on the events shown; or from bit 32 on the place of an entry. Assumes nothing.
 use Prim.Native.Nat.{ℕ, _+_, _*_, _/_, _%_}
 use mathlib.Core.Path.{_≡_}
 use Rattle.kinds.specs.declared.Reply.{Reply}
@@ -10,6 +10,7 @@ use Rattle.controller.specs.declared.reads.Read.{Read}
 use Rattle.controller.specs.declared.walking.Listed.{Listed}
 use Rattle.controller.specs.declared.reasons.Why.{Why}
 use Rattle.controller.specs.declared.nights.Night.{Night}
+use Rattle.controller.specs.declared.imports.Imported.{Imported}
 
 -- answer, phase, stage and status, a byte each, then the number
 unfoldable pub packed : Reply → ℕ
@@ -27,6 +28,9 @@ packedWhy r = r .answer + 256 * r .reason + 4294967296 * r .named
 
 unfoldable pub packedNight : Night → ℕ
 packedNight r = r .answer + 256 * r .stopped + 65536 * r .jobs + 4294967296 * r .events
+
+unfoldable pub packedImport : Imported → ℕ
+packedImport r = r .answer + 4294967296 * r .position
 
 -- ---- and back
 abbrev pub low : ℕ → ℕ
@@ -51,6 +55,9 @@ unpackedWhy p = record { answer = low p; reason = low (p / 256); named = high p 
 abbrev pub unpackedNight : ℕ → Night
 unpackedNight p = record { answer = low p; jobs = p / 65536 % 65536; stopped = low (p / 256); events = high p }
 
+abbrev pub unpackedImport : ℕ → Imported
+unpackedImport p = record { answer = low p; position = high p }
+
 -- ---- a number that is an answer packed, and reads back as that answer: nothing is lost
 abbrev pub Packs : Reply → ℕ → Type 0
 Packs r p = (p ≡ packed r) × (unpacked p ≡ r)
@@ -66,3 +73,6 @@ PacksWhy r p = (p ≡ packedWhy r) × (unpackedWhy p ≡ r)
 
 abbrev pub PacksNight : Night → ℕ → Type 0
 PacksNight r p = (p ≡ packedNight r) × (unpackedNight p ≡ r)
+
+abbrev pub PacksImport : Imported → ℕ → Type 0
+PacksImport r p = (p ≡ packedImport r) × (unpackedImport p ≡ r)

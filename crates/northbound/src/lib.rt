@@ -6,9 +6,10 @@ ghost use Rattle.machine.specs.Calls.{rollback, start, stop, connect, disconnec
 ghost use Rattle.machine.specs.Reads.{ofTable, ofEntry, ofState, ofNode};
 ghost use Rattle.image.specs.Formed.{formed};
 ghost use Rattle.controller.specs.Bytes.{appendOf};
-ghost use Rattle.northbound.specs.Packing.{Packs, PacksRead, PacksListed, PacksWhy, PacksNight};
+ghost use Rattle.northbound.specs.Packing.{Packs, PacksRead, PacksListed, PacksWhy, PacksNight, PacksImport};
 ghost use Rattle.northbound.specs.Wide.{narrowed, handed};
-ghost use Rattle.northbound.specs.Exports.{Claims, Freshens, Nights, Lists, Shows, Explains, Tells};
+ghost use Rattle.northbound.specs.Exports.{Claims, Freshens, Nights, Imports, Lists, Shows, Explains, Tells};
+use controller::Imported;
 use controller::Listed;
 use controller::Night;
 use controller::Read;
@@ -58,6 +59,12 @@ fn pack_night(r: Night) -> u64
         + 256 * (r.stopped as u64)
         + 65536 * (r.jobs as u64)
         + 4294967296 * (r.events as u64)
+}
+
+fn pack_import(r: Imported) -> u64
+    ensures { λ p. ⌜ PacksImport r p ⌝ }
+{
+    (r.answer as u64) + 4294967296 * (r.position as u64)
 }
 
 // ---- a number of C's, of 64 bits: one that is no 16-bit number is refused, or handed on as another that is refused as it is
@@ -237,6 +244,15 @@ pub extern "C" fn makowist_night(
     let n = narrow(node, OUTSIDE);
     let b = narrow(budget, OUTSIDE);
     pack_night(controller::night(image, n, b, outcomes, events))
+}
+
+// Takes a list of the old controller in place of a fresh start: 20 bytes an entry, at most 256 of them. What the image held does
+// not matter; refused, it is what it had been, and the answer has the place of the first bad entry.
+#[no_mangle]
+pub extern "C" fn makowist_import(image: &mut [u8], entries: &[u8]) -> u64
+    ensures { λ r. ⌜ Imports (now (image .entry)) (now (entries .entry)) r (now (image .exit)) ⌝ }
+{
+    pack_import(controller::import(image, entries))
 }
 
 // ---- the reads

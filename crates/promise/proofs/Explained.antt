@@ -112,7 +112,7 @@ why-explained l k u z f {cs = cs} {rs = rs} {m = m} d n j i w e =
 
 -- ---- as C sees it
 -- a packed answer reads back as the controller's
-why-in-c : (l : List ℕ) (n j i x : ℕ) → north.Explains l n j i x → Explains l n j i (unpackedWhy x)
+pub why-in-c : (l : List ℕ) (n j i x : ℕ) → north.Explains l n j i x → Explains l n j i (unpackedWhy x)
 why-in-c l n j i x p = p .1
 
 pub why-asked-c : (l : List ℕ) (n j i x : ℕ) → north.Explains l n j i x → Bytes l → Asked l n j i (unpackedWhy x)

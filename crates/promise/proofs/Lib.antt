@@ -4,3 +4,4 @@ pub mod Retried
 pub mod Explained
 pub mod EventRoom
 pub mod Nights
+pub mod Imports

@@ -254,14 +254,14 @@ acting-calls {l} (nightly {cs = cs} {es = es} {k = k} d n b os x r m y p) bytes 
     }
 
 -- ---- from bytes that `fresh` was called on
-record Reached (cs : List Call) (es : List Event) (m : List ℕ) : Type 0 where
-  state : view m ≡ run cs .state
-  events : run cs .events ≡ es
-  formed : formed m ≡ true
-  bytes : Bytes m
+pub record Reached (cs : List Call) (es : List Event) (m : List ℕ) : Type 0 where
+  pub state : view m ≡ run cs .state
+  pub events : run cs .events ≡ es
+  pub formed : formed m ≡ true
+  pub bytes : Bytes m
 
 module _ (l k : List ℕ) (u : Reply) (z : length l ≡ imageLength) (f : Freshens l u k) {cs : List Call} {es : List Event} {m : List ℕ} (d : Acting k cs es m) where
-  acted : Reached cs es m
+  pub acted : Reached cs es m
   acted =
       let e : k ≡ freshImage = f .1 ∙ ap (λ (b : Bool). imageIf b l) (eq-eqb _ _ z) in
       let a : AreCalls freshImage cs es m = acting-calls (subst (λ (x : List ℕ). Acting x cs es m) e d) fresh-bytes formed-fresh in
@@ -305,10 +305,10 @@ module _ (l k : List ℕ) (u : Reply) (z : length l ≡ imageLength) (f : Freshe
 
 -- ---- as C sees it
 -- a packed answer reads back as the controller's
-night-in-c : (l : List ℕ) (n b : ℕ) (os x : List ℕ) (p : ℕ) (m y : List ℕ) → north.Nights l n b os x p m y → Nights l n b os x (unpackedNight p) m y
+pub night-in-c : (l : List ℕ) (n b : ℕ) (os x : List ℕ) (p : ℕ) (m y : List ℕ) → north.Nights l n b os x p m y → Nights l n b os x (unpackedNight p) m y
 night-in-c l n b os x p m y q = (q .0 .1, q .1, q .2)
 
-acting-in-c : {l : List ℕ} {cs : List Call} {es : List Event} {m : List ℕ} → ActingC l cs es m → Acting l cs es m
+pub acting-in-c : {l : List ℕ} {cs : List Call} {es : List Event} {m : List ℕ} → ActingC l cs es m → Acting l cs es m
 acting-in-c nothing = none
 acting-in-c (further {k = k} d c x m p) = call (acting-in-c d) c (unpacked x) m (in-c k c x m p)
 acting-in-c (overnight {k = k} d n b os x p m y q) = nightly (acting-in-c d) n b os x (unpackedNight p) m y (night-in-c k n b os x p m y q)

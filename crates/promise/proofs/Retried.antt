@@ -25,9 +25,9 @@ use Rattle.image.proofs.Scanned.{formed-length, formed-state}
 use Rattle.staying.proofs.Rooms.{isPlain}
 use Rattle.link.specs.Runs.{Calling, none}
 use Rattle.link.proofs.Link.{Shows, shows-next, shows-run, stays-bytes, stays-formed}
-use Rattle.link.proofs.Unused.{Free}
+use Rattle.staying.proofs.Unused.{Free}
 use Rattle.link.proofs.Plain.{Leaves, leaves-then, plain-leaves, allPlain, plain-run}
-use Rattle.link.proofs.Same.{in-node, beside-same, image-same}
+use Rattle.staying.proofs.Same.{in-node, beside-same, image-same}
 use Rattle.promise.specs.Retry.{NoOther, before, own, behind, Retry, Harmless}
 
 -- ---- calls on other nodes' connections neither append nor fold

@@ -3,3 +3,4 @@ pub mod Demands
 pub mod Retry
 pub mod Reasons
 pub mod Nights
+pub mod Imports
