@@ -10,11 +10,13 @@ use borrow.Author.Tests.{ltb-true, ltb-false, le-leb}
 use lib.Dec.{ltb}
 use lib.ListN.{length, getD, take, replicate, length-append}
 use Rattle.lines.specs.declared.reading.Call.{Call}
-use Rattle.lines.specs.declared.reading.Call.the-variants.{Unreadable, Append, Rollback, Start, Stop, Connect, Disconnect, Master, Sync, Work}
+use Rattle.lines.specs.declared.reading.Call.the-variants.{Unreadable, Append, Rollback, Start, Stop, Connect, Disconnect, Master, Sync, Work, Import}
 use Rattle.lines.specs.Text.{text}
 use Rattle.lines.specs.Decimal.{isDigit, spelled, decimal}
-use Rattle.lines.specs.Grammar.{allDigits, tenfold, Number}
-use Rattle.lines.specs.Reading.{size, letterAt, like, seekIn, pushed, callOf, said, saidIn}
+use Rattle.machine.specs.Import.{adds, undoes}
+use Rattle.lines.specs.Grammar.{allDigits, tenfold, pair, flat, Number}
+use Rattle.lines.specs.Reading.{size, letterAt, like, seekIn, twoBytes, pushed, callOf, said, saidIn}
+use Rattle.lines.specs.Handed.{padded, entryBytes}
 use Rattle.lines.proofs.Classes.{and-left, and-right}
 
 -- ---- readable, and unreadable
@@ -64,6 +66,46 @@ edges = (
   refl,
   refl,
   refl,
+  refl,
+  refl,
+  refl,
+  refl,
+  refl,
+  refl,
+  refl,
+  refl,
+  refl,
+  refl,
+  refl,
+  refl,
+  refl,
+  refl,
+  refl,
+  refl,
+  refl,
+  refl,
+  refl,
+)
+
+-- ---- entries (order 6)
+-- an import's bytes, in a room of 80
+enters : List ℕ → List ℕ
+enters l = take (said (replicate 80 9) l .length) (saidIn (replicate 80 9) l)
+
+entries :
+    (asks (text "call=import entries=") ≡ Import) × (enters (text "call=import entries=") ≡ [])
+    × (enters (text "call=import entries=3:7,4:1/3:9/2") ≡ entryBytes (adds (pair 3 7 ∷ pair 4 1 ∷ []) ∷ adds (pair 3 9 ∷ []) ∷ undoes 2 ∷ []))
+    × (enters (text "call=import entries=/") ≡ entryBytes (adds [] ∷ adds [] ∷ []))
+    × (enters (text "call=import entries=07//65535") ≡ entryBytes (undoes 7 ∷ adds [] ∷ undoes 65535 ∷ []))
+    × (enters (text "call=import entries=1:1,2:2,3:3,4:4,5:5,6:6/1") ≡ 1 ∷ 0 ∷ 5 ∷ 0 ∷ 1 ∷ 0 ∷ 1 ∷ 0 ∷ 2 ∷ 0 ∷ 2 ∷ 0 ∷ 3 ∷ 0 ∷ 3 ∷ 0 ∷ 4 ∷ 0 ∷ 4 ∷ 0 ∷ entryBytes (undoes 1 ∷ []))
+    × (asks (text "call=import entries=1:") ≡ Unreadable) × (asks (text "call=import entries=1:2,") ≡ Unreadable)
+    × (asks (text "call=import entries=1:2,3") ≡ Unreadable) × (asks (text "call=import entries=1:2,3/4") ≡ Unreadable)
+    × (asks (text "call=import entries=1,2") ≡ Unreadable) × (asks (text "call=import entries=1:/2") ≡ Unreadable)
+    × (asks (text "call=import entries=1:2:3") ≡ Unreadable) × (asks (text "call=import entries=65536") ≡ Unreadable)
+    × (asks (text "call=import entries=1/ ") ≡ Unreadable) × (asks (text "call=import entries=-") ≡ Unreadable) × (asks (text "call=import") ≡ Unreadable)
+    × (asks (text "call=append pairs=1:2/3:4") ≡ Unreadable) × (asks (text "call=night node=1 budget=1 outcomes=1/1") ≡ Unreadable)
+unfolding asks enters size letterAt like seekIn twoBytes pushed callOf padded flat entryBytes
+entries = (
   refl,
   refl,
   refl,

@@ -7,13 +7,14 @@ pub mod Places
 pub mod Table
 pub mod Goes
 pub mod Runs
+pub mod Rooms
 pub mod Standing
 pub mod Complete
 pub mod Sound
 pub mod Each
 pub mod Handing
 pub mod Readable
+pub mod Entering
 pub mod Edges
 pub mod Paper
-pub mod Telling
 pub mod Once

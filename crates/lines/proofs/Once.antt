@@ -1,199 +1,124 @@
--- A line says one thing: two calls that one line says are the same, an append's pairs and a night's outcomes too. Assumes nothing.
+-- A line says one thing: what it asks for is settled by the call that is handed on and by what it tells. Assumes nothing.
 use Prim.Native.Nat.{ℕ}
 use mathlib.Core.Path.{_≡_, refl, sym, ap, ap₂, _∙_, subst}
-use mathlib.Core.Bool.{Bool, true, false, cond, _&&_, true≢false}
-use mathlib.Core.List.{List, [], _∷_, _++_, foldl, append-assoc}
-use lib.ListN.{getD, drop}
+use mathlib.Core.List.{List, [], _∷_, _++_, append-assoc, append-nil}
+use lib.ListN.{drop}
 use Rattle.machine.specs.Calls as machine
 use Rattle.machine.specs.Calls.{Pair}
-use Rattle.lines.specs.Text.{text}
-use Rattle.lines.specs.Decimal.{isDigit}
-use Rattle.lines.specs.Forms.{Asked, calls, why, night}
-use Rattle.lines.specs.Grammar.{allDigits, tenfold, Number, pair, Row, one, more, Says}
+use Rattle.machine.specs.Import.{Entry, adds, undoes, neither}
+use Rattle.lines.specs.Forms.{Asked, calls, why, night, imports, Token, letter, number, pairs, digits, entries, Asks, Form, forms}
+use Rattle.lines.specs.Grammar.{pair, flat, worths, Item, plain, inner, close, undo, asItems, itemsOf, items, Fits, fits-end, fits-letter, fits-number, fits-none, fits-pairs, fits-digits, fits-no-entry, fits-entries, Says}
 use Rattle.lines.specs.declared.reading.Call.{Call}
-use Rattle.lines.specs.declared.reading.Call.the-variants.{Append, Rollback, Start, Stop, Connect, Disconnect, Master, Sync, Work, Fold, Why, Night, Unreadable}
-use Rattle.lines.specs.Handed.{callFor, pairsIn, outcomesIn}
+use Rattle.lines.specs.declared.reading.Call.the-variants.{Append, Rollback, Start, Stop, Connect, Disconnect, Master, Sync, Work, Fold, Why, Night, Import, Unreadable}
+use Rattle.lines.specs.Handed.{callFor, SmallEntries}
+use Rattle.lines.proofs.Each.{_&_, Each, each-among}
+use Rattle.lines.proofs.Handing.{entries-small}
 use Rattle.lines.proofs.Readable.{goes-through, hands-once}
-use Rattle.lines.proofs.Telling.{sleeps, says-tell}
-use Rattle.lines.proofs.Paper as paper
-use Rattle.lines.proofs.Paper.{Line, says-line}
 
--- ---- the parts of a list that begins with something
-head-same : {x y : ℕ} {a b : List ℕ} → x ∷ a ≡ y ∷ b → x ≡ y
-head-same e = ap (λ (l : List ℕ). getD l 0 0) e
+-- ---- what was told, put together again
+abbrev worth : Item → ℕ
+worth (plain n) = n
+worth (inner n) = n
+worth close = 0
+worth (undo n) = n
 
-tail-same : {x y : ℕ} {a b : List ℕ} → x ∷ a ≡ y ∷ b → a ≡ b
-tail-same e = ap (λ (l : List ℕ). drop 1 l) e
+unfoldable numbersIn : List Item → List ℕ
+numbersIn [] = []
+numbersIn (i ∷ is) = worth i ∷ numbersIn is
 
-and-first : (a b : Bool) → (a && b) ≡ true → a ≡ true
-and-first true b e = refl
-and-first false b e = e
+unfoldable paired : List ℕ → List Pair
+paired [] = []
+paired (p ∷ []) = []
+paired (p ∷ v ∷ ns) = pair p v ∷ paired ns
 
-and-second : (a b : Bool) → (a && b) ≡ true → b ≡ true
-and-second true b e = e
-and-second false b e = absurd (true≢false (sym e))
+-- the numbers ns of a change came before
+unfoldable entered : List ℕ → List Item → List Entry
+entered ns [] = []
+entered ns (plain n ∷ is) = entered ns is
+entered ns (inner n ∷ is) = entered (ns ++ (n ∷ [])) is
+entered ns (close ∷ is) = adds (paired ns) ∷ entered [] is
+entered ns (undo n ∷ is) = undoes n ∷ entered [] is
 
--- ---- digits end where no digit stands
-no-digits : (b : List ℕ) (c : ℕ) (r : List ℕ) → isDigit c ≡ false → allDigits (b ++ (c ∷ r)) ≡ true → ⊥
-unfolding allDigits
-no-digits [] c r v e = true≢false (sym (and-first (isDigit c) (allDigits r) e) ∙ v)
-no-digits (x ∷ b) c r v e = no-digits b c r v (and-second (isDigit x) (allDigits (b ++ (c ∷ r))) e)
+plain-back : (ns : List ℕ) → numbersIn (asItems plain ns) ≡ ns
+unfolding numbersIn asItems
+plain-back [] = refl
+plain-back (n ∷ ns) = ap (λ (z : List ℕ). n ∷ z) (plain-back ns)
 
-ends-once : (a b : List ℕ) (c d : ℕ) (r s : List ℕ) → allDigits a ≡ true → allDigits b ≡ true → isDigit c ≡ false → isDigit d ≡ false → a ++ (c ∷ r) ≡ b ++ (d ∷ s)
-    → (a ≡ b) × (r ≡ s)
-unfolding allDigits
-ends-once [] [] c d r s p q u v e = (refl, tail-same e)
-ends-once [] (y ∷ b) c d r s p q u v e =
-    absurd (true≢false (sym (and-first (isDigit y) (allDigits b) q) ∙ ap isDigit (sym (head-same e)) ∙ u))
-ends-once (x ∷ a) [] c d r s p q u v e = absurd (true≢false (sym (and-first (isDigit x) (allDigits a) p) ∙ ap isDigit (head-same e) ∙ v))
-ends-once (x ∷ a) (y ∷ b) c d r s p q u v e =
-    let h = ends-once a b c d r s (and-second (isDigit x) (allDigits a) p) (and-second (isDigit y) (allDigits b) q) u v (tail-same e) in
-    (ap₂ (λ (z : ℕ) (l : List ℕ). z ∷ l) (head-same e) (h .0), h .1)
+flat-back : (ps : List Pair) → paired (flat ps) ≡ ps
+unfolding paired flat
+flat-back [] = refl
+flat-back (p ∷ ps) = ap (λ (z : List Pair). p ∷ z) (flat-back ps)
 
--- ---- a number, a row of pairs
-number-once : {a b : List ℕ} {n m : ℕ} → Number a n → Number b m → a ≡ b → n ≡ m
-number-once x y e = sym (x .worth) ∙ ap (foldl tenfold 0) e ∙ y .worth
+inner-back : (ms ns : List ℕ) (is : List Item) → entered ns (asItems inner ms ++ is) ≡ entered (ns ++ ms) is
+unfolding entered asItems
+inner-back [] ns is = ap (λ (z : List ℕ). entered z is) (sym (append-nil ns))
+inner-back (m ∷ ms) ns is = inner-back ms (ns ++ (m ∷ [])) is ∙ ap (λ (z : List ℕ). entered z is) (append-assoc ns (m ∷ []) ms)
 
-pairs-same : {p v q w : ℕ} {ps qs : List Pair} → p ≡ q → v ≡ w → ps ≡ qs → pair p v ∷ ps ≡ pair q w ∷ qs
-pairs-same e f g = rw (e, f, g) refl
+entries-back : (es : List Entry) → SmallEntries es → entered [] (items es) ≡ es
+unfolding entered items
+entries-back [] s = refl
+entries-back (adds ps ∷ es) s =
+    ap (entered []) (append-assoc (asItems inner (flat ps)) (close ∷ []) (items es)) ∙ inner-back (flat ps) [] (close ∷ items es)
+    ∙ ap₂ (λ (qs : List Pair) (z : List Entry). adds qs ∷ z) (flat-back ps) (entries-back es (s .1))
+entries-back (undoes n ∷ es) s = ap (λ (z : List Entry). undoes n ∷ z) (entries-back es (s .1))
+entries-back (neither ∷ es) s = absurd (s .0)
 
--- a row, from its first number on
-colon : (a b : List ℕ) → a ++ text ":" ++ b ≡ a ++ (58 ∷ b)
-colon a b = simp append-assoc
+-- ---- what is asked, by the call and what is told
+abbrev askedOf : Call → List Item → Asked
+askedOf Append is = calls (machine.append (paired (numbersIn is)))
+askedOf (Rollback n) is = calls (machine.rollback n)
+askedOf Start is = calls machine.start
+askedOf Stop is = calls machine.stop
+askedOf (Connect n) is = calls (machine.connect n)
+askedOf (Disconnect n) is = calls (machine.disconnect n)
+askedOf (Master n) is = calls (machine.master n)
+askedOf (Sync n) is = calls (machine.sync n)
+askedOf (Work n j i o c) is = calls (machine.work n j i o c)
+askedOf (Fold n) is = calls (machine.foldTo n)
+askedOf (Why n j i) is = why n j i
+askedOf (Night n b) is = night n b (drop 2 (numbersIn is))
+askedOf Import is = imports (entered [] is)
+askedOf Unreadable is = calls machine.stop
 
-comma : (a b l : List ℕ) → a ++ text ":" ++ b ++ text "," ++ l ≡ a ++ (58 ∷ (b ++ (44 ∷ l)))
-comma a b l = simp append-assoc
+abbrev Tells : Asked → List Item → Type 0
+Tells x is = askedOf (callFor x) is ≡ x
 
-row-once : {l m : List ℕ} {ps qs : List Pair} → Row l ps → Row m qs → l ≡ m → ps ≡ qs
-row-once (one {a = a} {b = b} x y) (one {a = a'} {b = b'} x' y') e =
-    let h = ends-once a a' 58 58 b b' (x .digits) (x' .digits) refl refl (sym (colon a b) ∙ e ∙ colon a' b') in pairs-same (number-once x x' (h .0)) (number-once y y' (h .1)) refl
-row-once (one {a = a} {b = b} x y) (more {a = a'} {b = b'} {l = l'} x' y' r') e =
-    let h = ends-once a a' 58 58 b (b' ++ (44 ∷ l')) (x .digits) (x' .digits) refl refl (sym (colon a b) ∙ e ∙ comma a' b' l') in
-    absurd (no-digits b' 44 l' refl (subst (λ (z : List ℕ). allDigits z ≡ true) (h .1) (y .digits)))
-row-once (more {a = a} {b = b} {l = l} x y r) (one {a = a'} {b = b'} x' y') e =
-    let h = ends-once a a' 58 58 (b ++ (44 ∷ l)) b' (x .digits) (x' .digits) refl refl (sym (comma a b l) ∙ e ∙ colon a' b') in
-    absurd (no-digits b 44 l refl (subst (λ (z : List ℕ). allDigits z ≡ true) (sym (h .1)) (y' .digits)))
-row-once (more {a = a} {b = b} {l = l} x y r) (more {a = a'} {b = b'} {l = l'} x' y' r') e =
-    let h = ends-once a a' 58 58 (b ++ (44 ∷ l)) (b' ++ (44 ∷ l')) (x .digits) (x' .digits) refl refl (sym (comma a b l) ∙ e ∙ comma a' b' l') in
-    let g = ends-once b b' 44 44 l l' (y .digits) (y' .digits) refl refl (h .1) in
-    pairs-same (number-once x x' (h .0)) (number-once y y' (g .0)) (row-once r r' (g .1))
+-- whatever stands at the marks of f, behind what was told
+abbrev TellsRow : (f : List Token) → Asks f → List Item → Type 0
+TellsRow [] x is = Tells x is
+TellsRow (letter c ∷ f) a is = TellsRow f a is
+TellsRow (number ∷ f) a is = (n : ℕ) → TellsRow f (a n) (is ++ (plain n ∷ []))
+TellsRow (pairs ∷ f) a is = (ps : List Pair) → TellsRow f (a ps) (is ++ asItems plain (flat ps))
+TellsRow (digits ∷ f) a is = (os : List ℕ) → TellsRow f (a os) (is ++ asItems plain os)
+TellsRow (entries ∷ f) a is = (es : List Entry) → SmallEntries es → TellsRow f (a es) (is ++ items es)
 
--- a row is not empty
-row-some : {l : List ℕ} {ps : List Pair} → Row l ps → l ≡ [] → ⊥
-unfolding allDigits
-row-some (one {a = a} {b = b} x y) e = no-digits a 58 b refl (ap allDigits (sym (colon a b) ∙ e))
-row-some (more {a = a} {b = b} {l = l} x y r) e = no-digits a 58 (b ++ (44 ∷ l)) refl (ap allDigits (sym (comma a b l) ∙ e))
+abbrev Row : Form → Type 0
+Row f = TellsRow (f .form) (f .asks) []
 
--- ---- an append's line
-abbrev appends : Call → Bool
-appends Append = true
-appends (Rollback n) = false
-appends Start = false
-appends Stop = false
-appends (Connect n) = false
-appends (Disconnect n) = false
-appends (Master n) = false
-appends (Sync n) = false
-appends (Work n j i o c) = false
-appends (Fold n) = false
-appends (Why n j i) = false
-appends (Night n b) = false
-appends Unreadable = false
+each : Each Row forms
+unfolding numbersIn
+each =
+    refl & refl & (λ n. refl) & (λ ps. ap (λ (z : List Pair). calls (machine.append z)) (ap paired (plain-back (flat ps)) ∙ flat-back ps)) & (λ n. refl) & (λ n. refl)
+    & (λ n. refl) & (λ n. refl) & (λ n j i o c. refl) & (λ n. refl) & (λ n j i. refl) & (λ n b os. ap (night n b) (plain-back os))
+    & (λ es s. ap imports (entries-back es s)) & tt
 
-abbrev key : List ℕ
-key = text "call=append pairs="
+fits-tell : {f : List Token} {a : Asks f} {l : List ℕ} {ns : List Item} {x : Asked} → Fits f a l ns x → (m : List Item) → TellsRow f a m → Tells x (m ++ ns)
+unfolding flat asItems items
+fits-tell {x = x} fits-end m h = subst (λ (z : List Item). Tells x z) (sym (append-nil m)) h
+fits-tell (fits-letter w y) m h = fits-tell y m h
+fits-tell {x = x} (fits-number {n = n} {ns = ns} k y) m h = subst (λ (z : List Item). Tells x z) (append-assoc m (plain n ∷ []) ns) (fits-tell y (m ++ (plain n ∷ [])) (h n))
+fits-tell {x = x} (fits-none {ns = ns} y) m h = subst (λ (z : List Item). Tells x (z ++ ns)) (append-nil m) (fits-tell y (m ++ []) (h []))
+fits-tell {x = x} (fits-pairs {ps = ps} {ns = ns} r y) m h =
+    subst (λ (z : List Item). Tells x z) (append-assoc m (asItems plain (flat ps)) ns) (fits-tell y (m ++ asItems plain (flat ps)) (h ps))
+fits-tell {x = x} (fits-digits d {ns = ns} a y) m h =
+    subst (λ (z : List Item). Tells x z) (append-assoc m (asItems plain (worths d)) ns) (fits-tell y (m ++ asItems plain (worths d)) (h (worths d)))
+fits-tell {x = x} (fits-no-entry {ns = ns} y) m h = subst (λ (z : List Item). Tells x (z ++ ns)) (append-nil m) (fits-tell y (m ++ []) (h [] tt))
+fits-tell {x = x} (fits-entries {es = es} {ns = ns} o r y) m h =
+    subst (λ (z : List Item). Tells x z) (append-assoc m (items es) ns) (fits-tell y (m ++ items es) (h es (entries-small r)))
 
--- behind the key nothing, or a row of the pairs
-data Held (l : List ℕ) (ps : List Pair) : Type 0 where
-  empty : l ≡ key → ps ≡ [] → Held l ps
-  row : (r : List ℕ) → l ≡ key ++ r → Row r ps → Held l ps
-
-held : {l : List ℕ} {x : Asked} → Line l x → appends (callFor x) ≡ true → Held l (pairsIn x)
-held paper.line-no-pairs e = empty refl refl
-held (paper.line-append {l = l} r) e = row l refl r
-held (paper.line-rollback x) e = absurd (true≢false (sym e))
-held paper.line-start e = absurd (true≢false (sym e))
-held paper.line-stop e = absurd (true≢false (sym e))
-held (paper.line-connect x) e = absurd (true≢false (sym e))
-held (paper.line-disconnect x) e = absurd (true≢false (sym e))
-held (paper.line-master x) e = absurd (true≢false (sym e))
-held (paper.line-sync x) e = absurd (true≢false (sym e))
-held (paper.line-work x y z u w) e = absurd (true≢false (sym e))
-held (paper.line-fold x) e = absurd (true≢false (sym e))
-held (paper.line-why x y z) e = absurd (true≢false (sym e))
-held (paper.line-night x y d h) e = absurd (true≢false (sym e))
-
-held-once : {l : List ℕ} {ps qs : List Pair} → Held l ps → Held l qs → ps ≡ qs
-held-once (empty e f) (empty g h) = f ∙ sym h
-held-once (empty e f) (row r g w) = absurd (row-some w (sym (ap (λ (l : List ℕ). drop 18 l) (sym e ∙ g))))
-held-once (row r e w) (empty g h) = absurd (row-some w (ap (λ (l : List ℕ). drop 18 l) (sym e ∙ g)))
-held-once (row r e w) (row s g v) = row-once w v (ap (λ (l : List ℕ). drop 18 l) (sym e ∙ g))
-
-no-pairs : (x : Asked) → appends (callFor x) ≡ false → pairsIn x ≡ []
-no-pairs (calls (machine.append ps)) e = absurd (true≢false e)
-no-pairs (calls (machine.rollback n)) e = refl
-no-pairs (calls machine.start) e = refl
-no-pairs (calls machine.stop) e = refl
-no-pairs (calls (machine.connect n)) e = refl
-no-pairs (calls (machine.disconnect n)) e = refl
-no-pairs (calls (machine.master n)) e = refl
-no-pairs (calls (machine.sync n)) e = refl
-no-pairs (calls (machine.work n j i o c)) e = refl
-no-pairs (calls (machine.foldTo n)) e = refl
-no-pairs (why n j i) e = refl
-no-pairs (night n b os) e = refl
-
-pairs-once : {l : List ℕ} {x y : Asked} → Says l x → Says l y → pairsIn x ≡ pairsIn y
-pairs-once {l} {x} {y} s t = go (appends (callFor x)) refl
-  where
-    as-held : {z : Asked} → Says l z → appends (callFor z) ≡ true → Held l (pairsIn z)
-    as-held {z} u e =
-        let a = says-line u in
-        subst (λ (w : Asked). Held l (pairsIn w)) (sym (a .is)) (held (a .line) (ap (λ (w : Asked). appends (callFor w)) (sym (a .is)) ∙ e))
-
-    same : appends (callFor y) ≡ appends (callFor x)
-    same = ap appends (sym (hands-once s t))
-
-    go : (b : Bool) → appends (callFor x) ≡ b → pairsIn x ≡ pairsIn y
-    go true e = held-once (as-held s e) (as-held t (same ∙ e))
-    go false e = no-pairs x e ∙ sym (no-pairs y (same ∙ e))
-
--- ---- a night's line
-outcomes-once : {l : List ℕ} {x y : Asked} → Says l x → Says l y → outcomesIn x ≡ outcomesIn y
-outcomes-once s t =
-    says-tell s ∙ ap₂ (λ (c : Call) (ns : List ℕ). cond (sleeps c) (drop 2 ns) []) (hands-once s t) (goes-through s .is ∙ sym (goes-through t .is)) ∙ sym (says-tell t)
-
--- ---- what is asked, by the call, the pairs and the outcomes that are handed on
-abbrev askedOf : Call → List Pair → List ℕ → Asked
-askedOf Append ps os = calls (machine.append ps)
-askedOf (Rollback n) ps os = calls (machine.rollback n)
-askedOf Start ps os = calls machine.start
-askedOf Stop ps os = calls machine.stop
-askedOf (Connect n) ps os = calls (machine.connect n)
-askedOf (Disconnect n) ps os = calls (machine.disconnect n)
-askedOf (Master n) ps os = calls (machine.master n)
-askedOf (Sync n) ps os = calls (machine.sync n)
-askedOf (Work n j i o c) ps os = calls (machine.work n j i o c)
-askedOf (Fold n) ps os = calls (machine.foldTo n)
-askedOf (Why n j i) ps os = why n j i
-askedOf (Night n b) ps os = night n b os
-askedOf Unreadable ps os = calls machine.stop
-
-asked-back : (x : Asked) → askedOf (callFor x) (pairsIn x) (outcomesIn x) ≡ x
-asked-back (calls (machine.append ps)) = refl
-asked-back (calls (machine.rollback n)) = refl
-asked-back (calls machine.start) = refl
-asked-back (calls machine.stop) = refl
-asked-back (calls (machine.connect n)) = refl
-asked-back (calls (machine.disconnect n)) = refl
-asked-back (calls (machine.master n)) = refl
-asked-back (calls (machine.sync n)) = refl
-asked-back (calls (machine.work n j i o c)) = refl
-asked-back (calls (machine.foldTo n)) = refl
-asked-back (why n j i) = refl
-asked-back (night n b os) = refl
+says-tell : {l : List ℕ} {x : Asked} (s : Says l x) → Tells x (s .tells)
+says-tell s = fits-tell (s .fits) [] (each-among Row (s .of) forms each (s .among))
 
 pub says-once : {l : List ℕ} {x y : Asked} → Says l x → Says l y → x ≡ y
-says-once {x = x} {y = y} s t =
-    sym (asked-back x) ∙ ap₂ (λ (c : Call) (ps : List Pair). askedOf c ps (outcomesIn x)) (hands-once s t) (pairs-once s t)
-    ∙ ap (λ (os : List ℕ). askedOf (callFor y) (pairsIn y) os) (outcomes-once s t) ∙ asked-back y
+says-once s t =
+    sym (says-tell s) ∙ ap₂ (λ (c : Call) (is : List Item). askedOf c is) (hands-once s t) (goes-through s .is ∙ sym (goes-through t .is)) ∙ says-tell t

@@ -1,13 +1,16 @@
--- The paper's nine lines, the fold's, why's and the night's, each written out, are what the table says, and nothing else is. Assumes nothing.
-use Prim.Native.Nat.{ℕ}
+-- The paper's nine lines, the fold's, why's, the night's and the import's, each written out, are what the table says, and nothing
+-- else is. Assumes nothing.
+use Prim.Native.Nat.{ℕ, _≤_}
 use mathlib.Core.Path.{_≡_, refl, ap, sym, subst, _∙_}
 use mathlib.Core.List.{List, [], _∷_, _++_, append-assoc, append-nil}
 use mathlib.Core.Bool.{Bool, true, _&&_}
+use lib.ListN.{length}
 use Rattle.machine.specs.Calls as machine
 use Rattle.machine.specs.Calls.{Pair}
+use Rattle.machine.specs.Import.{Entry}
 use Rattle.lines.specs.Text.{text}
-use Rattle.lines.specs.Forms.{Asked, calls, why, night, Token, letter, number, pairs, digits, Asks, Form, forms}
-use Rattle.lines.specs.Grammar.{allDigits, flat, worths, isWord, Number, Row, Fits, fits-end, fits-letter, fits-number, fits-none, fits-pairs, fits-digits, Among, here, there, Says}
+use Rattle.lines.specs.Forms.{Asked, calls, why, night, imports, Token, letter, number, pairs, digits, entries, Asks, Form, forms}
+use Rattle.lines.specs.Grammar.{allDigits, flat, worths, isWord, Number, Row, Entries, Item, plain, asItems, items, Fits, fits-end, fits-letter, fits-number, fits-none, fits-pairs, fits-digits, fits-no-entry, fits-entries, Among, here, there, Says}
 use Rattle.lines.proofs.Classes.{and-left, and-right}
 use Rattle.lines.proofs.Each.{_&_, Each, each-among}
 
@@ -31,6 +34,8 @@ pub data Line : List ℕ → Asked → Type 0 where
   line-night :
       {a b : List ℕ} {n k : ℕ} → Number a n → Number b k → (d : List ℕ) → allDigits d ≡ true →
       Line (text "call=night node=" ++ a ++ text " budget=" ++ b ++ text " outcomes=" ++ d) (night n k (worths d))
+  line-no-entries : Line (text "call=import entries=") (imports [])
+  line-import : {d : List ℕ} {es : List Entry} → 1 ≤ length d → Entries d es → Line (text "call=import entries=" ++ d) (imports es)
 
 -- ---- a text of letters at the front of a form
 abbrev letters : List ℕ → List Token → List Token
@@ -46,36 +51,36 @@ words [] = true
 words (c ∷ t) = isWord c && words t
 
 fits-text :
-    (t : List ℕ) {f : List Token} {a : Asks f} {l ns : List ℕ} {x : Asked} → words t ≡ true → Fits f a l ns x → Fits (letters t f) (within t f a)
+    (t : List ℕ) {f : List Token} {a : Asks f} {l : List ℕ} {ns : List Item} {x : Asked} → words t ≡ true → Fits f a l ns x → Fits (letters t f) (within t f a)
     (t ++ l) ns x
 fits-text [] h y = y
 fits-text (c ∷ t) h y = fits-letter (and-left (isWord c) (words t) h) (fits-text t (and-right (isWord c) (words t) h) y)
 
-record Rest (t : List ℕ) (f : List Token) (a : Asks f) (l ns : List ℕ) (x : Asked) : Type 0 where
+record Rest (t : List ℕ) (f : List Token) (a : Asks f) (l : List ℕ) (ns : List Item) (x : Asked) : Type 0 where
   rest : List ℕ
   is : l ≡ t ++ rest
   fits : Fits f a rest ns x
 
-text-rest : (t : List ℕ) (f : List Token) (a : Asks f) {l ns : List ℕ} {x : Asked} → Fits (letters t f) (within t f a) l ns x → Rest t f a l ns x
+text-rest : (t : List ℕ) (f : List Token) (a : Asks f) {l : List ℕ} {ns : List Item} {x : Asked} → Fits (letters t f) (within t f a) l ns x → Rest t f a l ns x
 text-rest [] f a {l} y = record { rest = l; is = refl; fits = y }
 text-rest (c ∷ t) f a (fits-letter w y) =
     let z = text-rest t f a y in
     record { rest = z .rest; is = ap (λ (k : List ℕ). c ∷ k) (z .is); fits = z .fits }
 
 -- ---- a number at the end
-record Last (a : ℕ → Asked) (l ns : List ℕ) (x : Asked) : Type 0 where
+record Last (a : ℕ → Asked) (l : List ℕ) (ns : List Item) (x : Asked) : Type 0 where
   n : ℕ
   number : Number l n
   is : x ≡ a n
 
-last : (a : ℕ → Asked) {l ns : List ℕ} {x : Asked} → Fits (number ∷ []) a l ns x → Last a l ns x
+last : (a : ℕ → Asked) {l : List ℕ} {ns : List Item} {x : Asked} → Fits (number ∷ []) a l ns x → Last a l ns x
 last a (fits-number {d} {n} k fits-end) = record { n = n; number = subst (λ (z : List ℕ). Number z n) (sym (append-nil d)) k; is = refl }
 
-at-end : {d : List ℕ} {n : ℕ} {a : ℕ → Asked} → Number d n → Fits (number ∷ []) a d (n ∷ []) (a n)
-at-end {d} {n} {a} k = subst (λ (z : List ℕ). Fits (number ∷ []) a z (n ∷ []) (a n)) (append-nil d) (fits-number k fits-end)
+at-end : {d : List ℕ} {n : ℕ} {a : ℕ → Asked} → Number d n → Fits (number ∷ []) a d (plain n ∷ []) (a n)
+at-end {d} {n} {a} k = subst (λ (z : List ℕ). Fits (number ∷ []) a z (plain n ∷ []) (a n)) (append-nil d) (fits-number k fits-end)
 
-says-by : {l ns : List ℕ} {x : Asked} {f : Form} → Among f forms → Fits (f .form) (f .asks) l ns x → Says l x
-says-by {ns = ns} {f = f} a y = record { of = f; among = a; numbers = ns; fits = y }
+says-by : {l : List ℕ} {ns : List Item} {x : Asked} {f : Form} → Among f forms → Fits (f .form) (f .asks) l ns x → Says l x
+says-by {ns = ns} {f = f} a y = record { of = f; among = a; tells = ns; fits = y }
 
 work-fits :
     {a b d e f : List ℕ} {n j i o c : ℕ} → Number a n → Number b j → Number d i → Number e o → Number f c →
@@ -83,7 +88,7 @@ work-fits :
     (number ∷ letters (text " number=") (number ∷ letters (text " outcome=") (number ∷ letters (text " cut=") (number ∷ []))))))
     (λ n j i o c. calls (machine.work n j i o c))
     (text "call=work node=" ++ (a ++ (text " job=" ++ (b ++ (text " number=" ++ (d ++ (text " outcome=" ++ (e ++ (text " cut=" ++ f)))))))))
-    (n ∷ j ∷ i ∷ o ∷ c ∷ []) (calls (machine.work n j i o c))
+    (plain n ∷ plain j ∷ plain i ∷ plain o ∷ plain c ∷ []) (calls (machine.work n j i o c))
 work-fits x y z u w =
     fits-text (text "call=work node=") refl
     (fits-number x (fits-text (text " job=") refl
@@ -94,21 +99,21 @@ work-fits x y z u w =
 why-fits :
     {a b d : List ℕ} {n j i : ℕ} → Number a n → Number b j → Number d i →
     Fits (letters (text "call=why node=") (number ∷ letters (text " job=") (number ∷ letters (text " number=") (number ∷ [])))) (λ n j i. why n j i)
-    (text "call=why node=" ++ (a ++ (text " job=" ++ (b ++ (text " number=" ++ d))))) (n ∷ j ∷ i ∷ []) (why n j i)
+    (text "call=why node=" ++ (a ++ (text " job=" ++ (b ++ (text " number=" ++ d))))) (plain n ∷ plain j ∷ plain i ∷ []) (why n j i)
 why-fits x y z =
     fits-text (text "call=why node=") refl
     (fits-number x (fits-text (text " job=") refl (fits-number y (fits-text (text " number=") refl (at-end z)))))
 
 -- digits at the end
-all-end : {d : List ℕ} {a : List ℕ → Asked} → allDigits d ≡ true → Fits (digits ∷ []) a d (worths d) (a (worths d))
+all-end : {d : List ℕ} {a : List ℕ → Asked} → allDigits d ≡ true → Fits (digits ∷ []) a d (asItems plain (worths d)) (a (worths d))
 all-end {d} {a} h =
-    subst (λ (z : List ℕ). Fits (digits ∷ []) a z (worths d) (a (worths d))) (append-nil d)
-    (subst (λ (z : List ℕ). Fits (digits ∷ []) a (d ++ []) z (a (worths d))) (append-nil (worths d)) (fits-digits d h fits-end))
+    subst (λ (z : List ℕ). Fits (digits ∷ []) a z (asItems plain (worths d)) (a (worths d))) (append-nil d)
+    (subst (λ (z : List Item). Fits (digits ∷ []) a (d ++ []) z (a (worths d))) (append-nil (asItems plain (worths d))) (fits-digits d h fits-end))
 
 night-fits :
     {a b : List ℕ} {n k : ℕ} → Number a n → Number b k → (d : List ℕ) → allDigits d ≡ true →
     Fits (letters (text "call=night node=") (number ∷ letters (text " budget=") (number ∷ letters (text " outcomes=") (digits ∷ [])))) (λ n k os. night n k os)
-    (text "call=night node=" ++ (a ++ (text " budget=" ++ (b ++ (text " outcomes=" ++ d))))) (n ∷ k ∷ worths d) (night n k (worths d))
+    (text "call=night node=" ++ (a ++ (text " budget=" ++ (b ++ (text " outcomes=" ++ d))))) (plain n ∷ plain k ∷ asItems plain (worths d)) (night n k (worths d))
 night-fits x y d h =
     fits-text (text "call=night node=") refl
     (fits-number x (fits-text (text " budget=") refl (fits-number y (fits-text (text " outcomes=") refl (all-end h)))))
@@ -119,7 +124,7 @@ unfolding flat
 line-says line-no-pairs = says-by (there (there (there here))) (fits-text (text "call=append pairs=") refl (fits-none fits-end))
 line-says (line-append {l} {ps} r) =
     says-by (there (there (there here))) (fits-text (text "call=append pairs=") refl
-    (subst (λ (z : List ℕ). Fits (pairs ∷ []) (λ qs. calls (machine.append qs)) z (flat ps ++ []) (calls (machine.append ps))) (append-nil l)
+    (subst (λ (z : List ℕ). Fits (pairs ∷ []) (λ qs. calls (machine.append qs)) z (asItems plain (flat ps) ++ []) (calls (machine.append ps))) (append-nil l)
     (fits-pairs r fits-end)))
 line-says (line-connect x) = says-by (there (there (there (there here)))) (fits-text (text "call=connect node=") refl (at-end x))
 line-says (line-disconnect x) = says-by (there (there (there (there (there here))))) (fits-text (text "call=disconnect node=") refl (at-end x))
@@ -157,6 +162,13 @@ line-says (line-night {a} {b} {n} {k} x y d h) =
         text "call=night node=" ++ (a ++ (text " budget=" ++ (b ++ (text " outcomes=" ++ d))))
         ≡ text "call=night node=" ++ a ++ text " budget=" ++ b ++ text " outcomes=" ++ d
     regroup a b d = simp append-assoc
+line-says line-no-entries =
+    says-by (there (there (there (there (there (there (there (there (there (there (there (there here))))))))))))
+    (fits-text (text "call=import entries=") refl (fits-no-entry fits-end))
+line-says (line-import {d} {es} o r) =
+    says-by (there (there (there (there (there (there (there (there (there (there (there (there here))))))))))))
+    (fits-text (text "call=import entries=") refl
+    (subst (λ (z : List ℕ). Fits (entries ∷ []) imports z (items es ++ []) (imports es)) (append-nil d) (fits-entries o r fits-end)))
 
 -- ---- and what a row says is one of those lines
 pub record Lined (l : List ℕ) (x : Asked) : Type 0 where
@@ -168,38 +180,50 @@ moved : {l l′ : List ℕ} {x : Asked} → l ≡ l′ → Lined l′ x → Line
 moved {x = x} e y = subst (λ (k : List ℕ). Lined k x) (sym e) y
 
 single :
-    (t : List ℕ) (a : ℕ → Asked) {l ns : List ℕ} {x : Asked} → ((d : List ℕ) (n : ℕ) → Number d n → Line (t ++ d) (a n)) →
+    (t : List ℕ) (a : ℕ → Asked) {l : List ℕ} {ns : List Item} {x : Asked} → ((d : List ℕ) (n : ℕ) → Number d n → Line (t ++ d) (a n)) →
     Fits (letters t (number ∷ [])) (within t (number ∷ []) a) l ns x → Lined l x
 single t a f y =
     let z = text-rest t (number ∷ []) a y in
     let w = last a (z .fits) in
     moved (z .is) (record { asked = a (w .n); is = w .is; line = f (z .rest) (w .n) (w .number) })
 
-ended : (t : List ℕ) (c : Asked) {l ns : List ℕ} {x : Asked} → Line t c → Fits [] c l ns x → Lined (t ++ l) x
+ended : (t : List ℕ) (c : Asked) {l : List ℕ} {ns : List Item} {x : Asked} → Line t c → Fits [] c l ns x → Lined (t ++ l) x
 ended t c k fits-end = record { asked = c; is = refl; line = subst (λ (l : List ℕ). Line l c) (sym (append-nil t)) k }
 
-bare : (t : List ℕ) (c : Asked) {l ns : List ℕ} {x : Asked} → Line t c → Fits (letters t []) (within t [] c) l ns x → Lined l x
+bare : (t : List ℕ) (c : Asked) {l : List ℕ} {ns : List Item} {x : Asked} → Line t c → Fits (letters t []) (within t [] c) l ns x → Lined l x
 bare t c k y = let z = text-rest t [] c y in moved (z .is) (ended t c k (z .fits))
 
-with-pairs : {l ns : List ℕ} {x : Asked} → Fits (pairs ∷ []) (λ ps. calls (machine.append ps)) l ns x → Lined (text "call=append pairs=" ++ l) x
+with-pairs : {l : List ℕ} {ns : List Item} {x : Asked} → Fits (pairs ∷ []) (λ ps. calls (machine.append ps)) l ns x → Lined (text "call=append pairs=" ++ l) x
 with-pairs (fits-none fits-end) = record { asked = calls (machine.append []); is = refl; line = line-no-pairs }
 with-pairs (fits-pairs {d} {ps} r fits-end) =
     record { asked = calls (machine.append ps); is = refl; line = line-append (subst (λ (z : List ℕ). Row z ps) (sym (append-nil d)) r) }
 
-appended : {l ns : List ℕ} {x : Asked} → Fits (letters (text "call=append pairs=") (pairs ∷ [])) (λ ps. calls (machine.append ps)) l ns x → Lined l x
+appended : {l : List ℕ} {ns : List Item} {x : Asked} → Fits (letters (text "call=append pairs=") (pairs ∷ [])) (λ ps. calls (machine.append ps)) l ns x → Lined l x
 appended y = let z = text-rest (text "call=append pairs=") (pairs ∷ []) (λ ps. calls (machine.append ps)) y in moved (z .is) (with-pairs (z .fits))
 
+with-entries : {l : List ℕ} {ns : List Item} {x : Asked} → Fits (entries ∷ []) imports l ns x → Lined (text "call=import entries=" ++ l) x
+with-entries (fits-no-entry fits-end) = record { asked = imports []; is = refl; line = line-no-entries }
+with-entries (fits-entries {d} {es} o r fits-end) =
+    record {
+      asked = imports es;
+      is = refl;
+      line = subst (λ (z : List ℕ). Line (text "call=import entries=" ++ z) (imports es)) (sym (append-nil d)) (line-import o r);
+    }
+
+imported : {l : List ℕ} {ns : List Item} {x : Asked} → Fits (letters (text "call=import entries=") (entries ∷ [])) imports l ns x → Lined l x
+imported y = let z = text-rest (text "call=import entries=") (entries ∷ []) imports y in moved (z .is) (with-entries (z .fits))
+
 -- ---- work: five numbers, each behind its key
-record Key (f : List Token) (a : ℕ → Asks f) (l ns : List ℕ) (x : Asked) : Type 0 where
+record Key (f : List Token) (a : ℕ → Asks f) (l : List ℕ) (ns : List Item) (x : Asked) : Type 0 where
   d : List ℕ
   n : ℕ
   rest : List ℕ
-  left : List ℕ
+  left : List Item
   is : l ≡ d ++ rest
   number : Number d n
   fits : Fits f (a n) rest left x
 
-key : (f : List Token) (a : ℕ → Asks f) {l ns : List ℕ} {x : Asked} → Fits (number ∷ f) a l ns x → Key f a l ns x
+key : (f : List Token) (a : ℕ → Asks f) {l : List ℕ} {ns : List Item} {x : Asked} → Fits (number ∷ f) a l ns x → Key f a l ns x
 key f a (fits-number {d} {n} {l = l} {ns = ns} k y) = record { d = d; n = n; rest = l; left = ns; is = refl; number = k; fits = y }
 
 abbrev W5 : List Token
@@ -222,9 +246,9 @@ asks-work n j i o c = calls (machine.work n j i o c)
 
 -- a key, its number, and what holds of the rest
 behind-key :
-    (t : List ℕ) (f : List Token) (a : ℕ → Asks f) {l ns : List ℕ} {x : Asked} (P : List ℕ → Type 0) →
+    (t : List ℕ) (f : List Token) (a : ℕ → Asks f) {l : List ℕ} {ns : List Item} {x : Asked} (P : List ℕ → Type 0) →
     Fits (letters t (number ∷ f)) (within t (number ∷ f) a) l ns x →
-    ((d : List ℕ) (n : ℕ) (r ms : List ℕ) → Number d n → Fits f (a n) r ms x → P (t ++ (d ++ r))) → P l
+    ((d : List ℕ) (n : ℕ) (r : List ℕ) (ms : List Item) → Number d n → Fits f (a n) r ms x → P (t ++ (d ++ r))) → P l
 behind-key t f a P y go =
     let z = text-rest t (number ∷ f) a y in
     let k = key f a (z .fits) in
@@ -235,7 +259,7 @@ abbrev Behind : (a b d e l : List ℕ) → List ℕ
 Behind a b d e l = text "call=work node=" ++ (a ++ (text " job=" ++ (b ++ (text " number=" ++ (d ++ (text " outcome=" ++ (e ++ l)))))))
 
 last-key :
-    (a b d e : List ℕ) (n j i o : ℕ) {l ns : List ℕ} {x : Asked} → Number a n → Number b j → Number d i → Number e o → Fits W4 (asks-work n j i o) l ns x →
+    (a b d e : List ℕ) (n j i o : ℕ) {l : List ℕ} {ns : List Item} {x : Asked} → Number a n → Number b j → Number d i → Number e o → Fits W4 (asks-work n j i o) l ns x →
     Lined (Behind a b d e l) x
 last-key a b d e n j i o u v w s y =
     let z = text-rest (text " cut=") W5 (asks-work n j i o) y in
@@ -248,7 +272,7 @@ last-key a b d e n j i o u v w s y =
         text "call=work node=" ++ a ++ text " job=" ++ b ++ text " number=" ++ d ++ text " outcome=" ++ e ++ text " cut=" ++ f
     regroup f = simp append-assoc
 
-worked : {l ns : List ℕ} {x : Asked} → Fits (letters (text "call=work node=") (number ∷ W1)) asks-work l ns x → Lined l x
+worked : {l : List ℕ} {ns : List Item} {x : Asked} → Fits (letters (text "call=work node=") (number ∷ W1)) asks-work l ns x → Lined l x
 worked {x = x} y =
     behind-key (text "call=work node=") W1 asks-work (λ r. Lined r x) y
     (λ a n r1 ns1 u y1. behind-key (text " job=") W2 (asks-work n) (λ r. Lined (text "call=work node=" ++ (a ++ r)) x) y1
@@ -267,7 +291,7 @@ abbrev Y2 : List Token
 Y2 = letters (text " job=") (number ∷ Y3)
 
 third-key :
-    (a b : List ℕ) (n j : ℕ) {l ns : List ℕ} {x : Asked} → Number a n → Number b j → Fits Y3 (why n j) l ns x →
+    (a b : List ℕ) (n j : ℕ) {l : List ℕ} {ns : List Item} {x : Asked} → Number a n → Number b j → Fits Y3 (why n j) l ns x →
     Lined (text "call=why node=" ++ (a ++ (text " job=" ++ (b ++ l)))) x
 third-key a b n j u v y =
     let z = text-rest (text " number=") (number ∷ []) (why n j) y in
@@ -280,7 +304,7 @@ third-key a b n j u v y =
         text "call=why node=" ++ a ++ text " job=" ++ b ++ text " number=" ++ d
     regroup d = simp append-assoc
 
-asked-why : {l ns : List ℕ} {x : Asked} → Fits (letters (text "call=why node=") (number ∷ Y2)) why l ns x → Lined l x
+asked-why : {l : List ℕ} {ns : List Item} {x : Asked} → Fits (letters (text "call=why node=") (number ∷ Y2)) why l ns x → Lined l x
 asked-why {x = x} y =
     behind-key (text "call=why node=") Y2 why (λ r. Lined r x) y
     (λ a n r1 ns1 u y1. behind-key (text " job=") Y3 (why n) (λ r. Lined (text "call=why node=" ++ (a ++ r)) x) y1
@@ -294,7 +318,7 @@ abbrev N2 : List Token
 N2 = letters (text " budget=") (number ∷ N3)
 
 ended-night :
-    (a b : List ℕ) (n k : ℕ) {l ns : List ℕ} {x : Asked} → Number a n → Number b k → Fits (digits ∷ []) (night n k) l ns x →
+    (a b : List ℕ) (n k : ℕ) {l : List ℕ} {ns : List Item} {x : Asked} → Number a n → Number b k → Fits (digits ∷ []) (night n k) l ns x →
     Lined (text "call=night node=" ++ a ++ text " budget=" ++ b ++ text " outcomes=" ++ l) x
 ended-night a b n k u v (fits-digits d h fits-end) =
     record {
@@ -305,7 +329,7 @@ ended-night a b n k u v (fits-digits d h fits-end) =
     }
 
 outcomes-key :
-    (a b : List ℕ) (n k : ℕ) {l ns : List ℕ} {x : Asked} → Number a n → Number b k → Fits N3 (night n k) l ns x →
+    (a b : List ℕ) (n k : ℕ) {l : List ℕ} {ns : List Item} {x : Asked} → Number a n → Number b k → Fits N3 (night n k) l ns x →
     Lined (text "call=night node=" ++ (a ++ (text " budget=" ++ (b ++ l)))) x
 outcomes-key a b n k u v y =
     let z = text-rest (text " outcomes=") (digits ∷ []) (night n k) y in
@@ -316,7 +340,7 @@ outcomes-key a b n k u v y =
         text "call=night node=" ++ a ++ text " budget=" ++ b ++ text " outcomes=" ++ d
     regroup d = simp append-assoc
 
-asked-night : {l ns : List ℕ} {x : Asked} → Fits (letters (text "call=night node=") (number ∷ N2)) night l ns x → Lined l x
+asked-night : {l : List ℕ} {ns : List Item} {x : Asked} → Fits (letters (text "call=night node=") (number ∷ N2)) night l ns x → Lined l x
 asked-night {x = x} y =
     behind-key (text "call=night node=") N2 night (λ r. Lined r x) y
     (λ a n r1 ns1 u y1. behind-key (text " budget=") N3 (night n) (λ r. Lined (text "call=night node=" ++ (a ++ r)) x) y1
@@ -324,7 +348,7 @@ asked-night {x = x} y =
 
 -- ---- each row
 LinesOf : Form → Type 0
-LinesOf f = (l ns : List ℕ) (x : Asked) → Fits (f .form) (f .asks) l ns x → Lined l x
+LinesOf f = (l : List ℕ) (ns : List Item) (x : Asked) → Fits (f .form) (f .asks) l ns x → Lined l x
 
 each : Each LinesOf forms
 unfolding LinesOf
@@ -341,8 +365,9 @@ each =
     & (λ l ns x y. single (text "call=fold number=") (λ n. calls (machine.foldTo n)) (λ d n k. line-fold k) y)
     & (λ l ns x y. asked-why y)
     & (λ l ns x y. asked-night y)
+    & (λ l ns x y. imported y)
     & tt
 
 pub says-line : {l : List ℕ} {x : Asked} → Says l x → Lined l x
 unfolding LinesOf
-says-line {l} {x} s = each-among LinesOf (s .of) forms each (s .among) l (s .numbers) x (s .fits)
+says-line {l} {x} s = each-among LinesOf (s .of) forms each (s .among) l (s .tells) x (s .fits)

@@ -1,23 +1,23 @@
 -- Texts put one after another, and the digits of a number. Assumes nothing.
 use Prim.Native.Nat.{ℕ, zero, suc, _+_, _/_, _%_, _^_, _≤_, _<_}
 use mathlib.Core.Path.{_≡_, refl, ap, ap₂, sym, subst, _∙_}
-use mathlib.Core.List.{List, [], _∷_, _++_, append-assoc}
+use mathlib.Core.List.{List, [], _∷_, _++_, append-assoc, append-nil}
 use mathlib.Core.Bool.{Bool, true, false, cond}
 use native.Mathlib.Omega.{arith}
 use native.Mathlib.Nat.{add-zero, zero-add, pow-suc}
-use borrow.Author.Tests.{lt-ltb, le-ltb, le-leb, lt-leb}
-use lib.Dec.{ltb}
-use lib.ListN.{length, getD, take, set, drop, length-append, length-take}
-use lib.Seq.{sets, sets-eq, length-sets, take-suc, take-all}
+use borrow.Author.Tests.{eq-eqb, ne-eqb, lt-ltb, le-ltb, le-leb, lt-leb}
+use lib.Dec.{eqb, ltb}
+use lib.ListN.{length, getD, take, set, drop, length-append, length-take, drop-of-length-le}
+use lib.Seq.{sets, sets-eq, length-sets, drop-cons, take-suc, take-all}
 use native.Mathlib.Numerals.{add-one}
 use Rattle.kinds.specs.declared.Reply.{Reply}
 use Rattle.kinds.specs.Statuses.{codeOf}
 use Rattle.lines.specs.Text.{text}
 use Rattle.lines.specs.Decimal.{spelled, decimal}
-use Rattle.lines.specs.Replies.{filledFrom, replyLine, whyLine, nightLine, closingLine, Put, Written}
+use Rattle.lines.specs.Replies.{filledAt, nextAt, filledFrom, filled, roomOf, replyLine, Put, Written}
 
 -- ---- a text put after a text is both put at once
-sets-append : (s t l : List ℕ) (i : ℕ) → sets (sets l i s) (i + length s) t ≡ sets l i (s ++ t)
+pub sets-append : (s t l : List ℕ) (i : ℕ) → sets (sets l i s) (i + length s) t ≡ sets l i (s ++ t)
 sets-append [] t l i = rw add-zero
 sets-append (a ∷ s) t l i =
     ap (λ (k : ℕ). sets (sets (set l i a) (suc i) s) k t) (omega arith) ∙ sets-append s t (set l i a) (suc i)
@@ -106,16 +106,10 @@ module _ {l m line : List ℕ} {most at : ℕ} (x : Begun l most line at m) wher
   pub key-put : (key : List ℕ) (n : ℕ) {m′ : List ℕ} {e : ℕ} → Put m at (key ++ decimal n) e m′ → Begun l (most + (length key + 10)) (line ++ (key ++ decimal n)) e m′
   key-put key n p = record { put = put-then (x .put) p; low = omega (arith, x .low, p .ends, length-append key (decimal n), decimal-short n) }
 
--- the forms filled in are their keys and numbers, joined
+-- a reply's form filled in is its keys and numbers, joined
 five : (a b c d e f g h i j t : List ℕ) →
     (((((a ++ b) ++ (c ++ d)) ++ (e ++ f)) ++ (g ++ h)) ++ (i ++ j)) ++ t ≡ a ++ (b ++ (c ++ (d ++ (e ++ (f ++ (g ++ (h ++ (i ++ (j ++ t)))))))))
 five a b c d e f g h i j t = simp append-assoc
-
-four : (a b c d e f g h t : List ℕ) → ((((a ++ b) ++ (c ++ d)) ++ (e ++ f)) ++ (g ++ h)) ++ t ≡ a ++ (b ++ (c ++ (d ++ (e ++ (f ++ (g ++ (h ++ t)))))))
-four a b c d e f g h t = simp append-assoc
-
-three : (a b c d e f t : List ℕ) → (((a ++ b) ++ (c ++ d)) ++ (e ++ f)) ++ t ≡ a ++ (b ++ (c ++ (d ++ (e ++ (f ++ t)))))
-three a b c d e f t = simp append-assoc
 
 pub reply-filled : (r : Reply) (n s : ℕ) → n ≡ r .event .number .0 → s ≡ codeOf (r .event .status) →
     (((((text "answer=" ++ decimal (r .answer)) ++ (text " phase=" ++ decimal (r .event .phase))) ++ (text " stage=" ++ decimal (r .event .stage)))
@@ -126,26 +120,97 @@ reply-filled r n s e f =
     (five (text "answer=") (decimal (r .answer)) (text " phase=") (decimal (r .event .phase)) (text " stage=") (decimal (r .event .stage)) (text " number=")
     (decimal (r .event .number .0)) (text " status=") (decimal (codeOf (r .event .status))) (text "\n"))
 
-pub closing-filled : (c o a u : ℕ) →
-    ((((text "committed=" ++ decimal c) ++ (text " committed_ordinal=" ++ decimal o)) ++ (text " applied=" ++ decimal a))
-    ++ (text " applied_ordinal=" ++ decimal u)) ++ text "\n" ≡ closingLine c o a u
-unfolding closingLine filledFrom
-closing-filled c o a u =
-    four (text "committed=") (decimal c) (text " committed_ordinal=") (decimal o) (text " applied=") (decimal a) (text " applied_ordinal=") (decimal u)
-    (text "\n")
+-- ---- a form filled in
+short-at : (c n : ℕ) → length (filledAt c n) ≤ cond (eqb c 35) 10 1
+short-at c n = by (eqb c 35)
+  where
+    by : (t : Bool) → length (cond t (decimal n) (c ∷ [])) ≤ cond t 10 1
+    by true = decimal-short n
+    by false = omega arith
 
-pub why-filled : (a r k : ℕ) →
-    (((text "answer=" ++ decimal a) ++ (text " reason=" ++ decimal r)) ++ (text " named=" ++ decimal k)) ++ text "\n" ≡ whyLine a r k
-unfolding whyLine filledFrom
-why-filled a r k = three (text "answer=") (decimal a) (text " reason=") (decimal r) (text " named=") (decimal k) (text "\n")
+pub filled-short : (f ns : List ℕ) (k : ℕ) → length (filledFrom f ns k) ≤ roomOf f
+unfolding filledFrom roomOf
+filled-short [] ns k = omega arith
+filled-short (c ∷ f) ns k =
+    omega (arith, length-append (filledAt c (getD ns k 0)) (filledFrom f ns (nextAt c k)), short-at c (getD ns k 0), filled-short f ns (nextAt c k))
 
-pub night-filled : (a j s : ℕ) →
-    (((text "answer=" ++ decimal a) ++ (text " jobs=" ++ decimal j)) ++ (text " stopped=" ++ decimal s)) ++ text "\n" ≡ nightLine a j s
-unfolding nightLine filledFrom
-night-filled a j s = three (text "answer=") (decimal a) (text " jobs=") (decimal j) (text " stopped=") (decimal s) (text "\n")
+pub room-long : (f : List ℕ) → length f ≤ roomOf f
+unfolding roomOf
+room-long [] = omega arith
+room-long (c ∷ f) = omega (arith, room-long f, by (eqb c 35))
+  where
+    by : (t : Bool) → 1 ≤ cond t 10 1
+    by true = omega arith
+    by false = omega arith
+
+-- a letter of a form: a number, or itself
+module _ (at c n : ℕ) where
+  pub number-fits : (size : ℕ) → c ≡ 35 → at + length (filledAt c n) ≤ size → at + length (decimal n) ≤ size
+  number-fits size e h = rw (eq-eqb c 35 e) at h
+
+  pub self-fits : (size : ℕ) → (c ≡ 35 → ⊥) → at + length (filledAt c n) ≤ size → at < size
+  self-fits size e h = let g : at + length (c ∷ []) ≤ size = rw (ne-eqb c 35 e) at h in omega arith
+
+  pub put-number : (l : List ℕ) (e : ℕ) (m : List ℕ) → c ≡ 35 → Put l at (decimal n) e m → Put l at (filledAt c n) e m
+  put-number l e m i p = rw (eq-eqb c 35 i) p
+
+  pub put-self : (l : List ℕ) → (c ≡ 35 → ⊥) → Put l at (filledAt c n) (at + 1) (set l at c)
+  put-self l e = rw (ne-eqb c 35 e) (put-byte l at c)
+
+-- u of the line stands there, what is left of the form makes the rest
+pub record Filling (before f ns : List ℕ) (at i k : ℕ) (after : List ℕ) : Type 0 where
+  pub done : List ℕ
+  pub put : Put before 0 done at after
+  pub rest : done ++ filledFrom (drop i f) ns k ≡ filled f ns
+  pub some : k ≤ i
+
+pub filling-none : (l f ns : List ℕ) → Filling l f ns 0 0 0 l
+filling-none l f ns = record { done = []; put = record { ends = refl; holds = refl }; rest = refl; some = omega arith }
+
+module _ (l f ns : List ℕ) (at i k : ℕ) (m : List ℕ) (x : Filling l f ns at i k m) where
+  step : i < length f → filledFrom (drop i f) ns k ≡ filledAt (getD f i 0) (getD ns k 0) ++ filledFrom (drop (i + 1) f) ns (nextAt (getD f i 0) k)
+  unfolding filledFrom
+  step h = ap (λ (g : List ℕ). filledFrom g ns k) (drop-cons f i 0 h) ∙ ap
+      (λ (j : ℕ). filledAt (getD f i 0) (getD ns k 0) ++ filledFrom (drop j f) ns (nextAt (getD f i 0) k)) (sym (add-one i))
+
+  pub filling-fits : (n : ℕ) → n ≡ getD ns k 0 → i < length f → roomOf f ≤ 96 → 96 ≤ length l → at + length (filledAt (getD f i 0) n) ≤ length m
+  filling-fits n y h g j =
+      rw y
+      (let a = filledAt (getD f i 0) (getD ns k 0) in
+      let b = filledFrom (drop (i + 1) f) ns (nextAt (getD f i 0) k) in
+      let e : x .done ++ (a ++ b) ≡ filled f ns = ap (λ (z : List ℕ). x .done ++ z) (sym (step h)) ∙ x .rest in
+      omega (arith, ap length e, length-append (x .done) (a ++ b), length-append a b, filled-short f ns 0, put-length (x .put), x .put .ends))
+
+  pub filling-more :
+      (q e n : ℕ) (m′ : List ℕ) → i < length f → n ≡ getD ns k 0 → q ≡ nextAt (getD f i 0) k → Put m at (filledAt (getD f i 0) n) e m′ → Filling l f ns e
+      (i + 1) q m′
+  filling-more q e n m′ h g j p =
+      let a = filledAt (getD f i 0) (getD ns k 0) in
+      record {
+        done = x .done ++ a;
+        put = put-then (x .put) (subst (λ (u : ℕ). Put m at (filledAt (getD f i 0) u) e m′) g p);
+        rest =
+            append-assoc (x .done) a (filledFrom (drop (i + 1) f) ns q)
+            ∙ ap (λ (u : ℕ). x .done ++ (a ++ filledFrom (drop (i + 1) f) ns u)) j
+            ∙ ap (λ (z : List ℕ). x .done ++ z) (sym (step h)) ∙ x .rest;
+        some = omega (arith, j, next-short (getD f i 0), x .some);
+      }
+    where
+      next-short : (c : ℕ) → nextAt c k ≤ k + 1
+      next-short c = by (eqb c 35)
+        where
+          by : (t : Bool) → cond t (k + 1) k ≤ k + 1
+          by true = omega arith
+          by false = omega arith
+
+  pub filling-whole : length f ≤ i → Put l 0 (filled f ns) at m
+  unfolding filledFrom
+  filling-whole h =
+      subst (λ (z : List ℕ). Put l 0 z at m)
+      (sym (append-nil (x .done)) ∙ ap (λ (g : List ℕ). x .done ++ filledFrom g ns k) (sym (drop-of-length-le f h)) ∙ x .rest) (x .put)
 
 -- ---- a whole line
-written : {l m t : List ℕ} {e : ℕ} → Put l 0 t e m → 96 ≤ length l → e ≤ length l → Written l t e m
+pub written : {l m t : List ℕ} {e : ℕ} → Put l 0 t e m → 96 ≤ length l → e ≤ length l → Written l t e m
 written {l} {m} {t} {e} p h k =
     let f : e ≡ length t = omega (arith, p .ends) in
     record {

@@ -16,43 +16,45 @@ use Rattle.machine.specs.Step.{outcome, step}
 use Rattle.lines.specs.declared.reading.Call.{Call}
 use Rattle.lines.specs.declared.reading.Call.the-variants.{Unreadable}
 use Rattle.lines.specs.declared.reading.Reader.{Reader}
-use Rattle.lines.specs.Forms.{Asked, calls, why, night}
-use Rattle.lines.specs.Grammar.{Says}
-use Rattle.lines.specs.Reading.{twoBytes, pushed, fresh, kept, keptIn, tagOf, callOf, lineOf, finished, ran, said, saidIn}
+use Rattle.lines.specs.Forms.{Asked, calls, why, night, imports}
+use Rattle.lines.specs.Grammar.{Item, Says}
+use Rattle.lines.specs.Reading.{twoBytes, pushed, fresh, last, lastIn, atMost, mostOf, tagOf, callOf, lineOf, finished, ran, said, saidIn}
 use Rattle.lines.specs.Handed.{Hands, callFor}
 use Rattle.lines.proofs.Goes.{AccR}
-use Rattle.lines.proofs.Runs.{told, Told, run-on, run-back, Holds, ran-reader, holds-run}
+use Rattle.lines.proofs.Runs.{told, Told, run-on, run-back, ran-reader}
+use Rattle.lines.proofs.Rooms.{Room, rm, put, run-puts}
 use Rattle.lines.proofs.Standing.{row-of, row-from, like-start-of, tag-is, text-is}
 use Rattle.lines.proofs.Complete.{fits-go}
 use Rattle.lines.proofs.Sound.{goes-fit}
 use Rattle.lines.proofs.Handing.{handed}
 
--- the reader goes through a line that says something, and tells its numbers
-pub goes-through : {l : List ℕ} {x : Asked} (s : Says l x) → Told fresh l (s .numbers) (s .of .tag)
+-- the reader goes through a line that says something, and tells what that tells
+pub goes-through : {l : List ℕ} {x : Asked} (s : Says l x) → Told fresh l (s .tells) (s .of .tag)
 goes-through {l} s =
     let f = s .of in
     let r = row-of f (s .among) in
     let g = fits-go (s .fits) (r .place) (f .tag) 0 (tag-is f (s .among)) (r .stands) in
-    let a : AccR fresh l (s .numbers) (f .tag) =
+    let a : AccR fresh l (s .tells) (f .tag) =
     record { place = r .place; above = omega (arith, r .start .is); same = like-start-of (r .place) (r .start); then = g } in
-    run-on l fresh (s .numbers) (f .tag) a
+    run-on l fresh (s .tells) (f .tag) a
 
-module _ (m : List ℕ) (n : length m ≡ 518) where
+module _ (m : List ℕ) (n : length m ≡ 5140) where
   -- a line that says something is handed on as what it says
   pub complete : {l : List ℕ} {x : Asked} → Says l x → Hands x (said m l) (saidIn m l)
-  unfolding twoBytes
   complete {l} {x} s =
       let f = s .of in
       let y = goes-through s in
-      let u = kept (ran m l .0) .used in
-      let h = holds-run l fresh m [] (record { used = refl; first = refl; long = n }) in
-      subst (λ (t : ℕ). Hands x (lineOf t u (saidIn m l)) (saidIn m l)) (sym (ap tagOf (ran-reader l fresh m) ∙ y .tag))
-      (handed f (s .among) (s .fits) u (saidIn m l) (subst (λ (ns : List ℕ). Holds ns u (saidIn m l)) (sym (y .is)) h))
+      let k : Room = foldl put (rm 0 0 m) (s .tells) in
+      let e : rm (last (ran m l .0) .used) (last (ran m l .0) .count) (saidIn m l) ≡ k =
+      run-puts l fresh m ∙ ap (λ (is : List Item). foldl put (rm 0 0 m) is) (sym (y .is)) in
+      let z : Hands x (lineOf (f .tag) (last (ran m l .0) .used) (saidIn m l)) (saidIn m l) =
+      subst (λ (k : Room). Hands x (lineOf (f .tag) (k .used) (k .room)) (k .room)) (sym e) (handed f (s .among) (s .fits) m n) in
+      subst (λ (t : ℕ). Hands x (lineOf t (last (ran m l .0) .used) (saidIn m l)) (saidIn m l)) (sym (ap tagOf (ran-reader l fresh m) ∙ y .tag)) z
 
 -- every line says something, or is read as unreadable
 no-tag : (r : Reader) (m : List ℕ) → tagOf r ≡ 0 → finished r m .call ≡ Unreadable
 unfolding callOf
-no-tag r m e = ap (λ (t : ℕ). lineOf t (kept r .used) (keptIn r m) .call) e
+no-tag r m e = ap (λ (t : ℕ). lineOf t (last r .used) (lastIn r m) .call) e
 
 pub sound : (m l : List ℕ) → ((x : Asked) × Says l x) ⊎ (said m l .call ≡ Unreadable)
 sound m l = by (eqb t 0) refl
@@ -67,7 +69,7 @@ sound m l = by (eqb t 0) refl
         let r = row-from (a .place) (a .same) in
         let f = r .of in
         let y = goes-fit (f .form) (f .asks) (a .place) (f .tag) t 0 l (told fresh l) (text-is f (r .among)) (tag-is f (r .among)) (r .stands) (a .then) in
-        inl (y .asked, record { of = f; among = r .among; numbers = told fresh l; fits = y .fits })
+        inl (y .asked, record { of = f; among = r .among; tells = told fresh l; fits = y .fits })
 
 -- no call is handed on as unreadable
 told-apart : (x : Asked) → callFor x ≡ Unreadable → ⊥
@@ -83,6 +85,7 @@ told-apart (calls (machine.work n j i o c)) e = let z : _≡_ {A = ℕ} 0 1 = cc
 told-apart (calls (machine.foldTo n)) e = let z : _≡_ {A = ℕ} 0 1 = cc in omega arith
 told-apart (why n j i) e = let z : _≡_ {A = ℕ} 0 1 = cc in omega arith
 told-apart (night n b os) e = let z : _≡_ {A = ℕ} 0 1 = cc in omega arith
+told-apart (imports es) e = let z : _≡_ {A = ℕ} 0 1 = cc in omega arith
 
 module _ (m l : List ℕ) where
   -- a readable line: the grammar has it as asking for something, and that is handed on
@@ -97,7 +100,7 @@ module _ (m l : List ℕ) where
     pub told : said m l .call ≡ Unreadable
 
 -- every line is one or the other
-pub read-right : (m l : List ℕ) → length m ≡ 518 → Readable m l ⊎ Unread m l
+pub read-right : (m l : List ℕ) → length m ≡ 5140 → Readable m l ⊎ Unread m l
 read-right m l n = by (sound m l)
   where
     by : ((x : Asked) × Says l x) ⊎ (said m l .call ≡ Unreadable) → Readable m l ⊎ Unread m l
@@ -106,21 +109,27 @@ read-right m l n = by (sound m l)
 
 -- two things that one line says are handed on alike
 pub hands-once : {l : List ℕ} {c d : Asked} → Says l c → Says l d → callFor c ≡ callFor d
-hands-once x y = sym (complete (replicate 518 0) refl x .calls) ∙ complete (replicate 518 0) refl y .calls
+hands-once x y = sym (complete (replicate 5140 0) refl x .calls) ∙ complete (replicate 5140 0) refl y .calls
 
 -- what is handed on of the room lies within it
-pub within : (r : Reader) (m : List ℕ) → finished r m .length ≤ 518
-within r m = by (eqb (tagOf r) 65) (eqb (tagOf r) 78) (ltb (kept r .used) 20) refl (ltb (kept r .used) 518) refl
+pub within : (r : Reader) (m : List ℕ) → finished r m .length ≤ 5140
+within r m = by (ltb u (mostOf (tagOf r))) refl
   where
     u : ℕ
-    u = kept r .used
+    u = last r .used
 
-    by : (a n x : Bool) → ltb u 20 ≡ x → (y : Bool) → ltb u 518 ≡ y → cond a (cond x u 20) (cond n (cond y u 518) 0) ≤ 518
-    by true n true e y f = omega (arith, ltb-true u 20 e)
-    by true n false e y f = omega arith
-    by false true x e true f = omega (arith, ltb-true u 518 f)
-    by false true x e false f = omega arith
-    by false false x e y f = omega arith
+    most : (t : ℕ) → mostOf t ≤ 5140
+    most t = split (eqb t 65) (eqb t 78) (eqb t 73)
+      where
+        split : (x y z : Bool) → cond x 20 (cond y 518 (cond z 5140 0)) ≤ 5140
+        split true y z = omega arith
+        split false true z = omega arith
+        split false false true = omega arith
+        split false false false = omega arith
+
+    by : (x : Bool) → ltb u (mostOf (tagOf r)) ≡ x → cond x u (mostOf (tagOf r)) ≤ 5140
+    by true e = omega (arith, ltb-true u (mostOf (tagOf r)) e, most (tagOf r))
+    by false e = most (tagOf r)
 
 -- ---- five pairs are refused as more are
 module _ (a b d e f : Pair) (ps : List Pair) where

@@ -8,7 +8,7 @@ use native.Mathlib.Nat.{add-zero}
 use borrow.Author.Tests.{eqb-true, eqb-false, ltb-true, ltb-false}
 use lib.Dec.{eqb, ltb}
 use lib.ListN.{length, getD, replicate}
-use Rattle.lines.specs.Forms.{Token, letter, number, pairs, digits, byteOf, bytes, gap, rows, Form, forms}
+use Rattle.lines.specs.Forms.{Token, letter, number, pairs, digits, entries, byteOf, bytes, gap, rows, Form, forms}
 use Rattle.lines.specs.Grammar.{isWord, Among, here, there}
 use Rattle.lines.specs.Reading.{letterAt, like, isTag}
 use Rattle.lines.proofs.Classes.{differ, and-left, and-right}
@@ -26,6 +26,7 @@ wordy (letter c) = isWord c
 wordy number = true
 wordy pairs = true
 wordy digits = true
+wordy entries = true
 
 unfoldable pub sound-text : List Token → Bool
 sound-text [] = true
@@ -133,6 +134,7 @@ no-newline (letter c) h e = differ (sym h ∙ ap isWord e)
 no-newline number h e = omega arith
 no-newline pairs h e = omega arith
 no-newline digits h e = omega arith
+no-newline entries h e = omega arith
 
 not-here : (o q : ℕ) → o ≤ q → (o ≡ q → ⊥) → o + 1 ≤ q
 not-here o q h n = by (ltb o q) refl

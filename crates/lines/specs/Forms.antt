@@ -1,6 +1,6 @@
 -- The table of forms: a row for each line that can be read. In a row's text a letter stands for itself, `#` for a number,
--- `%` for pairs and `&` for single digits; its tag, a capital, is how the code names it; behind them, what a line of this form asks for, from what
--- stands at its marks, in order. A new line is a new row. Assumes nothing.
+-- `%` for pairs, `&` for single digits and `$` for entries of a list; its tag, a capital, is how the code names it; behind them,
+-- what a line of this form asks for, from what stands at its marks, in order. A new line is a new row. Assumes nothing.
 use Prim.Native.Nat.{ℕ, _-_}
 use Prim.Native.String.{String}
 use mathlib.Core.List.{List, [], _∷_, _++_}
@@ -9,6 +9,7 @@ use lib.Dec.{eqb}
 use lib.ListN.{length, replicate}
 use Rattle.machine.specs.Calls as machine
 use Rattle.machine.specs.Calls.{Pair}
+use Rattle.machine.specs.Import.{Entry}
 use Rattle.lines.specs.Text.{text}
 
 -- what a line asks for
@@ -16,6 +17,7 @@ pub data Asked : Type 0 where
   calls : machine.Call → Asked
   why : (node job number : ℕ) → Asked
   night : (node budget : ℕ) → List ℕ → Asked
+  imports : List Entry → Asked
 
 -- what stands at a place of a form
 pub data Token : Type 0 where
@@ -23,15 +25,17 @@ pub data Token : Type 0 where
   number : Token
   pairs : Token
   digits : Token
+  entries : Token
 
 abbrev pub tokenOf : ℕ → Token
-tokenOf c = cond (eqb c 35) number (cond (eqb c 37) pairs (cond (eqb c 38) digits (letter c)))
+tokenOf c = cond (eqb c 35) number (cond (eqb c 37) pairs (cond (eqb c 38) digits (cond (eqb c 36) entries (letter c))))
 
 abbrev pub byteOf : Token → ℕ
 byteOf (letter c) = c
 byteOf number = 35
 byteOf pairs = 37
 byteOf digits = 38
+byteOf entries = 36
 
 abbrev pub tokens : List ℕ → List Token
 tokens [] = []
@@ -44,6 +48,7 @@ Asks (letter c ∷ f) = Asks f
 Asks (number ∷ f) = ℕ → Asks f
 Asks (pairs ∷ f) = List Pair → Asks f
 Asks (digits ∷ f) = List ℕ → Asks f
+Asks (entries ∷ f) = List Entry → Asks f
 
 pub record Form : Type 0 where
   pub form : List Token
@@ -71,6 +76,7 @@ forms =
     ∷ row "call=fold number=#" "F" (λ n. calls (machine.foldTo n))
     ∷ row "call=why node=# job=# number=#" "Q" (λ n j i. why n j i)
     ∷ row "call=night node=# budget=# outcomes=&" "N" (λ n b os. night n b os)
+    ∷ row "call=import entries=$" "I" (λ es. imports es)
     ∷ []
 
 -- ---- the table as the code has it: for each row 64 letters, a newline, its text, its tag and dots

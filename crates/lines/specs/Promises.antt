@@ -7,7 +7,7 @@ use Rattle.kinds.specs.Outcome.{one, both}
 use Rattle.lines.specs.declared.reading.Line.{Line}
 use Rattle.lines.specs.declared.reading.Reader.{Reader}
 use Rattle.lines.specs.Replies.{Written}
-use Rattle.lines.specs.Reading.{fresh, pushed, pushedIn, keptIn, finished, said, saidIn}
+use Rattle.lines.specs.Reading.{fresh, pushed, pushedIn, lastIn, finished, said, saidIn}
 
 abbrev pub StartsFresh : Reader → Type 0
 StartsFresh r = r ≡ fresh
@@ -22,7 +22,7 @@ pub pushes-only : (r : Reader) (m : List ℕ) (b : ℕ) (q p : Reader) (n o : Li
 pushes-only r m b q p n o = both
 
 abbrev pub Finishes : Reader → List ℕ → Line → List ℕ → Type 0
-Finishes r m q n = (q ≡ finished r m) × (n ≡ keptIn r m)
+Finishes r m q n = (q ≡ finished r m) × (n ≡ lastIn r m)
 
 pub finishes-only : (r : Reader) (m : List ℕ) (q p : Line) (n o : List ℕ) → Finishes r m q n → Finishes r m p o → (q ≡ p) × (n ≡ o)
 finishes-only r m q p n o = both

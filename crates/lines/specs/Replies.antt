@@ -26,6 +26,11 @@ filledFrom (c ∷ f) ns k = filledAt c (getD ns k 0) ++ filledFrom f ns (nextAt 
 abbrev pub filled : List ℕ → List ℕ → List ℕ
 filled f ns = filledFrom f ns 0
 
+-- the bytes that a form can have: ten for each number
+unfoldable pub roomOf : List ℕ → ℕ
+roomOf [] = 0
+roomOf (c ∷ f) = cond (eqb c 35) 10 1 + roomOf f
+
 -- ---- the forms of the replies
 -- the answer, then the event
 unfoldable pub replyLine : Reply → List ℕ
@@ -40,6 +45,10 @@ whyLine a r k = filled (text "answer=# reason=# named=#\n") (a ∷ r ∷ k ∷ [
 -- the answer, the jobs done and why the night stopped (order 2)
 unfoldable pub nightLine : (answer jobs stopped : ℕ) → List ℕ
 nightLine a j s = filled (text "answer=# jobs=# stopped=#\n") (a ∷ j ∷ s ∷ [])
+
+-- the answer, and the position of the entry that is refused (order 6)
+unfoldable pub importLine : (answer position : ℕ) → List ℕ
+importLine a p = filled (text "answer=# position=#\n") (a ∷ p ∷ [])
 
 -- at the end the committed and applied revision and ordinal
 unfoldable pub closingLine : (committed committedOrdinal applied appliedOrdinal : ℕ) → List ℕ

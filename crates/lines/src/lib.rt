@@ -10,6 +10,7 @@ pub use reading::fresh;
 pub use reading::push;
 pub use reading::read;
 pub use writing::write_closing;
+pub use writing::write_import;
 pub use writing::write_night;
 pub use writing::write_reply;
 pub use writing::write_why;

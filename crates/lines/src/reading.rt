@@ -2,14 +2,16 @@
 // more memory. What can be read is the table of forms; a new line is a new row of it, and an arm of `call_of` that hands its
 // numbers on.
 ghost use mathlib.Core.Path.{_≡_};
-ghost use Prim.Native.Nat.{_<_};
-ghost use lib.ListN.{getD};
+ghost use Prim.Native.Nat.{_+_, _≤_, _<_};
+ghost use lib.ListN.{getD, replicate};
+ghost use lib.Seq.{sets};
 ghost use Rattle.lines.specs.Grammar.{isWord};
-ghost use Rattle.lines.specs.Reading.{letterAt, isNumbered, isMark, isTag, like, takes, goes, seek, inside, begins, parts, mayEnd, past, placed, begun, grown, stored, storedIn, kept, keptIn, withDigit, digitIn, spelt, withText, tagBefore, numberIn, atMost, lengthOf, callOf, lineOf};
+ghost use Rattle.lines.specs.Reading.{letterAt, isPaired, isNumbered, isMark, isTag, like, takes, goes, seek, inside, begins, parts, mayEnd, past, placed, begun, grown, holding, twoAt, atMost, stored, storedIn, kept, keptIn, noted, notedIn, pairsOf, filledBy, closed, closedIn, changedIn, enteredIn, listed, listedIn, ended, endedIn, withDigit, digitIn, spelt, withText, textIn, tagBefore, numberIn, mostOf, callOf, lineOf};
 ghost use Rattle.lines.specs.Promises.{StartsFresh, Pushes, Finishes, ReadsLine};
 
-// The table of forms. A row is a newline, its text, in which `#` is a number, `%` are pairs and `&` single digits, its tag, and dots; letters in
-// one column of two rows are `WIDTH` apart. The shortest lines come first: what a row shares with those before it is compared.
+// The table of forms. A row is a newline, its text, in which `#` is a number, `%` are pairs, `&` single digits and `$` entries, its
+// tag, and dots; letters in one column of two rows are `WIDTH` apart. The shortest lines come first: what a row shares with those
+// before it is compared.
 const WIDTH: usize = 64;
 
 const STOP: [u8; 64] = *b"\ncall=stopT.....................................................";
@@ -36,16 +38,19 @@ const WHY: [u8; 64] = *b"\ncall=why node=# job=# number=#Q......................
 
 const NIGHT: [u8; 64] = *b"\ncall=night node=# budget=# outcomes=&N.........................";
 
+const IMPORT: [u8; 64] = *b"\ncall=import entries=$I.........................................";
+
 // Where the line so far leads: a place of the table; how much has come of what a mark there takes; the number that is being
-// read; how many bytes of the room the numbers take that ended.
+// read; how many bytes of the room are taken by what ended; and how many numbers of an entry ended that itself has not.
 pub struct Reader {
     at: usize,
     sub: u8,
     value: u16,
     used: usize,
+    count: u16,
 }
 
-// What a line asks for, with its numbers; the pairs of an append stand in the room.
+// What a line asks for, with its numbers; the pairs of an append and the entries of an import stand in the room.
 pub enum Call {
     Unreadable,
     Append,
@@ -73,11 +78,13 @@ pub enum Call {
         node: u16,
         budget: u16,
     },
+    Import,
 }
 
 // A line that was read. The first `length` bytes of the room go with it, two a number, the low byte first: of an append the
-// pairs, the first five of them at most; of a night the node, the budget and its outcomes, 257 of them at most. Five pairs are
-// refused as more are, and 257 outcomes as more are, so that no answer tells the difference.
+// pairs, the first five of them at most; of a night the node, the budget and its outcomes, 257 of them at most; of an import its
+// entries as the controller takes them, 257 of them at most, one of more than four pairs as one of five. Five pairs are refused
+// as more are, 257 outcomes and 257 entries too, so that no answer tells the difference.
 pub struct Line {
     pub call: Call,
     pub length: usize,
@@ -109,14 +116,21 @@ fn letter(at: usize) -> u8
         9 => cell(FOLD, column),
         10 => cell(WHY, column),
         11 => cell(NIGHT, column),
+        12 => cell(IMPORT, column),
         _ => 0,
     }
+}
+
+fn is_paired(c: u8) -> bool
+    ensures { λ r. ⌜ r ≡ isPaired c ⌝ }
+{
+    (c == b'%') | (c == b'$')
 }
 
 fn is_numbered(c: u8) -> bool
     ensures { λ r. ⌜ r ≡ isNumbered c ⌝ }
 {
-    (c == b'#') | (c == b'%')
+    (c == b'#') | is_paired(c)
 }
 
 fn is_mark(c: u8) -> bool
@@ -205,7 +219,7 @@ fn seek(p: usize, b: u8) -> usize
 fn inside(s: u8) -> bool
     ensures { λ r. ⌜ r ≡ inside s ⌝ }
 {
-    (s == 1) | (s == 3)
+    (s == 1) | (s == 3) | (s == 5)
 }
 
 fn begins(s: u8) -> u8
@@ -214,19 +228,10 @@ fn begins(s: u8) -> u8
     if s == 2 {
         return 3;
     }
+    if s == 4 {
+        return 5;
+    }
     1
-}
-
-fn parts(c: u8, s: u8, b: u8) -> u8
-    ensures { λ r. ⌜ r ≡ parts c s b ⌝ }
-{
-    if (c == b'%') & ((s == 1) & (b == b':')) {
-        return 2;
-    }
-    if (c == b'%') & ((s == 3) & (b == b',')) {
-        return 4;
-    }
-    0
 }
 
 fn may_end(c: u8, s: u8) -> bool
@@ -235,6 +240,24 @@ fn may_end(c: u8, s: u8) -> bool
     (c == b'#') & (s == 1)
         | (c == b'%') & ((s == 0) | (s == 3))
         | (c == b'&') & ((s == 0) | (s == 1))
+        | (c == b'$') & ((s == 0) | (s == 1) | (s == 3) | (s == 6))
+}
+
+fn parts(c: u8, s: u8, b: u8) -> u8
+    ensures { λ r. ⌜ r ≡ parts c s b ⌝ }
+{
+    let paired = is_paired(c);
+    if paired & (((s == 1) | (s == 5)) & (b == b':')) {
+        return 2;
+    }
+    if paired & ((s == 3) & (b == b',')) {
+        return 4;
+    }
+    let ends = may_end(c, s);
+    if (c == b'$') & (ends & (b == b'/')) {
+        return 6;
+    }
+    0
 }
 
 // Where a letter is looked for from the place `p` with the letter `c`: behind a mark that may end.
@@ -282,24 +305,48 @@ fn grown(r: Reader, d: u8) -> Reader
     placed(r, 0)
 }
 
-// The number that was being read is put into the room, in two bytes, the low one first, if there are two.
-fn stored(r: Reader, room: &mut [u8; 518]) -> Reader
+// What the reader has of the room.
+fn holding(r: Reader, used: usize, count: u16) -> Reader
+    ensures { λ q. ⌜ q ≡ holding r used count ⌝ }
+{
+    let mut next = r;
+    next.used = used;
+    next.count = count;
+    next
+}
+
+fn at_most(most: usize, n: usize) -> usize
+    ensures { λ r. ⌜ r ≡ atMost most n ⌝ }
+{
+    if n < most {
+        return n;
+    }
+    most
+}
+
+// A number in two bytes, the low one first.
+fn two(room: &mut [u8; 5140], at: usize, v: u16)
+    requires { ⌜ at + 1 < 5140 ⌝ }
+    ensures { λ _. ⌜ now (room .exit) ≡ twoAt (now (room .entry)) at v ⌝ }
+{
+    room[at] = (v % 256) as u8;
+    room[at + 1] = (v / 256 % 256) as u8;
+}
+
+// The number that was being read is put into the room, if that has two bytes left.
+fn stored(r: Reader, room: &mut [u8; 5140]) -> Reader
     ensures { λ q. ⌜ (q ≡ stored r) × (now (room .exit) ≡ storedIn r (now (room .entry))) ⌝ }
 {
     let k = r.used;
-    if k < 517 {
-        let v = r.value;
-        room[k] = (v % 256) as u8;
-        room[k + 1] = (v / 256 % 256) as u8;
-        let mut next = r;
-        next.used = k + 2;
-        return next;
+    if k < 5139 {
+        two(room, k, r.value);
+        return holding(r, k + 2, r.count);
     }
-    r
+    holding(r, k, r.count)
 }
 
 // The number that was being read, if there is one, has ended.
-fn kept(r: Reader, room: &mut [u8; 518]) -> Reader
+fn kept(r: Reader, room: &mut [u8; 5140]) -> Reader
     ensures { λ q. ⌜ (q ≡ kept r) × (now (room .exit) ≡ keptIn r (now (room .entry))) ⌝ }
 {
     if inside(r.sub) {
@@ -308,7 +355,112 @@ fn kept(r: Reader, room: &mut [u8; 518]) -> Reader
     r
 }
 
-fn with_digit(r: Reader, room: &mut [u8; 518], d: u8) -> Reader
+fn counted(r: Reader) -> Reader
+    ensures { λ q. ⌜ q ≡ noted r ⌝ }
+{
+    let n = r.count;
+    if n < 9 {
+        return holding(r, r.used, n + 1);
+    }
+    holding(r, r.used, n)
+}
+
+// A number of a change has ended: it is put where the entry has it, if it is among the first eight.
+fn noted(r: Reader, room: &mut [u8; 5140]) -> Reader
+    ensures { λ q. ⌜ (q ≡ noted r) × (now (room .exit) ≡ notedIn r (now (room .entry))) ⌝ }
+{
+    let u = r.used;
+    let n = r.count;
+    if u < 5121 {
+        if n < 8 {
+            two(room, u + 4 + 2 * n as usize, r.value);
+            return counted(r);
+        }
+        return counted(r);
+    }
+    counted(r)
+}
+
+// The pairs of so many numbers; more than four are told as five.
+fn pairs_of(n: u16) -> u16
+    ensures { λ r. ⌜ r ≡ pairsOf n ⌝ }
+{
+    if n < 9 {
+        return (n + 1) / 2;
+    }
+    5
+}
+
+fn clear(room: &mut [u8; 5140], at: usize, n: usize)
+    requires { ⌜ at + n ≤ 5140 ⌝ }
+    ensures { λ _. ⌜ now (room .exit) ≡ sets (now (room .entry)) at (replicate n 0) ⌝ }
+{
+    let mut i = 0;
+    while i < n {
+        room[at + i] = 0;
+        i += 1;
+    }
+}
+
+// An entry has ended: before its numbers come its kind, and how many pairs it has or which place it names; behind them zeros.
+fn closed(r: Reader, room: &mut [u8; 5140], kind: u16, number: u16) -> Reader
+    ensures { λ q. ⌜ (q ≡ closed r) × (now (room .exit) ≡ closedIn r kind number (now (room .entry))) ⌝ }
+{
+    let u = r.used;
+    if u < 5121 {
+        let filled = 2 * at_most(8, r.count as usize);
+        two(room, u, kind);
+        two(room, u + 2, number);
+        clear(room, u + 4 + filled, 16 - filled);
+        return holding(r, u + 20, 0);
+    }
+    holding(r, u, 0)
+}
+
+fn changed(r: Reader, room: &mut [u8; 5140]) -> Reader
+    ensures { λ q. ⌜ (q ≡ closed r) × (now (room .exit) ≡ changedIn r (now (room .entry))) ⌝ }
+{
+    closed(r, room, 1, pairs_of(r.count))
+}
+
+// One number alone is the place that a rollback names.
+fn entered(r: Reader, room: &mut [u8; 5140]) -> Reader
+    ensures { λ q. ⌜ (q ≡ closed r) × (now (room .exit) ≡ enteredIn r (now (room .entry))) ⌝ }
+{
+    if r.sub == 1 {
+        return closed(r, room, 2, r.value);
+    }
+    if r.sub == 3 {
+        let next = noted(r, room);
+        return changed(next, room);
+    }
+    changed(r, room)
+}
+
+// At a mark that takes entries: n has come with a byte that parts, or 0 with one that does not.
+fn listed(r: Reader, room: &mut [u8; 5140], n: u8) -> Reader
+    ensures { λ q. ⌜ (q ≡ listed n r) × (now (room .exit) ≡ listedIn n r (now (room .entry))) ⌝ }
+{
+    if (n == 2) | (n == 4) {
+        return noted(r, room);
+    }
+    if (n == 6) | (0 < r.sub) {
+        return entered(r, room);
+    }
+    r
+}
+
+// What was being read at a mark with the letter `c` has ended.
+fn ended(r: Reader, room: &mut [u8; 5140], c: u8, n: u8) -> Reader
+    ensures { λ q. ⌜ (q ≡ ended c n r) × (now (room .exit) ≡ endedIn c n r (now (room .entry))) ⌝ }
+{
+    if c == b'$' {
+        return listed(r, room, n);
+    }
+    kept(r, room)
+}
+
+fn with_digit(r: Reader, room: &mut [u8; 5140], d: u8) -> Reader
     ensures { λ q. ⌜ (q ≡ withDigit r d) × (now (room .exit) ≡ digitIn r (now (room .entry))) ⌝ }
 {
     let c = letter(r.at);
@@ -334,17 +486,17 @@ fn spelt(p: usize, b: u8) -> usize
     0
 }
 
-fn with_text(r: Reader, room: &mut [u8; 518], b: u8) -> Reader
-    ensures { λ q. ⌜ (q ≡ withText r b) × (now (room .exit) ≡ keptIn r (now (room .entry))) ⌝ }
+fn with_text(r: Reader, room: &mut [u8; 5140], b: u8) -> Reader
+    ensures { λ q. ⌜ (q ≡ withText r b) × (now (room .exit) ≡ textIn r b (now (room .entry))) ⌝ }
 {
     let c = letter(r.at);
-    let s = parts(c, r.sub, b);
+    let n = parts(c, r.sub, b);
     let to = spelt(past(c, r.sub, r.at), b);
-    let next = kept(r, room);
-    if s == 0 {
+    let next = ended(r, room, c, n);
+    if n == 0 {
         return placed(next, to);
     }
-    begun(next, s, 0)
+    begun(next, n, 0)
 }
 
 // A reader at a line's start.
@@ -356,11 +508,12 @@ pub fn fresh() -> Reader
         sub: 0,
         value: 0,
         used: 0,
+        count: 0,
     }
 }
 
 // The reader after one byte more of the line.
-pub fn push(r: Reader, room: &mut [u8; 518], b: u8) -> Reader
+pub fn push(r: Reader, room: &mut [u8; 5140], b: u8) -> Reader
     ensures { λ q. ⌜ Pushes r (now (room .entry)) b q (now (room .exit)) ⌝ }
 {
     if b < 48 {
@@ -391,7 +544,7 @@ fn wide(x: u8) -> u16
 }
 
 // The number in the two bytes from `at` on, if they are among the `used`; else 0.
-fn number_in(room: &[u8; 518], used: usize, at: usize) -> u16
+fn number_in(room: &[u8; 5140], used: usize, at: usize) -> u16
     requires { ⌜ at < 19 ⌝ }
     ensures { λ r. ⌜ r ≡ numberIn used (now (room .entry)) at ⌝ }
 {
@@ -403,24 +556,18 @@ fn number_in(room: &[u8; 518], used: usize, at: usize) -> u16
     0
 }
 
-fn at_most(most: usize, n: usize) -> usize
-    ensures { λ r. ⌜ r ≡ atMost most n ⌝ }
-{
-    if n < most {
-        return n;
-    }
-    most
-}
-
-// The bytes of the room that go with a call.
-fn length_of(tag: u8, used: usize) -> usize
-    ensures { λ r. ⌜ r ≡ lengthOf tag used ⌝ }
+// The bytes of the room that go with a call, at most.
+fn most_of(tag: u8) -> usize
+    ensures { λ r. ⌜ r ≡ mostOf tag ⌝ }
 {
     if tag == b'A' {
-        return at_most(20, used);
+        return 20;
     }
     if tag == b'N' {
-        return at_most(518, used);
+        return 518;
+    }
+    if tag == b'I' {
+        return 5140;
     }
     0
 }
@@ -452,11 +599,12 @@ fn call_of(tag: u8, a: u16, b: u16, c: u16, d: u16, e: u16) -> Call
             number: c,
         },
         b'N' => Call::Night { node: a, budget: b },
+        b'I' => Call::Import,
         _ => Call::Unreadable,
     }
 }
 
-fn line_of(tag: u8, used: usize, room: &[u8; 518]) -> Line
+fn line_of(tag: u8, used: usize, room: &[u8; 5140]) -> Line
     ensures { λ q. ⌜ q ≡ lineOf tag used (now (room .entry)) ⌝ }
 {
     let a = number_in(room, used, 0);
@@ -465,24 +613,25 @@ fn line_of(tag: u8, used: usize, room: &[u8; 518]) -> Line
     let d = number_in(room, used, 6);
     let e = number_in(room, used, 8);
     let call = call_of(tag, a, b, c, d, e);
+    let most = most_of(tag);
     Line {
         call,
-        length: length_of(tag, used),
+        length: at_most(most, used),
     }
 }
 
 // What the line says that the reader was given.
-pub fn finish(r: Reader, room: &mut [u8; 518]) -> Line
+pub fn finish(r: Reader, room: &mut [u8; 5140]) -> Line
     ensures { λ q. ⌜ Finishes r (now (room .entry)) q (now (room .exit)) ⌝ }
 {
     let c = letter(r.at);
     let tag = tag_at(past(c, r.sub, r.at));
-    let last = kept(r, room);
+    let last = ended(r, room, c, 0);
     line_of(tag, last.used, room)
 }
 
 // What a whole line says.
-pub fn read(line: &[u8], room: &mut [u8; 518]) -> Line
+pub fn read(line: &[u8], room: &mut [u8; 5140]) -> Line
     ensures { λ r. ⌜ ReadsLine (now (line .entry)) (now (room .entry)) r (now (room .exit)) ⌝ }
 {
     let mut r = fresh();

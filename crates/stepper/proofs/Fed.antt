@@ -10,7 +10,7 @@ use lib.Dec.{eqb}
 use lib.ListN.{length, take, getD}
 use lib.Seq.{take-all, take-suc}
 use Rattle.lines.specs.declared.reading.Reader.{Reader}
-use Rattle.lines.specs.Reading.{fresh, pushed, pushedIn, keptIn}
+use Rattle.lines.specs.Reading.{fresh, pushed, pushedIn, lastIn}
 use Rattle.stepper.specs.declared.Session.{Session}
 use Rattle.stepper.specs.declared.Turn.{Turn}
 use Rattle.stepper.specs.Fed.{emptied, EndsLine, TakesIf, Takes, Feeds, none, next, EndsLastIf, EndsLast}
@@ -20,18 +20,19 @@ use Rattle.stepper.specs.Runs.{start, block, Reads, ReadsAll}
 -- ---- one byte
 pub newline :
     (l out room : List ℕ) (s : Session) (b n : ℕ) (f : Reader) (m after kept : List ℕ) → b ≡ 10 → EndsLine l out room s n m after →
-    kept ≡ keptIn (s .line) room → f ≡ fresh → Takes l out room s b (record { line = f; begun = false; used = n }) m after kept
-newline l out room s b n f m after kept e x k h = rw (eq-eqb b 10 e) (x, h, refl, k)
+    kept ≡ lastIn (s .line) room → f ≡ fresh → Takes l out room s b (record { line = f; begun = false; used = n; first = false }) m after kept
+newline l out room s b n f m after kept e x k h = rw (eq-eqb b 10 e) (x, h, refl, k, refl)
 
 pub other :
     (l out room : List ℕ) (s : Session) (b : ℕ) (f : Reader) (kept : List ℕ) → (b ≡ 10 → ⊥) → f ≡ pushed (s .line) b → kept ≡ pushedIn (s .line) b room →
-    Takes l out room s b (record { line = f; begun = true; used = s .used }) l out kept
-other l out room s b f kept e h k = rw (ne-eqb b 10 e) (ap (λ (x : Reader). record { line = x; begun = true; used = s .used }) h, refl, refl, k)
+    Takes l out room s b (record { line = f; begun = true; used = s .used; first = s .first }) l out kept
+other l out room s b f kept e h k =
+    rw (ne-eqb b 10 e) (ap (λ (x : Reader). record { line = x; begun = true; used = s .used; first = s .first }) h, refl, refl, k)
 
 -- ---- the input's end
 pub last-line :
     (l out room : List ℕ) (s : Session) (end : ℕ) (m after kept : List ℕ) → s .begun ≡ true → EndsLine l out room s end m after →
-    kept ≡ keptIn (s .line) room → EndsLast l out room s end m after kept
+    kept ≡ lastIn (s .line) room → EndsLast l out room s end m after kept
 last-line l out room s end m after kept e x k = rw e (x, k)
 
 pub no-line : (l out room : List ℕ) (s : Session) → s .begun ≡ false → EndsLast l out room s (s .used) l out room
@@ -99,9 +100,10 @@ pub read-fed :
 read-fed l out room s e bs r m after kept h f =
     record { bytes = bs; out = out; after = after; feeds = subst (λ (x : Session). Feeds l out room x bs (r .session) m after kept) h f }
 
-pub none-read : (l room : List ℕ) (line : Reader) → line ≡ fresh → ReadsAll l room (record { line = line; begun = false; used = 0 }) l room
+pub none-read : (l room : List ℕ) (line : Reader) → line ≡ fresh → ReadsAll l room (record { line = line; begun = false; used = 0; first = true }) l room
 none-read l room line e =
-    subst (λ (x : Reader). ReadsAll l room (record { line = x; begun = false; used = 0 }) l room) (sym e) (record { bytes = []; text = []; runs = start })
+    subst (λ (x : Reader). ReadsAll l room (record { line = x; begun = false; used = 0; first = true }) l room) (sym e)
+    (record { bytes = []; text = []; runs = start })
 
 pub read-more :
     (l room : List ℕ) (q : Session) (k n : List ℕ) (r : Turn) (m kept : List ℕ) → ReadsAll l room q k n → Reads k n q r m kept →

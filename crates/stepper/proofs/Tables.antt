@@ -11,7 +11,7 @@ use lib.ListN.{length, take, set, getD, replicate, length-append, length-take, L
 use lib.Seq.{take-all, getD-take, take-suc-set}
 use Rattle.lines.specs.Reading.{low, twoBytes}
 use Rattle.lines.specs.Handed.{Low, nightBytes}
-use Rattle.lines.proofs.Runs.{two-length}
+use Rattle.lines.proofs.Rooms.{two-length}
 use Rattle.lines.proofs.Handing.{low-at}
 use Rattle.controller.specs.declared.nights.Night.{Night}
 use Rattle.controller.specs.Nights.{Nights}

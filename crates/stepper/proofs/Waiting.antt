@@ -1,7 +1,7 @@
 -- The answers that wait, and a line put behind them. Assumes nothing.
 use Prim.Native.Nat.{ℕ, _+_, _-_, _≤_}
 use mathlib.Core.Path.{_≡_, refl, ap, ap₂, sym, subst, _∙_}
-use mathlib.Core.Bool.{true}
+use mathlib.Core.Bool.{Bool, true}
 use mathlib.Core.List.{List, _++_, append-assoc}
 use native.Mathlib.Omega.{arith}
 use borrow.Author.Tests.{le-leb}
@@ -67,13 +67,13 @@ written-for a b l n m e x = subst (λ (y : Answer). Written l (lineFor y) n m) (
 
 -- ---- a line has ended
 pub ended :
-    (l : List ℕ) (line read : Line) (room kept out : List ℕ) (used size : ℕ) (r : Answer) (m rest : List ℕ) → read ≡ line → kept ≡ room →
-    Answers l read kept r m → used + 96 ≤ length out → Written (take (used + 96 - used) (drop used out)) (lineFor r) size rest →
-    Ends l line room out used (used + size) m (take used out ++ (rest ++ drop (used + 96 - used) (drop used out)))
-ended l line read room kept out used size r m rest e k a h x =
+    (f : Bool) (l : List ℕ) (line read : Line) (room kept out : List ℕ) (used size : ℕ) (r : Answer) (m rest : List ℕ) → read ≡ line → kept ≡ room →
+    Answers f l read kept r m → used + 96 ≤ length out → Written (take (used + 96 - used) (drop used out)) (lineFor r) size rest →
+    Ends f l line room out used (used + size) m (take used out ++ (rest ++ drop (used + 96 - used) (drop used out)))
+ended f l line read room kept out used size r m rest e k a h x =
     record {
       reply = r;
-      answers = subst (λ (y : Line). Answers l y room r m) e (subst (λ (y : List ℕ). Answers l read y r m) k a);
+      answers = subst (λ (y : Line). Answers f l y room r m) e (subst (λ (y : List ℕ). Answers f l read y r m) k a);
       puts = puts-written out used (lineFor r) size rest h x;
     }
 

@@ -3,29 +3,32 @@
 use Prim.Native.Nat.{ℕ, zero, suc, _+_, _*_}
 use mathlib.Core.Path.{_≡_}
 use mathlib.Core.List.{List, [], _∷_, _++_}
-use mathlib.Core.Bool.{Bool, cond}
+use mathlib.Core.Bool.{Bool, true, false, cond}
 use lib.Dec.{ltb}
 use lib.ListN.{length, take, getD}
 use Rattle.kinds.specs.Events.{refusal}
 use Rattle.kinds.specs.Outcome.{both}
 use Rattle.machine.specs.Calls as machine
+use Rattle.machine.specs.Import.{Import}
 use Rattle.image.specs.View.{written}
 use Rattle.lines.specs.declared.reading.Line.{Line}
 use Rattle.lines.specs.declared.reading.Call.{Call}
-use Rattle.lines.specs.declared.reading.Call.the-variants.{Unreadable, Append, Rollback, Start, Stop, Connect, Disconnect, Master, Sync, Work, Fold, Why, Night}
-use Rattle.lines.specs.Replies.{replyLine, whyLine, nightLine}
+use Rattle.lines.specs.declared.reading.Call.the-variants.{Unreadable, Append, Rollback, Start, Stop, Connect, Disconnect, Master, Sync, Work, Fold, Why, Night, Import as ImportLine}
+use Rattle.lines.specs.Replies.{replyLine, whyLine, nightLine, importLine}
 use Rattle.controller.specs.Bytes.{appendOf}
 use Rattle.controller.specs.Claims.{outcomeOf}
 use Rattle.controller.specs.Reasons.{whyOf}
 use Rattle.controller.specs.Nights.{lentFrom, given, nightIn}
+use Rattle.controller.specs.Imports.{told, importIn, imageAfter}
 use Rattle.stepper.specs.declared.Answer.{Answer}
-use Rattle.stepper.specs.declared.Answer.the-variants.{Replied, Explained, Slept}
+use Rattle.stepper.specs.declared.Answer.the-variants.{Replied, Explained, Slept, Began}
 
 -- the line that is written for an answer
 abbrev pub lineFor : Answer → List ℕ
 lineFor (Replied r) = replyLine r
 lineFor (Explained w) = whyLine (w .answer) (w .reason) (w .named)
 lineFor (Slept w) = nightLine (w .answer) (w .jobs) (w .stopped)
+lineFor (Began w) = importLine (w .answer) (w .position)
 
 -- a call made on the image l: the controller's contract (controller Claims), its reply the answer
 abbrev pub Replies : List ℕ → machine.Call → Answer → List ℕ → Type 0
@@ -64,42 +67,59 @@ Sleeps l n b os a m = let w = nightIn l n b os in (a ≡ Slept (given w [])) × 
 abbrev pub Refuses : List ℕ → Answer → List ℕ → Type 0
 Refuses l a m = (a ≡ Replied (refusal 2)) × (m ≡ l)
 
--- what a line asks for, with the bytes b of its room, on the image l
-abbrev pub AnswersCall : Call → List ℕ → List ℕ → Answer → List ℕ → Type 0
-AnswersCall Unreadable b l a m = Refuses l a m
-AnswersCall Append b l a m = Replies l (appendOf b) a m
-AnswersCall (Rollback n) b l a m = Replies l (machine.rollback n) a m
-AnswersCall Start b l a m = Replies l machine.start a m
-AnswersCall Stop b l a m = Replies l machine.stop a m
-AnswersCall (Connect n) b l a m = Replies l (machine.connect n) a m
-AnswersCall (Disconnect n) b l a m = Replies l (machine.disconnect n) a m
-AnswersCall (Master n) b l a m = Replies l (machine.master n) a m
-AnswersCall (Sync n) b l a m = Replies l (machine.sync n) a m
-AnswersCall (Work n j i o c) b l a m = Replies l (machine.work n j i o c) a m
-AnswersCall (Fold n) b l a m = Replies l (machine.foldTo n) a m
-AnswersCall (Why n j i) b l a m = Explains l n j i a m
-AnswersCall (Night n k) b l a m = Sleeps l n k (tableIn b) a m
+-- an import (order 6): the image is what it leaves, or, refused, what it had been
+abbrev pub Begins : List ℕ → Import → Answer → List ℕ → Type 0
+Begins l x a m = (a ≡ Began (told x)) × (m ≡ imageAfter x l)
+
+-- it stands in place of the fresh start, so it is read as the first line only; behind another line it cannot be read
+abbrev pub BeginsIf : Bool → List ℕ → Import → Answer → List ℕ → Type 0
+BeginsIf true l x a m = Begins l x a m
+BeginsIf false l x a m = Refuses l a m
+
+-- what a line asks for, with the bytes b of its room, on the image l; f tells whether it is the first line
+abbrev pub AnswersCall : Bool → Call → List ℕ → List ℕ → Answer → List ℕ → Type 0
+AnswersCall f Unreadable b l a m = Refuses l a m
+AnswersCall f Append b l a m = Replies l (appendOf b) a m
+AnswersCall f (Rollback n) b l a m = Replies l (machine.rollback n) a m
+AnswersCall f Start b l a m = Replies l machine.start a m
+AnswersCall f Stop b l a m = Replies l machine.stop a m
+AnswersCall f (Connect n) b l a m = Replies l (machine.connect n) a m
+AnswersCall f (Disconnect n) b l a m = Replies l (machine.disconnect n) a m
+AnswersCall f (Master n) b l a m = Replies l (machine.master n) a m
+AnswersCall f (Sync n) b l a m = Replies l (machine.sync n) a m
+AnswersCall f (Work n j i o c) b l a m = Replies l (machine.work n j i o c) a m
+AnswersCall f (Fold n) b l a m = Replies l (machine.foldTo n) a m
+AnswersCall f (Why n j i) b l a m = Explains l n j i a m
+AnswersCall f (Night n k) b l a m = Sleeps l n k (tableIn b) a m
+AnswersCall f ImportLine b l a m = BeginsIf f l (importIn l b) a m
 
 -- they are the first `length` bytes of the room
-abbrev pub Answers : List ℕ → Line → List ℕ → Answer → List ℕ → Type 0
-Answers l line room a m = AnswersCall (line .call) (take (line .length) room) l a m
+abbrev pub Answers : Bool → List ℕ → Line → List ℕ → Answer → List ℕ → Type 0
+Answers f l line room a m = AnswersCall f (line .call) (take (line .length) room) l a m
 
 -- ---- no second outcome
-answers-call-only : (c : Call) (b l : List ℕ) (r q : Answer) (m n : List ℕ) → AnswersCall c b l r m → AnswersCall c b l q n → (r ≡ q) × (m ≡ n)
-answers-call-only Unreadable b l r q m n = both
-answers-call-only Append b l r q m n = both
-answers-call-only (Rollback i) b l r q m n = both
-answers-call-only Start b l r q m n = both
-answers-call-only Stop b l r q m n = both
-answers-call-only (Connect i) b l r q m n = both
-answers-call-only (Disconnect i) b l r q m n = both
-answers-call-only (Master i) b l r q m n = both
-answers-call-only (Sync i) b l r q m n = both
-answers-call-only (Work i j k o c) b l r q m n = both
-answers-call-only (Fold i) b l r q m n = both
-answers-call-only (Why i j k) b l r q m n = both
-answers-call-only (Night i k) b l r q m n = both
+pub begins-if-only : (f : Bool) (l : List ℕ) (x : Import) (r q : Answer) (m n : List ℕ) → BeginsIf f l x r m → BeginsIf f l x q n → (r ≡ q) × (m ≡ n)
+begins-if-only true l x r q m n = both
+begins-if-only false l x r q m n = both
+
+answers-call-only :
+    (f : Bool) (c : Call) (b l : List ℕ) (r q : Answer) (m n : List ℕ) → AnswersCall f c b l r m → AnswersCall f c b l q n → (r ≡ q) × (m ≡ n)
+answers-call-only f Unreadable b l r q m n = both
+answers-call-only f Append b l r q m n = both
+answers-call-only f (Rollback i) b l r q m n = both
+answers-call-only f Start b l r q m n = both
+answers-call-only f Stop b l r q m n = both
+answers-call-only f (Connect i) b l r q m n = both
+answers-call-only f (Disconnect i) b l r q m n = both
+answers-call-only f (Master i) b l r q m n = both
+answers-call-only f (Sync i) b l r q m n = both
+answers-call-only f (Work i j k o c) b l r q m n = both
+answers-call-only f (Fold i) b l r q m n = both
+answers-call-only f (Why i j k) b l r q m n = both
+answers-call-only f (Night i k) b l r q m n = both
+answers-call-only f ImportLine b l r q m n = begins-if-only f l (importIn l b) r q m n
 
 pub answers-only :
-    (l : List ℕ) (line : Line) (room : List ℕ) (r q : Answer) (m n : List ℕ) → Answers l line room r m → Answers l line room q n → (r ≡ q) × (m ≡ n)
-answers-only l line room r q m n = answers-call-only (line .call) (take (line .length) room) l r q m n
+    (f : Bool) (l : List ℕ) (line : Line) (room : List ℕ) (r q : Answer) (m n : List ℕ) → Answers f l line room r m → Answers f l line room q n →
+    (r ≡ q) × (m ≡ n)
+answers-only f l line room r q m n = answers-call-only f (line .call) (take (line .length) room) l r q m n

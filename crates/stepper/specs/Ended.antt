@@ -2,6 +2,7 @@
 -- Assumes nothing.
 use Prim.Native.Nat.{ℕ, _+_, _≤_}
 use mathlib.Core.Path.{_≡_, ap, ap₂, sym, subst, _∙_}
+use mathlib.Core.Bool.{Bool}
 use mathlib.Core.List.{List, _++_}
 use lib.ListN.{length, take, drop, take-append-drop}
 use Rattle.kinds.specs.Outcome.{one}
@@ -21,10 +22,11 @@ pub record Puts (out : List ℕ) (used : ℕ) (t : List ℕ) (end : ℕ) (after 
   pub holds : take end after ≡ take used out ++ t
   pub behind : drop end after ≡ drop end out
 
--- the line, with its room, on the image l is answered, and m is left; behind those that wait stands the line of the answer
-pub record Ends (l : List ℕ) (line : Line) (room out : List ℕ) (used end : ℕ) (m after : List ℕ) : Type 0 where
+-- the line, with its room, on the image l is answered, and m is left; behind those that wait stands the line of the answer. f tells
+-- whether it is the first line
+pub record Ends (f : Bool) (l : List ℕ) (line : Line) (room out : List ℕ) (used end : ℕ) (m after : List ℕ) : Type 0 where
   pub reply : Answer
-  pub answers : Answers l line room reply m
+  pub answers : Answers f l line room reply m
   pub puts : Puts out used (lineFor reply) end after
 
 -- ---- no second outcome
@@ -37,10 +39,10 @@ puts-only out used t e f a b x y =
     (h, parted out used t e a x ∙ ap (λ (k : ℕ). take used out ++ t ++ drop k out) h ∙ sym (parted out used t f b y))
 
 pub ends-only :
-    (l : List ℕ) (line : Line) (room out : List ℕ) (used e f : ℕ) (m n a b : List ℕ) → Ends l line room out used e m a → Ends l line room out used f n b →
-    (e ≡ f) × (m ≡ n) × (a ≡ b)
-ends-only l line room out used e f m n a b x y =
-    let s = answers-only l line room (x .reply) (y .reply) m n (x .answers) (y .answers) in
+    (g : Bool) (l : List ℕ) (line : Line) (room out : List ℕ) (used e f : ℕ) (m n a b : List ℕ) → Ends g l line room out used e m a →
+    Ends g l line room out used f n b → (e ≡ f) × (m ≡ n) × (a ≡ b)
+ends-only g l line room out used e f m n a b x y =
+    let s = answers-only g l line room (x .reply) (y .reply) m n (x .answers) (y .answers) in
     let p = subst (λ (r : Answer). Puts out used (lineFor r) e a) (s .0) (x .puts) in
     let t = puts-only out used (lineFor (y .reply)) e f a b p (y .puts) in
     (t .0, s .1, t .1)

@@ -1,7 +1,7 @@
 -- The input, block by block as the reads cut it: each block is fed where the one before it left off, and what waits behind it
 -- is what is handed to be written. What a read brings and a write takes, no contract can say. Assumes nothing.
 use Prim.Native.Nat.{ℕ}
-use mathlib.Core.Bool.{false}
+use mathlib.Core.Bool.{true, false}
 use mathlib.Core.List.{List, [], _++_}
 use lib.ListN.{take}
 use Rattle.lines.specs.Reading.{fresh}
@@ -9,9 +9,9 @@ use Rattle.stepper.specs.declared.Session.{Session}
 use Rattle.stepper.specs.declared.Turn.{Turn}
 use Rattle.stepper.specs.Fed.{emptied, Feeds}
 
--- where a session begins
+-- where a session begins: no line came before its first
 abbrev pub begins : Session
-begins = record { line = fresh; begun = false; used = 0 }
+begins = record { line = fresh; begun = false; used = 0; first = true }
 
 -- from the image l, the room and the session s: the bytes of some blocks, and the text that was handed on after them
 pub data Runs (l room : List ℕ) (s : Session) : List ℕ → List ℕ → Session → List ℕ → List ℕ → Type 0 where

@@ -2,14 +2,17 @@
 -- the controller decides for the call that it says, and then the closing line stands. Assumes nothing.
 use Prim.Native.Nat.{ℕ}
 use mathlib.Core.Path.{_≡_}
-use mathlib.Core.Bool.{cond}
+use mathlib.Core.Bool.{Bool, true, false, cond}
 use mathlib.Core.List.{List, [], _∷_, _++_}
 use lib.Dec.{eqb}
+use lib.ListN.{length}
 use Rattle.machine.specs.Calls.{Call}
-use Rattle.lines.specs.Forms.{Asked, calls, why, night}
+use Rattle.machine.specs.Import.{Entry, Import, import}
+use Rattle.image.specs.Layout.{imageLength}
+use Rattle.lines.specs.Forms.{Asked, calls, why, night, imports}
 use Rattle.lines.specs.Grammar.{Says}
 use Rattle.stepper.specs.declared.Answer.{Answer}
-use Rattle.stepper.specs.Answers.{lineFor, Replies, Explains, tableFor, Sleeps, Refuses}
+use Rattle.stepper.specs.Answers.{lineFor, Replies, Explains, tableFor, Sleeps, Refuses, BeginsIf}
 use Rattle.stepper.specs.Closed.{closing}
 
 -- ---- the lines of some bytes
@@ -32,19 +35,26 @@ abbrev pub linesOf : List ℕ → List (List ℕ)
 linesOf bs = linesFrom [] bs ++ lastLine (restFrom [] bs)
 
 -- ---- their answers
+-- an import asked of the image l: one of another length is refused (1) before the list is looked at
+abbrev pub importing : List ℕ → List Entry → Import
+importing l es = cond (eqb (length l) imageLength) (import es) (record { answer = 1; position = 0; calls = [] })
+
 -- the line t on the image l: a line that says a call is replied what is decided for it; one that asks why, the reason; one that
--- asks for a night, how it went; one that says nothing, 2; and but for a call and a night every byte is what it had been
-pub record Answered (l t : List ℕ) (r : Answer) (m : List ℕ) : Type 0 where
+-- asks for a night, how it went; one that says an import, whether it is taken, if it is the first line, else 2; one that says
+-- nothing, 2; and but for a call, a night and an import every byte is what it had been. f tells whether it is the first line
+pub record Answered (f : Bool) (l t : List ℕ) (r : Answer) (m : List ℕ) : Type 0 where
   pub asks : (c : Call) → Says t (calls c) → Replies l c r m
   pub explains : (n j i : ℕ) → Says t (why n j i) → Explains l n j i r m
   pub sleeps : (n b : ℕ) (os : List ℕ) → Says t (night n b os) → Sleeps l n b (tableFor os) r m
+  pub enters : (es : List Entry) → Says t (imports es) → BeginsIf f l (importing l es) r m
   pub refuses : ((x : Asked) → Says t x → ⊥) → Refuses l r m
 
--- the lines on the image l were replied one after another, and m is left
-pub data Told : List ℕ → List (List ℕ) → List Answer → List ℕ → Type 0 where
-  none : {l : List ℕ} → Told l [] [] l
+-- the lines on the image l were replied one after another, and m is left; f tells whether no line came before them
+pub data Told : Bool → List ℕ → List (List ℕ) → List Answer → List ℕ → Type 0 where
+  none : {f : Bool} {l : List ℕ} → Told f l [] [] l
   next :
-      {l k m : List ℕ} {ts : List (List ℕ)} {rs : List Answer} (t : List ℕ) (r : Answer) → Answered l t r k → Told k ts rs m → Told l (t ∷ ts) (r ∷ rs) m
+      {f : Bool} {l k m : List ℕ} {ts : List (List ℕ)} {rs : List Answer} (t : List ℕ) (r : Answer) → Answered f l t r k → Told false k ts rs m →
+      Told f l (t ∷ ts) (r ∷ rs) m
 
 unfoldable pub replyLines : List Answer → List ℕ
 replyLines [] = []
@@ -53,5 +63,5 @@ replyLines (r ∷ rs) = lineFor r ++ replyLines rs
 -- ---- all that is written for the bytes of an input
 pub record Transcript (l bytes text m : List ℕ) : Type 0 where
   pub replies : List Answer
-  pub told : Told l (linesOf bytes) replies m
+  pub told : Told true l (linesOf bytes) replies m
   pub writes : text ≡ replyLines replies ++ closing m

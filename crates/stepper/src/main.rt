@@ -6,16 +6,18 @@
 ghost use Prim.Native.Nat.{_+_, _*_, _≤_};
 ghost use mathlib.Core.Path.{_≡_};
 ghost use lib.ListN.{length, take, getD};
-ghost use Rattle.lines.specs.Reading.{keptIn};
+ghost use Rattle.lines.specs.Reading.{lastIn};
 ghost use Rattle.lines.specs.Replies.{Written};
 ghost use Rattle.controller.specs.Bytes.{appendOf};
 ghost use Rattle.controller.specs.Claims.{Claims};
+ghost use Rattle.controller.specs.Imports.{importIn};
 ghost use Rattle.stepper.specs.declared.Answer.the-variants.{Slept};
-ghost use Rattle.stepper.specs.Answers.{Answers, Sleeps, placesIn, tableIn, lineFor};
+ghost use Rattle.stepper.specs.Answers.{Answers, Sleeps, placesIn, tableIn, BeginsIf, lineFor};
 ghost use Rattle.stepper.specs.Ended.{answerRoom};
 ghost use Rattle.stepper.specs.Fed.{emptied, EndsLine, Takes, Feeds, EndsLast};
 ghost use Rattle.stepper.specs.Closed.{Closes, EndsInput};
 ghost use Rattle.stepper.specs.Runs.{Reads, ReadsAll};
+use controller::Imported;
 use controller::Night;
 use controller::Why;
 use kinds::Reply;
@@ -35,11 +37,13 @@ const BLOCK: usize = 4096;
 // Room for an answer to each byte of a block, for each may be a newline: so no answer waits while a block is fed.
 const ANSWERS: usize = ANSWER * BLOCK;
 
-// Between two bytes: the line so far, whether it has a byte, and how much of the buffer is answers not yet written.
+// Between two bytes: the line so far, whether it has a byte, how much of the buffer is answers not yet written, and whether no line
+// came before it.
 struct Session {
     line: Reader,
     begun: bool,
     used: usize,
+    first: bool,
 }
 
 // After a read: whether there may be more, and whether all was read and written that should have been.
@@ -49,11 +53,12 @@ struct Turn {
     whole: bool,
 }
 
-// What a line is answered: a call's reply, why a job does not move, or how a night went.
+// What a line is answered: a call's reply, why a job does not move, how a night went, or whether a list was imported.
 enum Answer {
     Replied(Reply),
     Explained(Why),
     Slept(Night),
+    Began(Imported),
 }
 
 fn append(image: &mut [u8], room: &[u8], n: usize) -> Reply
@@ -101,10 +106,21 @@ fn night(image: &mut [u8], node: u16, budget: u16, room: &[u8], n: usize) -> Nig
     controller::night(image, node, budget, &table[..257], &mut none[..0])
 }
 
+// An import, in place of the fresh start; behind another line it cannot be read.
+fn import(image: &mut [u8], room: &[u8], n: usize, first: bool) -> Answer
+    requires { ⌜ n ≤ length (now room) ⌝ }
+    ensures { λ r. ⌜ BeginsIf first (now (image .entry)) (importIn (now (image .entry)) (take n (now (room .entry)))) r (now (image .exit)) ⌝ }
+{
+    if first {
+        return Answer::Began(controller::import(image, &room[..n]));
+    }
+    Answer::Replied(Reply::of(2))
+}
+
 // What a line asks for, asked of the image; an append's pairs stand in the room; an unreadable line is refused with 2.
-fn ask(image: &mut [u8], line: Line, room: &[u8]) -> Answer
+fn ask(image: &mut [u8], line: Line, room: &[u8], first: bool) -> Answer
     requires { ⌜ line .length ≤ length (now room) ⌝ }
-    ensures { λ r. ⌜ Answers (now (image .entry)) line (now (room .entry)) r (now (image .exit)) ⌝ }
+    ensures { λ r. ⌜ Answers first (now (image .entry)) line (now (room .entry)) r (now (image .exit)) ⌝ }
 {
     let call = line.call;
     match call {
@@ -138,6 +154,7 @@ fn ask(image: &mut [u8], line: Line, room: &[u8]) -> Answer
             room,
             line.length,
         )),
+        Call::Import => import(image, room, line.length, first),
     }
 }
 
@@ -149,16 +166,17 @@ fn write(out: &mut [u8], a: Answer) -> usize
         Answer::Replied(reply) => lines::write_reply(out, reply),
         Answer::Explained(w) => lines::write_why(out, w.answer, w.reason, w.named),
         Answer::Slept(w) => lines::write_night(out, w.answer, w.jobs, w.stopped),
+        Answer::Began(w) => lines::write_import(out, w.answer, w.position),
     }
 }
 
 // A line has ended: what it asks is asked, and its answer put behind those that wait; answers how many bytes wait.
-fn end_line(image: &mut [u8], out: &mut [u8], room: &mut [u8; 518], s: Session) -> usize
+fn end_line(image: &mut [u8], out: &mut [u8], room: &mut [u8; 5140], s: Session) -> usize
     requires { ⌜ s .used + answerRoom ≤ length (now out) ⌝ }
-    ensures { λ r. ⌜ EndsLine (now (image .entry)) (now (out .entry)) (now (room .entry)) s r (now (image .exit)) (now (out .exit)) × (now (room .exit) ≡ keptIn (s .line) (now (room .entry))) ⌝ }
+    ensures { λ r. ⌜ EndsLine (now (image .entry)) (now (out .entry)) (now (room .entry)) s r (now (image .exit)) (now (out .exit)) × (now (room .exit) ≡ lastIn (s .line) (now (room .entry))) ⌝ }
 {
     let line = lines::finish(s.line, room);
-    let a = ask(image, line, &room[..]);
+    let a = ask(image, line, &room[..], s.first);
     let at = s.used;
     let end = at + ANSWER;
     let n = write(&mut out[at..end], a);
@@ -166,7 +184,7 @@ fn end_line(image: &mut [u8], out: &mut [u8], room: &mut [u8; 518], s: Session) 
 }
 
 // One byte: a newline ends the line, any other belongs to it.
-fn take_byte(image: &mut [u8], out: &mut [u8], room: &mut [u8; 518], s: Session, b: u8) -> Session
+fn take_byte(image: &mut [u8], out: &mut [u8], room: &mut [u8; 5140], s: Session, b: u8) -> Session
     requires { ⌜ s .used + answerRoom ≤ length (now out) ⌝ }
     ensures { λ r. ⌜ Takes (now (image .entry)) (now (out .entry)) (now (room .entry)) s b r (now (image .exit)) (now (out .exit)) (now (room .exit)) ⌝ }
 {
@@ -177,6 +195,7 @@ fn take_byte(image: &mut [u8], out: &mut [u8], room: &mut [u8; 518], s: Session,
             line,
             begun: false,
             used,
+            first: false,
         };
     }
     let line = lines::push(s.line, room, b);
@@ -184,11 +203,18 @@ fn take_byte(image: &mut [u8], out: &mut [u8], room: &mut [u8; 518], s: Session,
         line,
         begun: true,
         used: s.used,
+        first: s.first,
     }
 }
 
 // The bytes of one read.
-fn feed(image: &mut [u8], out: &mut [u8], room: &mut [u8; 518], s: Session, block: &[u8]) -> Session
+fn feed(
+    image: &mut [u8],
+    out: &mut [u8],
+    room: &mut [u8; 5140],
+    s: Session,
+    block: &[u8],
+) -> Session
     requires { ⌜ s .used + answerRoom * length (now block) ≤ length (now out) ⌝ }
     ensures { λ r. ⌜ Feeds (now (image .entry)) (now (out .entry)) (now (room .entry)) s (now (block .entry)) r (now (image .exit)) (now (out .exit)) (now (room .exit)) ⌝ }
 {
@@ -202,7 +228,7 @@ fn feed(image: &mut [u8], out: &mut [u8], room: &mut [u8; 518], s: Session, bloc
 }
 
 // The last line, if it has no newline; answers how many bytes wait.
-fn end_last(image: &mut [u8], out: &mut [u8], room: &mut [u8; 518], s: Session) -> usize
+fn end_last(image: &mut [u8], out: &mut [u8], room: &mut [u8; 5140], s: Session) -> usize
     requires { ⌜ s .used + answerRoom ≤ length (now out) ⌝ }
     ensures { λ r. ⌜ EndsLast (now (image .entry)) (now (out .entry)) (now (room .entry)) s r (now (image .exit)) (now (out .exit)) (now (room .exit)) ⌝ }
 {
@@ -236,7 +262,7 @@ fn close(image: &[u8], out: &mut [u8], used: usize) -> usize
 }
 
 // The input's end: the last line and the closing line; answers how many bytes wait.
-fn end_input(image: &mut [u8], out: &mut [u8], room: &mut [u8; 518], s: Session) -> usize
+fn end_input(image: &mut [u8], out: &mut [u8], room: &mut [u8; 5140], s: Session) -> usize
     requires { ⌜ s .used + answerRoom * 2 ≤ length (now out) ⌝ }
     ensures { λ r. ⌜ EndsInput (now (image .entry)) (now (out .entry)) (now (room .entry)) s r (now (image .exit)) (now (out .exit)) (now (room .exit)) ⌝ }
 {
@@ -253,6 +279,7 @@ fn written(s: Session) -> Session
         line,
         begun: s.begun,
         used: 0,
+        first: s.first,
     }
 }
 
@@ -282,7 +309,7 @@ fn readable(got: isize) -> bool {
 }
 
 // Reads once and writes the answer to every line that ended: who types a line sees its answer.
-fn read_once(image: &mut [u8], out: &mut [u8; ANSWERS], room: &mut [u8; 518], s: Session) -> Turn
+fn read_once(image: &mut [u8], out: &mut [u8; ANSWERS], room: &mut [u8; 5140], s: Session) -> Turn
     ensures { λ r. ⌜ Reads (now (image .entry)) (now (room .entry)) s r (now (image .exit)) (now (room .exit)) ⌝ }
 {
     let mut block = io::buffer();
@@ -299,7 +326,7 @@ fn read_once(image: &mut [u8], out: &mut [u8; ANSWERS], room: &mut [u8; 518], s:
 }
 
 // Nothing says that the input ends, so the reads are counted down, from a number that no run uses up.
-fn read_all(image: &mut [u8], out: &mut [u8; ANSWERS], room: &mut [u8; 518]) -> Turn
+fn read_all(image: &mut [u8], out: &mut [u8; ANSWERS], room: &mut [u8; 5140]) -> Turn
     ensures { λ r. ⌜ ReadsAll (now (image .entry)) (now (room .entry)) (r .session) (now (image .exit)) (now (room .exit)) ⌝ }
 {
     let line = lines::fresh();
@@ -307,6 +334,7 @@ fn read_all(image: &mut [u8], out: &mut [u8; ANSWERS], room: &mut [u8; 518]) -> 
         line,
         begun: false,
         used: 0,
+        first: true,
     };
     let mut reads = u64::MAX;
     while reads > 0 {
@@ -325,7 +353,7 @@ fn read_all(image: &mut [u8], out: &mut [u8; ANSWERS], room: &mut [u8; 518]) -> 
 }
 
 // Writes what the input's end is answered: the last line, if it has no newline, and the closing line.
-fn write_end(image: &mut [u8], out: &mut [u8; ANSWERS], room: &mut [u8; 518], s: Session) {
+fn write_end(image: &mut [u8], out: &mut [u8; ANSWERS], room: &mut [u8; 5140], s: Session) {
     let used = end_input(image, out, room, written(s));
     put(out, used);
 }
@@ -335,7 +363,7 @@ fn main() {
     let mut image = [0u8; controller::IMAGE_LENGTH];
     controller::fresh(&mut image);
     let mut out = [0u8; ANSWERS];
-    let mut room = [0u8; 518];
+    let mut room = [0u8; 5140];
     let turn = read_all(&mut image, &mut out, &mut room);
     if turn.whole {
         write_end(&mut image, &mut out, &mut room, turn.session);

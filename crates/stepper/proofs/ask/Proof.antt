@@ -1,4 +1,4 @@
--- `ask` makes the call that the line asks for, asks why, or makes a night. Assumes nothing.
+-- `ask` makes the call that the line asks for, asks why, makes a night or imports. Assumes nothing.
 use mathlib.Core.Path.{refl, ap}
 use Rattle.stepper.specs.declared.Answer.the-variants.{Replied, Explained}
 use Rattle.stepper.proofs.Answered.{asked, replied}
@@ -84,91 +84,104 @@ enum-known-call-9 c = search needs
 night-requires : tie.Need-night-requires
 night-requires c κs = search needs
 
+enum-told-5 : tie.Need-enum-told-5
+enum-told-5 c = search needs
+
+import-requires : tie.Need-import-requires
+import-requires c κs = search needs
+
 returns : tie.Need-returns
-returns c = asked (c .before .before .before .before .before .args .line) _ _ _ _ _ (c .before .enum-told .given .1) (ap Replied (c .of .ensures), refl)
+returns c = asked (c .before .before .before .before .before .args .first) (c .before .before .before .before .before .args .line) _ _ _ _ _ (c .before .enum-told .given .1) (ap Replied (c .of .ensures), refl)
 
 same-length : tie.Need-same-length
 same-length c = search needs
 
 returns-2 : tie.Need-returns-2
-returns-2 c = asked (c .before .before .before .before .before .before .before .before .args .line) _ _ _ _ _
+returns-2 c = asked (c .before .before .before .before .before .before .before .before .args .first) (c .before .before .before .before .before .before .before .before .args .line) _ _ _ _ _
     (c .before .before .before .before .enum-told2 .given .1) (replied _ _ _ _ (c .before .before .append .ensures))
 
 same-length-2 : tie.Need-same-length-2
 same-length-2 c = search needs
 
 returns-3 : tie.Need-returns-3
-returns-3 c = asked (c .before .before .before .before .before .before .before .before .before .args .line) _ _ _ _ _
+returns-3 c = asked (c .before .before .before .before .before .before .before .before .before .args .first) (c .before .before .before .before .before .before .before .before .before .args .line) _ _ _ _ _
     (c .before .before .before .before .before .call .given .1) (replied _ _ _ _ (c .before .before .rollback .ensures))
 
 same-length-3 : tie.Need-same-length-3
 same-length-3 c = search needs
 
 returns-4 : tie.Need-returns-4
-returns-4 c = asked (c .before .before .before .before .before .before .before .before .args .line) _ _ _ _ _
+returns-4 c = asked (c .before .before .before .before .before .before .before .before .args .first) (c .before .before .before .before .before .before .before .before .args .line) _ _ _ _ _
     (c .before .before .before .before .enum-told3 .given .1) (replied _ _ _ _ (c .before .before .start .ensures))
 
 same-length-4 : tie.Need-same-length-4
 same-length-4 c = search needs
 
 returns-5 : tie.Need-returns-5
-returns-5 c = asked (c .before .before .before .before .before .before .before .before .args .line) _ _ _ _ _
+returns-5 c = asked (c .before .before .before .before .before .before .before .before .args .first) (c .before .before .before .before .before .before .before .before .args .line) _ _ _ _ _
     (c .before .before .before .before .enum-told4 .given .1) (replied _ _ _ _ (c .before .before .stop .ensures))
 
 same-length-5 : tie.Need-same-length-5
 same-length-5 c = search needs
 
 returns-6 : tie.Need-returns-6
-returns-6 c = asked (c .before .before .before .before .before .before .before .before .before .args .line) _ _ _ _ _
+returns-6 c = asked (c .before .before .before .before .before .before .before .before .before .args .first) (c .before .before .before .before .before .before .before .before .before .args .line) _ _ _ _ _
     (c .before .before .before .before .before .call2 .given .1) (replied _ _ _ _ (c .before .before .connect .ensures))
 
 same-length-6 : tie.Need-same-length-6
 same-length-6 c = search needs
 
 returns-7 : tie.Need-returns-7
-returns-7 c = asked (c .before .before .before .before .before .before .before .before .before .args .line) _ _ _ _ _
+returns-7 c = asked (c .before .before .before .before .before .before .before .before .before .args .first) (c .before .before .before .before .before .before .before .before .before .args .line) _ _ _ _ _
     (c .before .before .before .before .before .call3 .given .1) (replied _ _ _ _ (c .before .before .disconnect .ensures))
 
 same-length-7 : tie.Need-same-length-7
 same-length-7 c = search needs
 
 returns-8 : tie.Need-returns-8
-returns-8 c = asked (c .before .before .before .before .before .before .before .before .before .args .line) _ _ _ _ _
+returns-8 c = asked (c .before .before .before .before .before .before .before .before .before .args .first) (c .before .before .before .before .before .before .before .before .before .args .line) _ _ _ _ _
     (c .before .before .before .before .before .call4 .given .1) (replied _ _ _ _ (c .before .before .master .ensures))
 
 same-length-8 : tie.Need-same-length-8
 same-length-8 c = search needs
 
 returns-9 : tie.Need-returns-9
-returns-9 c = asked (c .before .before .before .before .before .before .before .before .before .args .line) _ _ _ _ _
+returns-9 c = asked (c .before .before .before .before .before .before .before .before .before .args .first) (c .before .before .before .before .before .before .before .before .before .args .line) _ _ _ _ _
     (c .before .before .before .before .before .call5 .given .1) (replied _ _ _ _ (c .before .before .sync .ensures))
 
 same-length-9 : tie.Need-same-length-9
 same-length-9 c = search needs
 
 returns-10 : tie.Need-returns-10
-returns-10 c = asked (c .before .before .before .before .before .before .before .before .before .args .line) _ _ _ _ _
+returns-10 c = asked (c .before .before .before .before .before .before .before .before .before .args .first) (c .before .before .before .before .before .before .before .before .before .args .line) _ _ _ _ _
     (c .before .before .before .before .before .call6 .given .1) (replied _ _ _ _ (c .before .before .work .ensures))
 
 same-length-10 : tie.Need-same-length-10
 same-length-10 c = search needs
 
 returns-11 : tie.Need-returns-11
-returns-11 c = asked (c .before .before .before .before .before .before .before .before .before .args .line) _ _ _ _ _
+returns-11 c = asked (c .before .before .before .before .before .before .before .before .before .args .first) (c .before .before .before .before .before .before .before .before .before .args .line) _ _ _ _ _
     (c .before .before .before .before .before .call7 .given .1) (replied _ _ _ _ (c .before .before .fold .ensures))
 
 same-length-11 : tie.Need-same-length-11
 same-length-11 c = search needs
 
 returns-12 : tie.Need-returns-12
-returns-12 c = asked (c .before .before .before .before .before .before .before .args .line) _ _ _ _ _
+returns-12 c = asked (c .before .before .before .before .before .before .before .args .first) (c .before .before .before .before .before .before .before .args .line) _ _ _ _ _
     (c .before .before .before .call8 .given .1) (ap Explained (c .why .ensures), refl)
 
 same-length-12 : tie.Need-same-length-12
 same-length-12 c = search needs
 
 returns-13 : tie.Need-returns-13
-returns-13 c = asked (c .before .before .before .before .before .before .before .before .before .args .line) _ _ _ _ _ (c .before .before .before .before .before .call9 .given .1) (c .before .before .night .ensures)
+returns-13 c = asked (c .before .before .before .before .before .before .before .before .before .args .first) (c .before .before .before .before .before .before .before .before .before .args .line) _ _ _ _ _ (c .before .before .before .before .before .call9 .given .1) (c .before .before .night .ensures)
+
+same-length-13 : tie.Need-same-length-13
+same-length-13 c = search needs
+
+returns-14 : tie.Need-returns-14
+returns-14 c = asked (c .before .before .before .before .before .before .before .before .args .first) (c .before .before .before .before .before .before .before .before .args .line) _ _ _ _ _
+    (c .before .before .before .before .enum-told5 .given .1) (c .before .before .import .ensures)
 
 pub ask-spec : {M : Type 1} → statement M
 ask-spec =
@@ -200,6 +213,8 @@ ask-spec =
     why-requires
     enum-known-call-9
     night-requires
+    enum-told-5
+    import-requires
     returns
     same-length
     returns-2
@@ -224,4 +239,6 @@ ask-spec =
     same-length-11
     returns-12
     same-length-12
-    returns-13)
+    returns-13
+    same-length-13
+    returns-14)

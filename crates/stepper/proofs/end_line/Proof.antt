@@ -12,7 +12,7 @@ finish-requires : tie.Need-finish-requires
 finish-requires c κs = search needs
 
 ask-requires : tie.Need-ask-requires
-ask-requires c κs = let h : c .before .before .before .finish .result .length ≤ 518 = rw (c .before .before .before .finish .ensures .0)
+ask-requires c κs = let h : c .before .before .before .finish .result .length ≤ 5140 = rw (c .before .before .before .finish .ensures .0)
     (within (c .before .before .before .before .before .before .before .args .s .line) (now
     (c .before .before .before .before .before .before .before .args .room))) in omega (arith, c .ask-arg3 .given .0)
 
@@ -42,7 +42,7 @@ same-length-2 c = search needs
 
 returns : tie.Need-returns
 returns c = (
-  ended _ _ (c .before .before .before .before .before .before .before .before .before .before .finish .result) _ _ _ _ _ _ _ _
+  ended _ _ _ (c .before .before .before .before .before .before .before .before .before .before .finish .result) _ _ _ _ _ _ _ _
       (c .before .before .before .before .before .before .before .before .before .before .finish .ensures .0)
       (c .before .before .before .before .before .before .before .before .before .before .finish .ensures .1)
       (c .before .before .before .before .before .before .ask .ensures) (search needs)

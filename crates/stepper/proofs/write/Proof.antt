@@ -22,6 +22,12 @@ enum-known-a-3 c = search needs
 write-night-requires : tie.Need-write-night-requires
 write-night-requires c κs = search needs
 
+enum-known-a-4 : tie.Need-enum-known-a-4
+enum-known-a-4 c = search needs
+
+write-import-requires : tie.Need-write-import-requires
+write-import-requires c κs = search needs
+
 same-length : tie.Need-same-length
 same-length c = search needs
 
@@ -40,6 +46,12 @@ same-length-3 c = search needs
 returns-3 : tie.Need-returns-3
 returns-3 c = written-for _ _ _ _ _ (c .before .before .before .before .before .a3 .given .1) (c .before .before .write-night .ensures)
 
+same-length-4 : tie.Need-same-length-4
+same-length-4 c = search needs
+
+returns-4 : tie.Need-returns-4
+returns-4 c = written-for _ _ _ _ _ (c .before .before .before .before .before .a4 .given .1) (c .before .before .write-import .ensures)
+
 pub write-spec : {M : Type 1} → statement M
 write-spec =
     tie.close
@@ -50,9 +62,13 @@ write-spec =
     write-why-requires
     enum-known-a-3
     write-night-requires
+    enum-known-a-4
+    write-import-requires
     same-length
     returns
     same-length-2
     returns-2
     same-length-3
-    returns-3)
+    returns-3
+    same-length-4
+    returns-4)

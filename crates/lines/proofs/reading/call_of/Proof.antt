@@ -54,7 +54,11 @@ returns-12 c = rw (c .match .keys12)
 
 returns-13 : tie.Need-returns-13
 unfolding callOf
-returns-13 c = simp (
+returns-13 c = rw (c .match .keys13)
+
+returns-14 : tie.Need-returns-14
+unfolding callOf
+returns-14 c = simp (
   ne-eqb _ _ (c .match .rest .1),
   ne-eqb _ _ (c .match .rest .0 .1),
   ne-eqb _ _ (c .match .rest .0 .0 .1),
@@ -67,6 +71,7 @@ returns-13 c = simp (
   ne-eqb _ _ (c .match .rest .0 .0 .0 .0 .0 .0 .0 .0 .0 .1),
   ne-eqb _ _ (c .match .rest .0 .0 .0 .0 .0 .0 .0 .0 .0 .0 .1),
   ne-eqb _ _ (c .match .rest .0 .0 .0 .0 .0 .0 .0 .0 .0 .0 .0 .1),
+  ne-eqb _ _ (c .match .rest .0 .0 .0 .0 .0 .0 .0 .0 .0 .0 .0 .0 .1),
 )
 
 pub call-of-spec : {M : Type 1} → statement M
@@ -85,4 +90,5 @@ call-of-spec =
     returns-10
     returns-11
     returns-12
-    returns-13)
+    returns-13
+    returns-14)

@@ -12,8 +12,8 @@ past-requires c κs = search needs
 tag-at-requires : tie.Need-tag-at-requires
 tag-at-requires c κs = search needs
 
-kept-requires : tie.Need-kept-requires
-kept-requires c κs = search needs
+ended-requires : tie.Need-ended-requires
+ended-requires c κs = search needs
 
 line-of-requires : tie.Need-line-of-requires
 line-of-requires c κs = search needs
@@ -22,13 +22,13 @@ returns : tie.Need-returns
 returns c = (
   rw (
     c .line-of .ensures,
-    c .before .before .kept .ensures .0,
-    c .before .before .kept .ensures .1,
+    c .before .before .ended .ensures .0,
+    c .before .before .ended .ensures .1,
     c .before .before .before .before .tag-at .ensures,
     c .before .before .before .before .before .past .ensures,
     c .before .before .before .before .before .before .letter .ensures,
   ),
-  c .before .before .kept .ensures .1,
+  rw (c .before .before .ended .ensures .1, c .before .before .before .before .before .before .letter .ensures),
 )
 
 pub finish-spec : {M : Type 1} → statement M
@@ -38,6 +38,6 @@ finish-spec =
     letter-requires
     past-requires
     tag-at-requires
-    kept-requires
+    ended-requires
     line-of-requires
     returns)

@@ -43,6 +43,9 @@ cell-requires-11 c κs = search needs
 cell-requires-12 : tie.Need-cell-requires-12
 cell-requires-12 c κs = search needs
 
+cell-requires-13 : tie.Need-cell-requires-13
+cell-requires-13 c κs = search needs
+
 returns : tie.Need-returns
 unfolding size
 returns c = in-row _ 0 _ (c .before .match .keys1) (omega arith) (c .cell .ensures)
@@ -93,7 +96,11 @@ returns-12 c = in-row _ 11 _ (c .before .match .keys12) (omega arith) (c .cell12
 
 returns-13 : tie.Need-returns-13
 unfolding size
-returns-13 c = sym (past-table _ (let h = (above {n = 11} (above {n = 10} (above {n = 9} (above {n = 8} (above {n = 7} (above {n = 6} (above {n = 5} (above {n = 4} (above {n = 3} (above {n = 2} (above {n = 1} (above {n = 0} (omega arith) (c .match .rest .0 .0 .0 .0 .0 .0 .0 .0 .0 .0 .0 .1)) (c .match .rest .0 .0 .0 .0 .0 .0 .0 .0 .0 .0 .1)) (c .match .rest .0 .0 .0 .0 .0 .0 .0 .0 .0 .1)) (c .match .rest .0 .0 .0 .0 .0 .0 .0 .0 .1)) (c .match .rest .0 .0 .0 .0 .0 .0 .0 .1)) (c .match .rest .0 .0 .0 .0 .0 .0 .1)) (c .match .rest .0 .0 .0 .0 .0 .1)) (c .match .rest .0 .0 .0 .0 .1)) (c .match .rest .0 .0 .0 .1)) (c .match .rest .0 .0 .1)) (c .match .rest .0 .1)) (c .match .rest .1)) in omega arith))
+returns-13 c = in-row _ 12 _ (c .before .match .keys13) (omega arith) (c .cell13 .ensures)
+
+returns-14 : tie.Need-returns-14
+unfolding size
+returns-14 c = sym (past-table _ (let h = (above {n = 12} (above {n = 11} (above {n = 10} (above {n = 9} (above {n = 8} (above {n = 7} (above {n = 6} (above {n = 5} (above {n = 4} (above {n = 3} (above {n = 2} (above {n = 1} (above {n = 0} (omega arith) (c .match .rest .0 .0 .0 .0 .0 .0 .0 .0 .0 .0 .0 .0 .1)) (c .match .rest .0 .0 .0 .0 .0 .0 .0 .0 .0 .0 .0 .1)) (c .match .rest .0 .0 .0 .0 .0 .0 .0 .0 .0 .0 .1)) (c .match .rest .0 .0 .0 .0 .0 .0 .0 .0 .0 .1)) (c .match .rest .0 .0 .0 .0 .0 .0 .0 .0 .1)) (c .match .rest .0 .0 .0 .0 .0 .0 .0 .1)) (c .match .rest .0 .0 .0 .0 .0 .0 .1)) (c .match .rest .0 .0 .0 .0 .0 .1)) (c .match .rest .0 .0 .0 .0 .1)) (c .match .rest .0 .0 .0 .1)) (c .match .rest .0 .0 .1)) (c .match .rest .0 .1)) (c .match .rest .1)) in omega arith))
 
 pub letter-spec : {M : Type 1} → statement M
 letter-spec =
@@ -111,6 +118,7 @@ letter-spec =
     cell-requires-10
     cell-requires-11
     cell-requires-12
+    cell-requires-13
     returns
     returns-2
     returns-3
@@ -123,4 +131,5 @@ letter-spec =
     returns-10
     returns-11
     returns-12
-    returns-13)
+    returns-13
+    returns-14)

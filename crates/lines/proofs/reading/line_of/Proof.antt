@@ -21,18 +21,22 @@ number-in-requires-5 c κs = search needs
 call-of-requires : tie.Need-call-of-requires
 call-of-requires c κs = search needs
 
-length-of-requires : tie.Need-length-of-requires
-length-of-requires c κs = search needs
+most-of-requires : tie.Need-most-of-requires
+most-of-requires c κs = search needs
+
+at-most-requires : tie.Need-at-most-requires
+at-most-requires c κs = search needs
 
 returns : tie.Need-returns
 returns c = rw (
-  c .length-of .ensures,
-  c .before .call-of .ensures,
-  c .before .before .number-in5 .ensures,
-  c .before .before .before .number-in4 .ensures,
-  c .before .before .before .before .number-in3 .ensures,
-  c .before .before .before .before .before .number-in2 .ensures,
-  c .before .before .before .before .before .before .number-in .ensures,
+  c .at-most .ensures,
+  c .before .most-of .ensures,
+  c .before .before .call-of .ensures,
+  c .before .before .before .number-in5 .ensures,
+  c .before .before .before .before .number-in4 .ensures,
+  c .before .before .before .before .before .number-in3 .ensures,
+  c .before .before .before .before .before .before .number-in2 .ensures,
+  c .before .before .before .before .before .before .before .number-in .ensures,
 )
 
 pub line-of-spec : {M : Type 1} → statement M
@@ -45,5 +49,6 @@ line-of-spec =
     number-in-requires-4
     number-in-requires-5
     call-of-requires
-    length-of-requires
+    most-of-requires
+    at-most-requires
     returns)

@@ -1,6 +1,6 @@
 -- `read` folds the bytes of the line. Assumes nothing.
 use Rattle.lines.proofs.Lists.{fold-more}
-use Rattle.lines.specs.Reading.{pushed, pushedIn, stepped, fresh, keptIn, finished, ran}
+use Rattle.lines.specs.Reading.{pushed, pushedIn, stepped, fresh, lastIn, finished, ran}
 use Rattle.lines.specs.declared.reading.Reader.{Reader}
 use Prim.Native.Nat.{ℕ}
 use lib.Seq.{take-all}
@@ -57,7 +57,7 @@ returns : tie.Need-returns Inv-loop μ-loop
 returns c = let e = ap (ran (now (c .before .before .before .before .before .before .args .room)))
     (take-all (c .before .before .before .loop .i) (now (c .before .before .before .before .before .before .args .line)) (c .before .before .loop-test .left))
     in let r = c .before .before .before .loop .inv .1 ∙ ap (λ (z : Reader × List ℕ). z .0) e in let n = c .before .before .before .loop .inv .2 ∙ ap
-    (λ (z : Reader × List ℕ). z .1) e in (c .finish .ensures .0 ∙ ap₂ finished r n, c .finish .ensures .1 ∙ ap₂ keptIn r n)
+    (λ (z : Reader × List ℕ). z .1) e in (c .finish .ensures .0 ∙ ap₂ finished r n, c .finish .ensures .1 ∙ ap₂ lastIn r n)
 
 pub read-spec : {M : Type 1} → statement M
 read-spec =

@@ -4,39 +4,26 @@ use borrow.Author.Needs.{needs}
 use Rattle.lines.proofs.reading.stored.Statement.{statement}
 use Rattle.lines.proofs.reading.stored.Tie as tie
 
-cast-room : tie.Need-cast-room
-cast-room c = search needs
+two-requires : tie.Need-two-requires
+two-requires c κs = search needs
 
-element-write-room : tie.Need-element-write-room
-element-write-room c = search needs
+add-holding : tie.Need-add-holding
+add-holding c = search needs
 
-cast-room-2 : tie.Need-cast-room-2
-cast-room-2 c = search needs
-
-add-room : tie.Need-add-room
-add-room c = search needs
-
-element-write-room-2 : tie.Need-element-write-room-2
-element-write-room-2 c = search needs
-
-add-next : tie.Need-add-next
-add-next c = search needs
+holding-requires : tie.Need-holding-requires
+holding-requires c κs = search needs
 
 returns : tie.Need-returns
-returns c = (simp (lt-ltb _ _ (c .if1 .taken)), simp (lt-ltb _ _ (c .if1 .taken)))
+returns c = (
+  rw (c .holding .ensures, lt-ltb _ _ (c .before .before .before .if1 .taken)),
+  rw (c .before .two .ensures, lt-ltb _ _ (c .before .before .before .if1 .taken)),
+)
+
+holding-requires-2 : tie.Need-holding-requires-2
+holding-requires-2 c κs = search needs
 
 returns-2 : tie.Need-returns-2
-returns-2 c = (simp (le-ltb _ _ (c .if1 .left)), simp (le-ltb _ _ (c .if1 .left)))
+returns-2 c = (rw (c .holding2 .ensures, le-ltb _ _ (c .before .if1 .left)), rw (le-ltb _ _ (c .before .if1 .left)))
 
 pub stored-spec : {M : Type 1} → statement M
-stored-spec =
-    tie.close
-    (tie.spec
-    cast-room
-    element-write-room
-    cast-room-2
-    add-room
-    element-write-room-2
-    add-next
-    returns
-    returns-2)
+stored-spec = tie.close (tie.spec two-requires add-holding holding-requires returns holding-requires-2 returns-2)

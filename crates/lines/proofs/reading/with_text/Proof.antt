@@ -16,8 +16,8 @@ past-requires c κs = search needs
 spelt-requires : tie.Need-spelt-requires
 spelt-requires c κs = search needs
 
-kept-requires : tie.Need-kept-requires
-kept-requires c κs = search needs
+ended-requires : tie.Need-ended-requires
+ended-requires c κs = search needs
 
 placed-requires : tie.Need-placed-requires
 placed-requires c κs = search needs
@@ -26,14 +26,14 @@ returns : tie.Need-returns
 returns c = (
   rw (
     c .placed .ensures,
-    c .before .before .kept .ensures .0,
+    c .before .before .ended .ensures .0,
     c .before .before .before .before .spelt .ensures,
     c .before .before .before .before .before .past .ensures,
     ← c .before .before .before .before .before .before .before .letter .ensures,
     ← c .before .before .before .before .before .before .parts .ensures,
     eq-eqb _ _ (c .before .if1 .taken),
   ),
-  c .before .before .kept .ensures .1,
+  rw (c .before .before .ended .ensures .1, c .before .before .before .before .before .before .parts .ensures, c .before .before .before .before .before .before .before .letter .ensures),
 )
 
 begun-requires : tie.Need-begun-requires
@@ -43,12 +43,12 @@ returns-2 : tie.Need-returns-2
 returns-2 c = (
   rw (
     c .begun .ensures,
-    c .before .before .kept .ensures .0,
+    c .before .before .ended .ensures .0,
     ← c .before .before .before .before .before .before .before .letter .ensures,
     ← c .before .before .before .before .before .before .parts .ensures,
     ne-eqb _ _ (c .before .if1 .left),
   ),
-  c .before .before .kept .ensures .1,
+  rw (c .before .before .ended .ensures .1, c .before .before .before .before .before .before .parts .ensures, c .before .before .before .before .before .before .before .letter .ensures),
 )
 
 pub with-text-spec : {M : Type 1} → statement M
@@ -59,7 +59,7 @@ with-text-spec =
     parts-requires
     past-requires
     spelt-requires
-    kept-requires
+    ended-requires
     placed-requires
     returns
     begun-requires
