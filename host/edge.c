@@ -1,6 +1,6 @@
 /* edge.c: what makowist.h promises at its edges, held from C: nothing lent, numbers of more than 16 bits in every argument,
- * names, pairs that have no 16 bits, the list in bytes, reasons with what they name, nights with their events, and pushes that
- * are cut.
+ * names, pairs that have no 16 bits, the list in bytes, reasons with what they name, nights with their events, pushes that are
+ * cut, and old lists that are imported.
  *
  * What is lent is from the heap and as long as is said, so that the tools that watch memory see a byte too many. Ends with 1
  * at the first promise that does not hold. */
@@ -74,6 +74,9 @@ static uint64_t night(uint8_t *image, size_t length, const uint64_t *n) {
     static const uint8_t outcomes[MAKOWIST_OUTCOMES];
     return makowist_night(image, length, n[0], n[1], outcomes, sizeof outcomes, NULL, 0);
 }
+static uint64_t import(uint8_t *image, size_t length, const uint64_t *n) {
+    return (void)n, makowist_import(image, length, NULL, 0);
+}
 
 /* The image's log has FOLDED folded and two more, LAST the last: both bytes of its numbers are used. */
 enum { FOLDED = 256, LAST = 258 };
@@ -108,6 +111,7 @@ static const struct call calls[] = {
     {"connection", connection, 2, {1, MAKOWIST_CONNECTION_ID}, {RANGE, RANGE}},
     {"why", why, 3, {1, 2, LAST}, {RANGE, RANGE, NUMBER}},
     {"night", night, 2, {1, 8}, {RANGE, RANGE}},
+    {"import", import, 0, {0}, {0}},
 };
 enum { CALLS = sizeof calls / sizeof *calls };
 
@@ -218,7 +222,7 @@ static void names(void) {
     static const char *const answers[] = {
         "accepted", "not well-formed", "out of range", "not a change", "log full", "no such number", "no rollback",
         "already so", "target stopped", "counter at limit", "not master", "no rule", "line not open", "push rejected",
-        "no room", "not waiting", "?", "not finished", "folded", "?", "?"};
+        "no room", "not waiting", "not the newest", "not finished", "folded", "?", "?"};
     static const char *const statuses[] = {"None", "Pending", "InProgress", "Complete", "Aborted", "Canceled", "Failed"};
     static const char *const reasons[] = {"?", "finished", "no rollback asked", "earlier change", "commit in flight",
                                           "change on top", "not committed", "earlier ordinal", "none fits"};
@@ -507,6 +511,167 @@ static void pushes(const uint8_t *before) {
     free(image);
 }
 
+/* ---- Old lists. */
+
+enum { ENTRY = MAKOWIST_ENTRY_LENGTH, ENTRIES = MAKOWIST_ENTRY_LIMIT };
+
+/* An entry that changes path 3, and one that changes two. */
+static void put_one(uint8_t *entry, uint64_t given) {
+    uint8_t pair[MAKOWIST_PAIR_LENGTH];
+    makowist_put_pair(pair, 3, given);
+    makowist_put_change(entry, pair, 1);
+}
+
+static void put_two(uint8_t *entry, uint64_t given) {
+    uint8_t pairs[2 * MAKOWIST_PAIR_LENGTH];
+    makowist_put_pair(pairs, 3, given);
+    makowist_put_pair(pairs + MAKOWIST_PAIR_LENGTH, 31, 65535);
+    makowist_put_change(entry, pairs, 2);
+}
+
+/* Changes and their rollbacks in turn. */
+static uint8_t *in_turn(size_t entries) {
+    uint8_t *list = lent(ENTRY * entries + 1);
+    for (size_t k = 0; k < entries; ++k) {
+        if (k % 2 == 0)
+            put_one(list + ENTRY * k, k + 1);
+        else
+            makowist_put_rollback(list + ENTRY * k, k);
+    }
+    return list;
+}
+
+/* What an import of so many bytes of a list answers, lent as so many, from an image of nonsense; refused it writes none. Leaves the
+ * image, to be freed. */
+static uint8_t *import_is(const uint8_t *list, size_t bytes, unsigned answer, unsigned position, const char *what) {
+    uint8_t *image = lent(LENGTH), *entries = bytes ? copied(list, bytes) : NULL;
+    memset(image, 0xab, LENGTH);
+    uint8_t *before = copied(image, LENGTH);
+    uint64_t reply = makowist_import(image, LENGTH, entries, bytes);
+    hold(makowist_reply_answer(reply) == answer, "import, answer", what, reply);
+    hold(makowist_reply_position(reply) == position, "import, position", what, reply);
+    hold((reply & 0xffff0000ffffff00) == 0, "import", "nothing but answer and position", reply);
+    if (answer != MAKOWIST_ACCEPTED)
+        hold(memcmp(image, before, LENGTH) == 0, "import, refused: every byte as it was", what, reply);
+    hold(bytes == 0 || memcmp(entries, list, bytes) == 0, "import", "the list stays", bytes);
+    free(entries);
+    free(before);
+    return image;
+}
+
+static void import_refused(const uint8_t *list, size_t bytes, unsigned answer, unsigned position, const char *what) {
+    free(import_is(list, bytes, answer, position, what));
+}
+
+/* A list of three, and what the calls that it stands for leave: two changes, the second undone, and a third over the first. */
+static void import_is_its_calls(void) {
+    uint8_t list[4 * ENTRY], *image = lent(LENGTH);
+    put_one(list, 7);
+    put_two(list + ENTRY, 9);
+    makowist_put_rollback(list + 2 * ENTRY, 2);
+    put_two(list + 3 * ENTRY, 0);
+    accepted(makowist_fresh(image, LENGTH), "fresh");
+    accepted(makowist_start(image, LENGTH), "start");
+    accepted(makowist_connect(image, LENGTH, 1), "connect");
+    accepted(makowist_master(image, LENGTH, 1), "master");
+    for (size_t entries = 0; entries <= 4; ++entries) {
+        const uint64_t number = entries == 4 ? 3 : entries == 3 ? 2 : entries, job = entries == 3 ? 3 : 1;
+        if (entries == 3)
+            accepted(makowist_rollback(image, LENGTH, 2), "rollback");
+        else if (entries > 0)
+            accepted(makowist_append(image, LENGTH, list + ENTRY * (entries - 1) + 4, entries == 1 ? 4 : 8), "append");
+        for (size_t step = 0; entries > 0 && step < 2; ++step)
+            accepted(makowist_work(image, LENGTH, 1, job, number, 0, 0), "work");
+        uint8_t *imported = import_is(list, ENTRY * entries, MAKOWIST_ACCEPTED, 0, "as its calls");
+        hold(memcmp(imported, image, LENGTH) == 0, "import", "leaves what its calls leave", entries);
+        free(imported);
+    }
+    hold(path_3(image, MAKOWIST_TABLE_COMMITTED) == 0, "import", "a delete", path_3(image, MAKOWIST_TABLE_COMMITTED));
+    free(image);
+}
+
+/* Lengths of the list, and of the image, that are none. */
+static void import_lengths(void) {
+    uint8_t *list = in_turn(ENTRIES + 2);
+    for (size_t bytes = 0; bytes <= 2 * ENTRY + 1; ++bytes)
+        free(import_is(list, bytes, bytes % ENTRY ? RANGE : MAKOWIST_ACCEPTED, 0, "bytes"));
+    for (size_t more = 0; more <= 2 * ENTRY; more += more == 1 ? ENTRY - 2 : 1)
+        free(import_is(list, ENTRY * ENTRIES + more, more ? RANGE : MAKOWIST_ACCEPTED, 0, "more than fit"));
+    list[0] = 0;
+    import_refused(list, ENTRY * (ENTRIES + 1), RANGE, 0, "more than fit, the first bad");
+    import_refused(list, ENTRY * ENTRIES, MAKOWIST_NOT_THE_NEWEST, 1, "as many as fit, the first bad");
+    for (size_t length = LENGTH - 2; length <= LENGTH + 2; ++length) {
+        uint8_t *image = lent(length);
+        uint64_t reply = makowist_import(image, length, list, 7);
+        hold(reply == (length == LENGTH ? (unsigned)RANGE : MAKOWIST_NOT_WELL_FORMED), "import", "the image's length", length);
+        free(image);
+    }
+    hold(makowist_import(NULL, 0, list, ENTRY) == MAKOWIST_NOT_WELL_FORMED, "import", "no image", 0);
+    free(list);
+}
+
+/* Each refusal at the first, a middle and the last place of a list. */
+static void import_positions(void) {
+    for (size_t place = 0; place < ENTRIES; place += place == 0 ? 126 : 129) {
+        uint8_t *list = in_turn(ENTRIES), *entry = list + ENTRY * place, five[5 * MAKOWIST_PAIR_LENGTH] = {0};
+        const unsigned position = (unsigned)place + 1;
+        makowist_put_change(entry, NULL, 0);
+        import_refused(list, ENTRY * ENTRIES, MAKOWIST_NOT_A_CHANGE, position, "no pairs");
+        makowist_put_change(entry, five, 5);
+        import_refused(list, ENTRY * ENTRIES, MAKOWIST_NOT_A_CHANGE, position, "five pairs");
+        put_one(entry, 7);
+        entry[2] = 5;
+        import_refused(list, ENTRY * ENTRIES, MAKOWIST_NOT_A_CHANGE, position, "a count of five");
+        put_one(entry, 7);
+        entry[3] = 1;
+        import_refused(list, ENTRY * ENTRIES, MAKOWIST_NOT_A_CHANGE, position, "a count of 257");
+        put_one(entry, 70000);
+        import_refused(list, ENTRY * ENTRIES, MAKOWIST_NOT_A_CHANGE, position, "a value of no 16 bits");
+        const uint64_t named[] = {0, position, position + 1, UINT16_MAX, (UINT64_C(1) << 16) + place, (UINT64_C(1) << 32) + place};
+        for (size_t k = 0; k < sizeof named / sizeof *named; ++k) {
+            makowist_put_rollback(entry, named[k]);
+            import_refused(list, ENTRY * ENTRIES, MAKOWIST_NOT_THE_NEWEST, position, "names no live change");
+        }
+        for (unsigned kind = 0; kind < 1024; kind += kind == 0 ? 3 : 1) {
+            put_one(entry, 7);
+            entry[0] = (uint8_t)(kind & 0xff);
+            entry[1] = (uint8_t)(kind >> 8);
+            import_refused(list, ENTRY * ENTRIES, MAKOWIST_NOT_THE_NEWEST, position, "of neither kind");
+        }
+        free(list);
+    }
+}
+
+/* As many changes as fit, and one more, with good pairs and with bad ones. */
+static void import_full(void) {
+    enum { LOG = MAKOWIST_LOG_LIMIT };
+    uint8_t *list = lent(ENTRY * ENTRIES);
+    for (size_t k = 0; k < LOG; ++k)
+        put_two(list + ENTRY * k, k);
+    for (size_t k = LOG; k < ENTRIES; ++k)
+        makowist_put_rollback(list + ENTRY * k, ENTRIES - k);
+    free(import_is(list, ENTRY * LOG, MAKOWIST_ACCEPTED, 0, "128 changes"));
+    uint8_t *image = import_is(list, ENTRY * ENTRIES, MAKOWIST_ACCEPTED, 0, "128 changes, and each undone");
+    uint64_t ordinal = makowist_record(image, LENGTH, MAKOWIST_COMMITTED_ORDINAL);
+    hold(makowist_reply_value(ordinal) == ENTRIES, "import", "an ordinal for each entry", ordinal);
+    free(image);
+    for (size_t place = LOG; place < ENTRIES; place += ENTRIES - LOG - 1) {
+        put_one(list + ENTRY * place, 7);
+        import_refused(list, ENTRY * ENTRIES, MAKOWIST_LOG_FULL, (unsigned)place + 1, "129 changes");
+        makowist_put_change(list + ENTRY * place, NULL, 0);
+        import_refused(list, ENTRY * ENTRIES, MAKOWIST_NOT_A_CHANGE, (unsigned)place + 1, "129 changes, the last bad");
+        makowist_put_rollback(list + ENTRY * place, ENTRIES - place);
+    }
+    free(list);
+}
+
+static void imports(void) {
+    import_is_its_calls();
+    import_lengths();
+    import_positions();
+    import_full();
+}
+
 int main(void) {
     uint8_t *image = led();
     nothing_lent(image);
@@ -520,6 +685,7 @@ int main(void) {
     reasons(image);
     nights(image);
     pushes(image);
+    imports();
     free(image);
     printf("edge: %u checks hold\n", checks);
     return 0;

@@ -304,12 +304,13 @@ pub enum Refusal {
     PushRejected,
     NoRoom,
     NotWaiting,
-    NotFinished = 17,
+    NotTheNewest,
+    NotFinished,
     Folded,
 }
 
 impl Refusal {
-    pub const ALL: [Refusal; 17] = [
+    pub const ALL: [Refusal; 18] = [
         Refusal::NotWellFormed,
         Refusal::OutOfRange,
         Refusal::NotAChange,
@@ -325,6 +326,7 @@ impl Refusal {
         Refusal::PushRejected,
         Refusal::NoRoom,
         Refusal::NotWaiting,
+        Refusal::NotTheNewest,
         Refusal::NotFinished,
         Refusal::Folded,
     ];

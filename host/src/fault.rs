@@ -1,7 +1,8 @@
 //! Wrong copies of one rule, to show that the comparison finds them. Only the comparison asks for one.
-//! Those of the calls from outside, of nights, of the order of refusals, of a push's stores and of reasons are in the modules
-//! below.
+//! Those of imports, of nights, of the order of refusals, of the calls from outside, of a push's stores and of reasons are in the
+//! modules below.
 
+pub mod import;
 pub mod night;
 pub mod order;
 pub mod outside;
@@ -18,6 +19,7 @@ use crate::jobs::Rule;
 use crate::night::{Night, Passed};
 use crate::northbound::{self, act, Answer, Request, Served};
 use crate::reads::Query;
+use self::import::Blunder;
 use self::night::Lapse;
 use order::{Call, Swapped};
 use outside::Slip;
@@ -96,6 +98,8 @@ pub enum Fault {
     Why(Guess),
     /// A night passes otherwise (order 2).
     Night(Lapse),
+    /// A list is imported otherwise (order 6).
+    Import(Blunder),
     /// Nothing is wrong. None of those that must be found: it shows that one which is not found is told.
     Harmless,
 }
@@ -122,6 +126,7 @@ impl Fault {
         all.extend(Swapped::all().map(|Swapped(call, first, then)| Fault::Swapped(call, first, then)));
         all.extend(Guess::all().into_iter().map(Fault::Why));
         all.extend(Lapse::all().into_iter().map(Fault::Night));
+        all.extend(Blunder::all().into_iter().map(Fault::Import));
         all
     }
 
@@ -196,6 +201,19 @@ impl Fault {
     pub fn refuse_night(self, room: &mut [u8]) {
         if let Fault::Night(lapse) = self {
             lapse.refused(room);
+        }
+    }
+
+    /// Whether it is one of imports alone.
+    pub fn is_of_imports(self) -> bool {
+        matches!(self, Fault::Import(_))
+    }
+
+    /// As `northbound::import`, with this fault in it.
+    pub fn import(self, image: &mut [u8], list: &[u8]) -> u64 {
+        match self {
+            Fault::Import(blunder) => blunder.import(image, list),
+            _ => northbound::import(image, list),
         }
     }
 

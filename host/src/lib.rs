@@ -10,9 +10,11 @@ pub mod controller;
 pub mod fault;
 pub mod guarded;
 pub mod image;
+pub mod import;
 pub mod jobs;
 pub mod lean;
 pub mod lines;
+pub mod lists;
 pub mod night;
 pub mod northbound;
 #[cfg(feature = "archive")]

@@ -1,6 +1,7 @@
 //! The stepper's lines over the independent controller: one call a line in, one answer a line out, the heads at the end.
 
 use crate::controller::{Refusal, State};
+use crate::import::{self, Entry, Refused};
 use crate::night::{Night, Passed, OUTCOMES};
 use crate::northbound::{act, bytes_of, pairs_of, Answer, Request, Served};
 use crate::why::{Question, Why};
@@ -11,6 +12,8 @@ pub enum Line {
     Call(Request),
     Why(Question),
     Night(Night),
+    /// Stands in place of the fresh start: as the first line alone.
+    Import(Vec<Entry>),
 }
 
 /// What a line asks for, where it is readable.
@@ -27,6 +30,7 @@ pub fn read(line: &[u8]) -> Option<Line> {
             Some(Line::Why(Question { node, job, number }))
         }
         "night" => read_night(operands?).map(Line::Night),
+        "import" => read_entries(operands?.strip_prefix("entries=")?).map(Line::Import),
         _ => read_call(call, operands).map(Line::Call),
     }
 }
@@ -39,6 +43,15 @@ fn read_night(operands: &str) -> Option<Night> {
     let mut outcomes = digits.bytes().map(digit).collect::<Option<Vec<u8>>>()?;
     outcomes.resize(outcomes.len().max(OUTCOMES), 0);
     Some(Night { node, budget, outcomes })
+}
+
+/// Entries with a stroke between them: a change is its pairs, a rollback the place that it names.
+fn read_entries(text: &str) -> Option<Vec<Entry>> {
+    let entry = |text: &str| match read_number(text) {
+        Some(named) => Some(Entry::Rollback { named }),
+        None => read_pairs(text).map(|pairs| Entry::change(&pairs)),
+    };
+    if text.is_empty() { Some(Vec::new()) } else { text.split('/').map(entry).collect() }
 }
 
 fn read_call(call: &str, operands: Option<&str>) -> Option<Request> {
@@ -98,8 +111,7 @@ pub fn asking(request: &Request) -> Option<String> {
     Some(match *request {
         Request::Fresh => return None,
         Request::Append(ref bytes) => {
-            let pairs: Vec<String> = pairs_of(bytes)?.iter().map(|(path, value)| format!("{path}:{value}")).collect();
-            format!("call=append pairs={}\n", pairs.join(","))
+            format!("call=append pairs={}\n", joined(&pairs_of(bytes)?))
         }
         Request::Rollback(number) => format!("call=rollback number={number}\n"),
         Request::Fold(number) => format!("call=fold number={number}\n"),
@@ -113,6 +125,10 @@ pub fn asking(request: &Request) -> Option<String> {
             format!("call=work node={node} job={job} number={number} outcome={outcome} cut={cut}\n")
         }
     })
+}
+
+fn joined(pairs: &[(u16, u16)]) -> String {
+    pairs.iter().map(|(path, value)| format!("{path}:{value}")).collect::<Vec<_>>().join(",")
 }
 
 /// The line that a reply is printed as.
@@ -159,6 +175,24 @@ pub fn passed(passed: Result<Passed, Refusal>) -> String {
     format!("answer={answer} jobs={jobs} stopped={stopped}\n")
 }
 
+/// The line that asks for an import. None asks for an entry of neither kind, for pairs that are not all there, or for one change
+/// of no pairs alone, which is written as no entry is.
+pub fn importing(entries: &[Entry]) -> Option<String> {
+    let written = |entry: &Entry| match entry {
+        Entry::Change { count, .. } if usize::from(*count) == entry.pairs().len() => Some(joined(entry.pairs())),
+        Entry::Rollback { named } => Some(named.to_string()),
+        _ => None,
+    };
+    let texts = entries.iter().map(written).collect::<Option<Vec<String>>>()?;
+    (texts != [""]).then(|| format!("call=import entries={}\n", texts.join("/")))
+}
+
+/// The line that an import, or the refusal of one, is printed as.
+pub fn imported(imported: Result<(), Refused>) -> String {
+    let (answer, position) = imported.err().map_or((0, 0), |refused| (refused.refusal.number(), refused.position));
+    format!("answer={answer} position={position}\n")
+}
+
 /// The closing line: both heads' revision and ordinal.
 pub fn closing(state: &State) -> String {
     format!(
@@ -173,12 +207,15 @@ pub fn stepped(input: &[u8]) -> String {
     let mut output = String::new();
     let whole = input.strip_suffix(b"\n").unwrap_or(input);
     let lines = (!input.is_empty()).then(|| whole.split(|byte| *byte == b'\n'));
-    for line in lines.into_iter().flatten() {
+    for (place, line) in lines.into_iter().flatten().enumerate() {
         output.push_str(&match read(line) {
             Some(Line::Call(request)) => written(&act(&mut state, &request)),
             Some(Line::Why(question)) => explained(state.why(question)),
             Some(Line::Night(night)) => passed(state.night(&night)),
-            None => written(&Served { reply: Err(Refusal::OutOfRange), rule: None }),
+            Some(Line::Import(entries)) if place == 0 => {
+                imported(State::imported(&import::listed(&entries)).map(|imported| state = imported))
+            }
+            Some(Line::Import(_)) | None => written(&Served { reply: Err(Refusal::OutOfRange), rule: None }),
         });
     }
     output + &closing(&state)

@@ -2,6 +2,7 @@
 
 use crate::controller::{Event, Node, Number, Refusal, State};
 use crate::image;
+use crate::import::Refused;
 use crate::jobs::Rule;
 use crate::night::{Night, Passed};
 
@@ -141,6 +142,26 @@ pub fn night(image: &mut [u8], night: &Night, room: &mut [u8]) -> u64 {
 pub fn store_night(state: &State, passed: &Passed, image: &mut [u8], room: &mut [u8]) -> u64 {
     image::encode(state, image);
     passed.packed(passed.show(room))
+}
+
+/// Makes the bytes, whatever they hold, the image that a list is imported as, and answers the packed reply.
+pub fn import(image: &mut [u8], list: &[u8]) -> u64 {
+    if image.len() != image::LENGTH {
+        return Refusal::NotWellFormed.number().into();
+    }
+    store_import(State::imported(list), image)
+}
+
+/// Writes the state that a list leads to, and answers the packed reply. A refused list writes nothing.
+pub fn store_import(imported: Result<State, Refused>, image: &mut [u8]) -> u64 {
+    match imported {
+        Ok(state) => {
+            image.fill(0);
+            image::encode(&state, image);
+            0
+        }
+        Err(refused) => refused.packed(),
+    }
 }
 
 /// Writes an image's live list into the room and answers its length, packed; room past the list stays.

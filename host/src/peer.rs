@@ -42,6 +42,7 @@ mod exported {
             events: *mut u8,
             events_length: usize,
         ) -> u64;
+        pub fn makowist_import(image: *mut u8, length: usize, entries: *const u8, entries_length: usize) -> u64;
     }
 }
 
@@ -89,6 +90,13 @@ pub fn night(image: &mut [u8], node: u64, budget: u64, outcomes: &[u8], events: 
             events.len(),
         )
     }
+}
+
+/// Makes a lent image the one that a lent list is imported as.
+#[inline]
+pub fn import(image: &mut [u8], list: &[u8]) -> u64 {
+    // SAFETY: as in `serve`.
+    unsafe { exported::makowist_import(image.as_mut_ptr(), image.len(), list.as_ptr(), list.len()) }
 }
 
 /// Writes the live list into the room, two bytes a number, and answers its length, packed.

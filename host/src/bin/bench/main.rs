@@ -5,14 +5,16 @@
 //! - `bench counts NOTES`: the figures from the counter's notes
 //! - `bench table UNIT FIGURES`, `bench plot UNIT FIGURES`: what is shown of such lines
 //!
-//! The same of nights: `bench nights times ROUNDS` and so on.
+//! The same of nights, `bench nights times ROUNDS` and so on, and of imports, without a plot.
 
+mod imports;
 mod measure;
 mod night_report;
 mod nights;
 mod report;
 mod scenes;
 
+use imports::{imports, Import};
 use measure::Figure;
 use night_report::NightReport;
 use nights::{nights, Night};
@@ -26,6 +28,10 @@ fn every_scene() -> impl Iterator<Item = Scene> {
 
 fn every_night() -> impl Iterator<Item = Night> {
     nights::LENGTHS.into_iter().flat_map(nights)
+}
+
+fn every_import() -> impl Iterator<Item = Import> {
+    imports::LENGTHS.into_iter().flat_map(imports)
 }
 
 fn print_lines(figures: &[Figure]) {
@@ -103,11 +109,33 @@ fn of_nights(arguments: &[&str]) -> bool {
     true
 }
 
+/// The same of imports.
+fn of_imports(arguments: &[&str]) -> bool {
+    match *arguments {
+        ["imports", "times", rounds] => every_import().for_each(|import| {
+            print_lines(&[import.check()]);
+            print_lines(&measure::times(&import, number(rounds)));
+        }),
+        ["imports", "marks"] => every_import().for_each(|import| measure::marked(&import)),
+        ["imports", "counts", file] => {
+            let mut notes = read_notes(file);
+            every_import().for_each(|import| {
+                print_lines(&[import.check()]);
+                print_lines(&measure::counted(&import, &mut notes).expect(TWO_NOTES));
+            });
+            assert!(notes.next().is_none(), "more notes than imports");
+        }
+        ["imports", "table", unit, file] => print!("{}", imports::table(unit, &read_figures(file))),
+        _ => return false,
+    }
+    true
+}
+
 fn main() {
     let arguments: Vec<String> = std::env::args().skip(1).collect();
     let arguments: Vec<&str> = arguments.iter().map(String::as_str).collect();
-    if !of_calls(&arguments) && !of_nights(&arguments) {
-        eprintln!("usage: bench [nights] times ROUNDS | marks | counts NOTES | table UNIT FIGURES | plot UNIT FIGURES");
+    if !of_calls(&arguments) && !of_nights(&arguments) && !of_imports(&arguments) {
+        eprintln!("usage: bench [nights | imports] times ROUNDS | marks | counts NOTES | table UNIT FIGURES | plot UNIT FIGURES");
         std::process::exit(2);
     }
 }

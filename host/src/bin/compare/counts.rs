@@ -1,6 +1,7 @@
 //! What a comparison has seen: calls, replies, and rules taken, with each cut. Something not seen is a failure.
 
 use crate::folds;
+use crate::imports;
 use crate::nights;
 use crate::retries;
 use crate::switches;
@@ -34,6 +35,8 @@ pub struct Counts {
     pub whys: whys::Seen,
     /// What order 2 brings.
     pub nights: nights::Seen,
+    /// What order 6 brings.
+    pub imports: imports::Seen,
     /// What order 8 brings.
     pub switches: switches::Seen,
     /// Numbers of more than 16 bits, and rooms by the byte.
@@ -70,6 +73,11 @@ impl Counts {
 
     pub fn read(&mut self, packed: u64) {
         self.reads += 1;
+        self.answers[(packed & 0xff) as usize] += 1;
+    }
+
+    pub fn imported(&mut self, packed: u64) {
+        self.imports.imports += 1;
         self.answers[(packed & 0xff) as usize] += 1;
     }
 
@@ -122,6 +130,7 @@ impl Counts {
         let unseen_folds = self.folds.told();
         let unseen_whys = self.whys.told();
         let unseen_nights = self.nights.told();
+        let unseen_imports = self.imports.told();
         let unseen_switches = self.switches.told();
         let unseen_wide = self.wide.told();
         let unseen_reads = self.told_reads();
@@ -135,7 +144,7 @@ impl Counts {
         let rules = self.rules.iter().filter(|counts| counts.iter().sum::<u64>() > 0).count();
         println!("rules seen: {rules} of {}; refusals seen: {refusals} of {}", Rule::ALL.len(), Refusal::ALL.len());
         let unseen = [self.states, self.freed, self.migrations].iter().filter(|count| **count == 0).count();
-        let unseen_orders = unseen_retries + unseen_folds + unseen_whys + unseen_nights + unseen_switches;
+        let unseen_orders = unseen_retries + unseen_folds + unseen_whys + unseen_nights + unseen_imports + unseen_switches;
         unseen + unseen_answers + unseen_rules + unseen_reads + unseen_orders + unseen_wide
     }
 }

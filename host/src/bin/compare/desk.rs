@@ -95,6 +95,11 @@ impl Desk {
         self.fault.map_or(true, Fault::is_of_nights)
     }
 
+    /// Whether there is no fault put in, or one of imports.
+    pub fn imports(&self) -> bool {
+        self.fault.map_or(true, Fault::is_of_imports)
+    }
+
     /// Whether the comparison's time is up.
     pub fn is_over(&mut self) -> bool {
         self.watch.is_over(&self.counts)

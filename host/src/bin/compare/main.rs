@@ -1,6 +1,7 @@
 //! Holds the proved controller and the independent one together, call by call, reply and every byte; each of them to what orders
 //! 3 and 8 promise, at every job that is cut; both to what order 8 says of the target, at every state of a session; and the
-//! proved one to what order 4 does, at every job that is answered 11 or asked after, and to what order 2 does, at every night.
+//! proved one to what order 4 does, at every job that is answered 11 or asked after, to what order 2 does, at every night, and to
+//! what order 6 does, at every import.
 //!
 //! Arguments, each `name=value`, in any order:
 //!
@@ -14,13 +15,16 @@
 //! - `overrun=End`, `overrun=Begin`: write the byte outside that edge of a lent slice, which must end the program
 //!
 //! Ends with 0 where there is no difference and no count is 0: every answer, every rule, with each cut and called again, every
-//! reason of every job, every read, every way for a night to pass, every argument too great in every way.
+//! reason of every job, every read, every way for a night to pass and for a list to be imported, every argument too great in every
+//! way.
 
 mod by_itself;
 mod counts;
 mod desk;
 mod every;
 mod folds;
+mod imports;
+mod lists;
 mod long;
 mod nights;
 mod outside;
@@ -96,8 +100,11 @@ fn compare(desk: &mut Desk, sizes: &Sizes, seed: u64, tells: bool) -> Compared<(
     let told = |what: &str, desk: &Desk| {
         if tells {
             let (calls, reads, retries) = (desk.counts.calls, desk.counts.reads, desk.counts.retries.retries());
-            let (nights, seconds) = (desk.counts.nights.nights, desk.seconds());
-            println!("compare: {what}; {calls} calls, {reads} reads, {retries} retries and {nights} nights so far, {seconds} s");
+            let (nights, imports, seconds) = (desk.counts.nights.nights, desk.counts.imports.imports, desk.seconds());
+            println!(
+                "compare: {what}; {calls} calls, {reads} reads, {retries} retries, {nights} nights and {imports} imports so far, \
+                 {seconds} s"
+            );
         }
     };
     let mut random = Random::new(seed);
@@ -118,6 +125,10 @@ fn compare(desk: &mut Desk, sizes: &Sizes, seed: u64, tells: bool) -> Compared<(
         sessions::run(desk, sizes.sessions / 2, &mut random)?;
         told("random sessions", desk);
     }
+    if desk.imports() {
+        lists::drawn(desk, &mut Random::new(seed))?;
+        told("lists imported, drawn with the seed", desk);
+    }
     desk.reached = false;
     states::unreached(desk, sizes.unreached, &mut random)?;
     told("states that no session reaches", desk);
@@ -134,6 +145,10 @@ fn compare(desk: &mut Desk, sizes: &Sizes, seed: u64, tells: bool) -> Compared<(
 /// What is the same on every machine, whatever the seed.
 fn compare_chosen(desk: &mut Desk, told: impl Fn(&str, &Desk)) -> Compared<()> {
     desk.reached = false;
+    if desk.imports() {
+        lists::run(desk)?;
+        told("lists imported", desk);
+    }
     if desk.asks_for_reasons() {
         waiting::run(desk)?;
         told("every reason from chosen states", desk);
@@ -166,12 +181,13 @@ fn compare_for(arguments: &Arguments, fault: Option<Fault>) -> bool {
     let unseen = desk.counts.told();
     let (counts, seconds) = (&desk.counts, desk.seconds());
     println!(
-        "compare: {} calls, {} reads, {} retries, {} nights and {} states compared in {seconds} s, 0 differences, {unseen} kinds \
-         never seen",
+        "compare: {} calls, {} reads, {} retries, {} nights, {} imports and {} states compared in {seconds} s, 0 differences, \
+         {unseen} kinds never seen",
         counts.calls,
         counts.reads,
         counts.retries.retries(),
         counts.nights.nights,
+        counts.imports.imports,
         counts.states,
     );
     unseen == 0

@@ -1,8 +1,9 @@
-//! Sessions from fresh: mostly sensible calls, some refused, some cut. The independent controller keeps its typed state
-//! from call to call, so that a fault of the codec cannot hide one of the rules.
+//! Sessions from fresh, or from an imported list: mostly sensible calls, some refused, some cut. The independent controller keeps
+//! its typed state from call to call, so that a fault of the codec cannot hide one of the rules.
 
 use crate::by_itself;
 use crate::desk::{Compared, Desk, MOST_ROOM};
+use crate::lists;
 use makowist_host::controller::{Number, Ordinal, State, PATHS};
 use makowist_host::image::{self, LENGTH};
 use makowist_host::northbound::Request;
@@ -17,6 +18,9 @@ const LONG: usize = 12_000;
 /// Of how many calls on a short log one is followed by a night, and of how many nights the session goes on behind one.
 const NIGHT_ONE_IN: usize = 40;
 const GOES_ON_ONE_IN: usize = 6;
+
+/// Of how many sessions one begins with a list imported.
+const IMPORTED_ONE_IN: usize = 5;
 
 /// A controller with the line open for node 1. Where a last fold is named, all up to it was set, applied and folded.
 pub fn opened(desk: &mut Desk, folded: Number) -> Compared<(State, Vec<u8>)> {
@@ -65,10 +69,8 @@ pub fn run(desk: &mut Desk, calls: u64, random: &mut Random) -> Compared<()> {
 }
 
 fn session(desk: &mut Desk, random: &mut Random) -> Compared<()> {
-    let mut bytes: Vec<u8> = (0..LENGTH).map(|_| random.bits() as u8).collect();
-    desk.lend(&bytes);
-    let (mut state, mut switch) = (State::fresh(), Switch::default());
-    desk.call(&mut state, &mut bytes, &Request::Fresh)?;
+    let Begun { mut state, mut bytes, mut is_imported } = begun(desk, random)?;
+    let mut switch = Switch::default();
     let log_limit = random.one_of(&[1, 2, 3, 4, 6, 16, 40, 128, 130]);
     let length = if random.once_in(30) { LONG } else { 20 + random.below(25 * log_limit) };
     let wildness = random.one_of(&[3, 10, 40]);
@@ -85,6 +87,11 @@ fn session(desk: &mut Desk, random: &mut Random) -> Compared<()> {
         };
         let served = desk.call(&mut state, &mut bytes, &request)?;
         desk.switched(&mut switch, (&state, &bytes), &request, &served)?;
+        is_imported &= request != Request::Fresh;
+        if is_imported && served.reply.is_ok() {
+            desk.counts.imports.calls_behind += 1;
+            desk.counts.imports.folds_behind += u64::from(matches!(request, Request::Fold(_)));
+        }
         if random.once_in(16) {
             desk.read(Some(&state), &bytes, random.below(MOST_ROOM + 1))?;
         }
@@ -96,11 +103,34 @@ fn session(desk: &mut Desk, random: &mut Random) -> Compared<()> {
             if let Some((after, after_bytes, passed)) = passed.filter(|_| random.once_in(GOES_ON_ONE_IN)) {
                 (state, bytes) = (after, after_bytes);
                 desk.lend(&bytes);
+                desk.counts.imports.nights_behind += u64::from(is_imported);
                 desk.switched_by_night(&mut switch, (&state, &bytes), &passed)?;
             }
         }
     }
     Ok(())
+}
+
+/// State and image with which a session begins.
+struct Begun {
+    state: State,
+    bytes: Vec<u8>,
+    is_imported: bool,
+}
+
+/// Bytes at random, made fresh, or now and then what a list is imported as.
+fn begun(desk: &mut Desk, random: &mut Random) -> Compared<Begun> {
+    let mut bytes: Vec<u8> = (0..LENGTH).map(|_| random.bits() as u8).collect();
+    if random.once_in(IMPORTED_ONE_IN) {
+        if let Some((state, bytes)) = lists::begun(desk, &bytes, random)? {
+            desk.lend(&bytes);
+            return Ok(Begun { state, bytes, is_imported: true });
+        }
+    }
+    desk.lend(&bytes);
+    let mut state = State::fresh();
+    desk.call(&mut state, &mut bytes, &Request::Fresh)?;
+    Ok(Begun { state, bytes, is_imported: false })
 }
 
 /// Compares the live list in rooms of every length in bytes, for lists of every length that follow on a last fold.
