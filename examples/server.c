@@ -18,7 +18,10 @@
  * same outcome and cut 0, or for the rest of the night; or by losing the line and synchronising, which takes it back. A host
  * that cannot read its switch asks for the job again, or synchronises, before anything else.
  *
- * Where IMAGE does not exist it is made fresh. A file that is no well-formed image is refused and left as it is.
+ * Where IMAGE does not exist it is made fresh. A first line that asks for an import is taken where the image is fresh, or shows a
+ * start and nothing else; on any other image it cannot be read. (A start, since the switch is started before the image is kept: a
+ * server killed between the two shows the start when it begins again, and the import can be asked again.) Of an import no event is
+ * recorded: keep the list. A file that is no well-formed image is refused and left as it is.
  * These files lie beside it: IMAGE.new, written before it takes IMAGE's name, and IMAGE.switch.new likewise; IMAGE.lock, held
  * while a server runs; IMAGE.switch, which is made as the image has it where there is none, and refused where no one call
  * leads from the image to it; IMAGE.archive, a line for each entry that was folded (archive.h), without which a folded image
@@ -346,24 +349,34 @@ static int is(const char *line, const char *end, const char *form, unsigned *num
     return takes(&line, end, form, numbers) && line == end;
 }
 
-/* An append of the pairs in the text. All of them must be readable, but no more are lent than show that they are too many. */
-static uint64_t append(const char *at, const char *end) {
-    uint8_t pairs[(MAKOWIST_PAIR_LIMIT + 1) * MAKOWIST_PAIR_LENGTH] = {0};
-    size_t length = 0;
-    while (at < end || length > 0) {
+/* The pairs of a change, as far as they show that they are too many. */
+struct pairs {
+    uint8_t bytes[(MAKOWIST_PAIR_LIMIT + 1) * MAKOWIST_PAIR_LENGTH];
+    size_t count;
+};
+
+/* Reads the pairs that are the text. All of them must be readable. */
+static int reads_pairs(const char *at, const char *end, struct pairs *pairs) {
+    pairs->count = 0;
+    while (at < end || pairs->count > 0) {
         unsigned pair[2];
         if (!takes(&at, end, "#:#", pair))
-            return MAKOWIST_OUT_OF_RANGE;
-        if (length < sizeof pairs) {
-            makowist_put_pair(pairs + length, pair[0], pair[1]);
-            length += MAKOWIST_PAIR_LENGTH;
-        }
+            return 0;
+        if (pairs->count <= MAKOWIST_PAIR_LIMIT)
+            makowist_put_pair(pairs->bytes + MAKOWIST_PAIR_LENGTH * pairs->count++, pair[0], pair[1]);
         if (at == end)
             break;
         if (*at++ != ',')
-            return MAKOWIST_OUT_OF_RANGE;
+            return 0;
     }
-    return makowist_append(image, sizeof image, pairs, length);
+    return 1;
+}
+
+static uint64_t append(const char *at, const char *end) {
+    struct pairs pairs;
+    if (!reads_pairs(at, end, &pairs))
+        return MAKOWIST_OUT_OF_RANGE;
+    return makowist_append(image, sizeof image, pairs.bytes, MAKOWIST_PAIR_LENGTH * pairs.count);
 }
 
 /* A fold. What it drops is archived before the image without it is kept; a copy shows whether it is accepted. */
@@ -507,6 +520,72 @@ static int slept(struct place *place, const char *line, const char *end) {
     return 1;
 }
 
+/* ---- An import. */
+
+/* An old list, as far as it shows that it is too long. */
+struct list {
+    uint8_t bytes[(MAKOWIST_ENTRY_LIMIT + 1) * MAKOWIST_ENTRY_LENGTH];
+    size_t count;
+};
+
+/* Reads one entry, which is the text: a position, or pairs. */
+static int reads_entry(const char *at, const char *end, uint8_t *entry) {
+    unsigned position;
+    struct pairs pairs;
+    if (is(at, end, "#", &position)) {
+        makowist_put_rollback(entry, position);
+        return 1;
+    }
+    if (!reads_pairs(at, end, &pairs))
+        return 0;
+    makowist_put_change(entry, pairs.bytes, pairs.count);
+    return 1;
+}
+
+/* Reads an import. All entries must be readable. */
+static int reads_list(const char *at, const char *end, struct list *list) {
+    uint8_t entry[MAKOWIST_ENTRY_LENGTH];
+    if (!takes(&at, end, "call=import entries=", NULL))
+        return 0;
+    list->count = 0;
+    for (const char *stop; at <= end && (at < end || list->count > 0); at = stop + 1) {
+        stop = memchr(at, '/', (size_t)(end - at));
+        if (!stop)
+            stop = end;
+        if (!reads_entry(at, stop, entry))
+            return 0;
+        if (list->count <= MAKOWIST_ENTRY_LIMIT)
+            memcpy(list->bytes + MAKOWIST_ENTRY_LENGTH * list->count++, entry, sizeof entry);
+    }
+    return 1;
+}
+
+/* Whether nothing was called on the image but, at most, a start. */
+static int is_untouched(void) {
+    makowist_fresh(tried, sizeof tried);
+    if (memcmp(image, tried, sizeof image) == 0)
+        return 1;
+    makowist_start(tried, sizeof tried);
+    return memcmp(image, tried, sizeof image) == 0;
+}
+
+/* Answers a first line that asks for an import. The copy shows whether it is accepted; then the switch, which it says to run, is
+ * started, and the image comes after it. */
+static int imported(struct place *place, const char *line, const char *end) {
+    static struct list list;
+    if (!reads_list(line, end, &list) || !is_untouched())
+        return 0;
+    size_t length = MAKOWIST_ENTRY_LENGTH * list.count;
+    uint64_t reply = makowist_import(tried, sizeof tried, list.bytes, length);
+    if (accepted(reply)) {
+        target_power(&place->target, 1);
+        memcpy(image, tried, sizeof image);
+        keep(place);
+    }
+    printf("answer=%u position=%u\n", makowist_reply_answer(reply), (unsigned)makowist_reply_position(reply));
+    return 1;
+}
+
 static void close_all(struct place *place, struct archive *archive) {
     free(place->aside);
     free(place->archive);
@@ -528,9 +607,9 @@ int main(int count, char **words) {
     char *line = NULL;
     size_t room = 0;
     ssize_t length;
-    while ((length = getline(&line, &room, stdin)) > 0) {
+    for (int is_first = 1; (length = getline(&line, &room, stdin)) > 0; is_first = 0) {
         const char *end = line + length - (line[length - 1] == '\n');
-        if (!explained(line, end) && !slept(&place, line, end))
+        if (!explained(line, end) && !slept(&place, line, end) && !(is_first && imported(&place, line, end)))
             call(&place, &archive, line, end);
         if (fflush(stdout) != 0)
             fail("standard output", strerror(errno));

@@ -66,6 +66,19 @@
  * With the line open, 6 jobs for each kept transaction are enough in an image that began with makowist_fresh (the theorem
  * is night-enough).
  *
+ * An import. A carrier whose switch was run by the earlier product begins with makowist_import in place of makowist_fresh: lend
+ * the old list, MAKOWIST_ENTRY_LENGTH bytes an entry, oldest first (makowist_put_change and makowist_put_rollback write them;
+ * examples/import-csv makes them of a CSV file, and docs/IMPORT.md says how an old list maps). It is not for an image that has
+ * begun: what the bytes held before is gone. Accepted, the image is that which makowist_start, makowist_connect and
+ * makowist_master for node 1 leave, and then the list's calls, all commits finished and nothing applied. It shows no event; whoever
+ * keeps a record keeps the list, which stands for those calls and their events. It says that the switch runs and that node 1 is
+ * connected and master: make that so before the call, or report behind it what is not (disconnect, stop). Then sync twice, and
+ * let the jobs, or a night, bring to the switch what is committed; what was undone in the list is Aborted and Canceled on the
+ * way, and never pushed. The switch's values of old are not asked for: the first sync that writes has it take the applied values,
+ * which are all absent. What this file says of an image that began with makowist_fresh holds of one that began so.
+ * Refused, no byte was written, and makowist_reply_position says which entry is bad, from 1 on: mend that one in the list, and
+ * import it anew; the entries behind it have not been judged. docs/IMPORT.md has what to do about each refusal.
+ *
  * After a crash. Keep an image whole before its answer is used: a call writes into the lent bytes where they lie, so keep
  * the old ones until the new ones are safe (examples/server.c). Lend the last image kept and go on as above: the try on a
  * copy shows what is left of a step that was cut, and a push that the image does not show is a push again. What was lost
@@ -134,16 +147,18 @@ enum {
     MAKOWIST_ORDINAL_LIMIT = 131070, /* the greatest ordinal; 0 means none */
     MAKOWIST_BUDGET_LIMIT = 4096, /* jobs of a night */
     MAKOWIST_OUTCOMES = 256,      /* bytes of a night's table */
-    MAKOWIST_EVENT_LENGTH = 16    /* bytes of a night's event */
+    MAKOWIST_EVENT_LENGTH = 16,   /* bytes of a night's event */
+    MAKOWIST_ENTRY_LENGTH = 20,   /* bytes of an entry of an old list */
+    MAKOWIST_ENTRY_LIMIT = 256    /* entries of an old list */
 };
 
 /* What a call answers: accepted, or why it was refused. */
 enum {
     MAKOWIST_ACCEPTED = 0,
     MAKOWIST_NOT_WELL_FORMED = 1,   /* the lent bytes are no well-formed image */
-    MAKOWIST_OUT_OF_RANGE = 2,      /* node, job, outcome, cut, budget, table, path or field out of range */
-    MAKOWIST_NOT_A_CHANGE = 3,      /* the pairs are no valid change */
-    MAKOWIST_LOG_FULL = 4,          /* append where 128 are kept */
+    MAKOWIST_OUT_OF_RANGE = 2,      /* node, job, outcome, cut, budget, table, path, field or a list's length out of range */
+    MAKOWIST_NOT_A_CHANGE = 3,      /* the pairs, of an append or of an old list's entry, are no valid change */
+    MAKOWIST_LOG_FULL = 4,          /* append where 128 are kept; import: the 129th change */
     MAKOWIST_NO_SUCH_NUMBER = 5,    /* number 0 or past the log's end; to fold, one that is not kept */
     MAKOWIST_NO_ROLLBACK = 6,       /* phase is not Change, or c.commit is not Complete */
     MAKOWIST_ALREADY_SO = 7,        /* target or connection already so */
@@ -155,6 +170,7 @@ enum {
     MAKOWIST_PUSH_REJECTED = 13,    /* the target rejects a rollback push */
     MAKOWIST_NO_ROOM = 14,          /* the live list is longer than the room lent */
     MAKOWIST_NOT_WAITING = 15,      /* why, of a job that would not be refused with MAKOWIST_NO_RULE */
+    MAKOWIST_NOT_THE_NEWEST = 16,   /* import: a rollback of anything but the newest live change, or an entry of neither kind */
     MAKOWIST_NOT_FINISHED = 17,     /* something is left to do of what is to be folded, or is under way */
     MAKOWIST_FOLDED = 18            /* the number is folded */
 };
@@ -208,6 +224,9 @@ enum {
 /* The parts of an event that makowist_night wrote. */
 enum { MAKOWIST_EVENT_PHASE = 0, MAKOWIST_EVENT_STAGE = 1, MAKOWIST_EVENT_NUMBER = 2, MAKOWIST_EVENT_STATUS = 3 };
 
+/* The kinds of entries of an old list. */
+enum { MAKOWIST_ENTRY_CHANGE = 1, MAKOWIST_ENTRY_ROLLBACK = 2 };
+
 /* ---- Names, for printing; "?" for a number that is none. */
 
 static inline const char *makowist_answer_name(uint64_t answer) {
@@ -215,7 +234,7 @@ static inline const char *makowist_answer_name(uint64_t answer) {
         "accepted",          "not well-formed", "out of range",     "not a change",       "log full",
         "no such number",    "no rollback",     "already so",       "target stopped",     "counter at limit",
         "not master",        "no rule",         "line not open",    "push rejected",      "no room",
-        "not waiting",       "?",               "not finished",     "folded"};
+        "not waiting",       "not the newest",  "not finished",     "folded"};
     return answer < sizeof names / sizeof *names ? names[answer] : "?";
 }
 
@@ -260,7 +279,12 @@ static inline unsigned makowist_reply_stopped(uint64_t reply) { return (unsigned
 static inline unsigned makowist_reply_jobs(uint64_t reply) { return (unsigned)(reply >> 16 & 0xffff); }
 static inline uint32_t makowist_reply_events(uint64_t reply) { return (uint32_t)(reply >> 32); }
 
-/* ---- Calls that change an image. All but makowist_fresh refuse MAKOWIST_NOT_WELL_FORMED first. */
+/* The reply of makowist_import: answer + 2^32 position: that of the first bad entry, from 1 on; 0 where it is accepted, or where it
+ * is refused for no entry. */
+static inline uint16_t makowist_reply_position(uint64_t reply) { return (uint16_t)(reply >> 32 & 0xffff); }
+
+/* ---- Calls that change an image. All but makowist_fresh and makowist_import refuse MAKOWIST_NOT_WELL_FORMED first; these two
+ * for the length alone. */
 
 /* Makes the bytes, whatever they hold, a fresh image: empty log, no master, configuration Pending, all else 0.
  * Refuses MAKOWIST_NOT_WELL_FORMED, for the length alone. */
@@ -336,6 +360,38 @@ uint64_t makowist_night(uint8_t *image, size_t length, uint64_t node, uint64_t b
 static inline uint32_t makowist_night_event(const uint8_t *events, size_t k, unsigned part) {
     const uint8_t *at = events + MAKOWIST_EVENT_LENGTH * k + 4 * part;
     return (uint32_t)at[0] | (uint32_t)at[1] << 8 | (uint32_t)at[2] << 16 | (uint32_t)at[3] << 24;
+}
+
+/* Makes the bytes, whatever they hold, the image that an old list leads to, in place of makowist_fresh. entries are
+ * MAKOWIST_ENTRY_LENGTH bytes each, at most MAKOWIST_ENTRY_LIMIT of them, oldest first; entries_length is in bytes. An entry is
+ * 16-bit numbers, little-endian: its kind, MAKOWIST_ENTRY_CHANGE or MAKOWIST_ENTRY_ROLLBACK; for a change the number of its pairs,
+ * for a rollback the position in the list, from 1 on, of the change that it undoes; and four pairs, path and value. Pairs past a
+ * change's number, and a rollback's, are not looked at. Changes are taken in order and numbered from 1, rollbacks have no number;
+ * a rollback may name the newest change that is not undone, and nothing else.
+ * Refuses MAKOWIST_NOT_WELL_FORMED (the image's length), MAKOWIST_OUT_OF_RANGE (entries_length is no multiple of
+ * MAKOWIST_ENTRY_LENGTH, or of more entries); then for the first bad entry MAKOWIST_NOT_A_CHANGE (also more than four pairs),
+ * MAKOWIST_LOG_FULL (the 129th change), MAKOWIST_NOT_THE_NEWEST, with its position. */
+uint64_t makowist_import(uint8_t *image, size_t length, const uint8_t *entries, size_t entries_length);
+
+/* Writes an entry of an old list, MAKOWIST_ENTRY_LENGTH bytes: a change of so many pairs, each of them as makowist_put_pair wrote it.
+ * More than four make it an entry of none, which is refused. */
+static inline void makowist_put_change(uint8_t *entry, const uint8_t *pairs, size_t count) {
+    size_t used = count > MAKOWIST_PAIR_LIMIT ? 0 : count;
+    for (size_t k = 0; k < MAKOWIST_ENTRY_LENGTH; ++k)
+        entry[k] = (uint8_t)(k >= 4 && k < 4 + MAKOWIST_PAIR_LENGTH * used ? pairs[k - 4] : 0);
+    entry[0] = MAKOWIST_ENTRY_CHANGE;
+    entry[2] = (uint8_t)used;
+}
+
+/* The same, a rollback of the change at that position. One that has no 16 bits makes it a rollback of position 0, which names
+ * nothing. */
+static inline void makowist_put_rollback(uint8_t *entry, uint64_t position) {
+    uint64_t kept = position > 65535 ? 0 : position;
+    for (size_t k = 0; k < MAKOWIST_ENTRY_LENGTH; ++k)
+        entry[k] = 0;
+    entry[0] = MAKOWIST_ENTRY_ROLLBACK;
+    entry[2] = (uint8_t)(kept & 0xff);
+    entry[3] = (uint8_t)(kept >> 8 & 0xff);
 }
 
 /* ---- Reads. They change no byte of the image. All refuse MAKOWIST_NOT_WELL_FORMED first. */
