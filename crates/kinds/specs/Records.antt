@@ -13,6 +13,7 @@ withChange t x =
       rollback = t .rollback;
       index = t .index;
       kept = t .kept;
+      owners = t .owners;
     }
 
 abbrev pub withRollback : Transaction → Side → Transaction
@@ -26,4 +27,5 @@ withRollback t x =
       rollback = x;
       index = t .index;
       kept = t .kept;
+      owners = t .owners;
     }

@@ -314,7 +314,7 @@ pub struct Side {
 }
 
 // An entry of the log: phase 1 Change or 2 Rollback; the first `count` places hold pairs; `index` is the revision to
-// return to (r.index) and `kept` are the values to return to (r.values).
+// return to (r.index), `kept` are the values to return to (r.values) and `owners` the numbers that its paths' owners return to.
 pub struct Transaction {
     pub phase: u8,
     pub count: u8,
@@ -324,6 +324,7 @@ pub struct Transaction {
     pub rollback: Side,
     pub index: Number,
     pub kept: [u16; 4],
+    pub owners: [u16; 4],
 }
 
 impl Transaction {
@@ -336,6 +337,7 @@ impl Transaction {
         let rollback = self.rollback;
         let index = self.index;
         let kept = self.kept;
+        let owners = self.owners;
         Transaction {
             phase: self.phase,
             count: self.count,
@@ -345,6 +347,7 @@ impl Transaction {
             rollback,
             index,
             kept,
+            owners,
         }
     }
 
@@ -357,6 +360,7 @@ impl Transaction {
         let change = self.change;
         let index = self.index;
         let kept = self.kept;
+        let owners = self.owners;
         Transaction {
             phase: self.phase,
             count: self.count,
@@ -366,6 +370,7 @@ impl Transaction {
             rollback,
             index,
             kept,
+            owners,
         }
     }
 }

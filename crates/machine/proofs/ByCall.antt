@@ -24,7 +24,7 @@ use Rattle.machine.specs.Settled.{settled}
 use Rattle.machine.specs.Rest.{restOf}
 use Rattle.machine.specs.LiveList.{live}
 use Rattle.machine.specs.Folding.{mayFold}
-use Rattle.machine.specs.Calls.{Pair, Call, Outcome, append, rollback, start, stop, connect, disconnect, master, sync, work, foldTo, refused, unless, answers, validChange, appended, present, job1, job2, job3, job4, planOf, commits, planned, workOk, copyRow, decide}
+use Rattle.machine.specs.Calls.{Pair, Call, Outcome, append, rollback, start, stop, connect, disconnect, master, sync, work, foldTo, refused, unless, answers, validChange, appended, presentOf, job1, job2, job3, job4, planOf, commits, planned, workOk, copyRow, decide}
 use Rattle.machine.specs.Rows.{eventOf}
 use Rattle.machine.specs.Step.{outcome, step}
 use Rattle.machine.specs.Notes.{Note, nothing, wrote, pushNote, syncNote, noteOf, note}
@@ -105,7 +105,7 @@ module _ (s : State) (P : Note → Reply → State → Type 0) where
     pub syncing : P nothing (refusal 0) (withNet s (syncing (s .net)))
     pub synced : P wrote (refusal 0) (withNet s (synced (s .net) (s .applied .values)))
     pub job1 : (i : ℕ) → s .log .folded .0 < i → i ≤ last (s .log) → (first second : Bool)
-        → CommitChange (entryOf (s .log) i) (s .committed .head) i (Does true i first second) (s .change) (restOf s) (present (s .committed .values) (entryOf (s .log) i))
+        → CommitChange (entryOf (s .log) i) (s .committed .head) i (Does true i first second) (s .change) (restOf s) (presentOf s (entryOf (s .log) i))
     pub job2 : (n i : ℕ) → s .log .folded .0 < i → i ≤ last (s .log) → (first second : Bool)
         → ApplyChange (entryOf (s .log) i) (s .applied .head) i (Does false i first second) (settled s) (lineOpenFor (s .net) n)
     pub job3 : (i : ℕ) → s .log .folded .0 < i → i ≤ last (s .log) → (first second : Bool)

@@ -2,7 +2,6 @@
 -- a field a rule. Assumes nothing.
 use Prim.Native.Nat.{ℕ, suc, _+_, _≤_, _<_}
 use native.Mathlib.Omega.{arith}
-use mathlib.Core.List.{List}
 use mathlib.Core.Bool.{Bool, true, false, _&&_, _||_, cond}
 use mathlib.Core.Path.{_≡_, refl}
 use lib.Dec.{eqb, ltb, leb}
@@ -16,6 +15,7 @@ use Rattle.kinds.specs.declared.Status.the-variants.{None, Pending, InProgress,
 use Rattle.kinds.specs.Numbers.{num, ord, follows, isFull, ordinalUnless, nextOrdinal}
 use Rattle.kinds.specs.Statuses.{isComplete}
 use Rattle.rules.specs.declared.Plan.{Plan}
+use Rattle.rules.specs.declared.Present.{Present}
 use Rattle.rules.specs.declared.CommitChangeRule.the-variants as change
 use Rattle.rules.specs.declared.CommitRollbackRule.the-variants as rollback
 use Rattle.rules.specs.declared.ApplyChangeRule.the-variants as apply
@@ -69,7 +69,7 @@ one-more o e = go (isFull (o .0)) e
 
 module _ (t : Transaction) (h : Head) (i : ℕ) (P : Plan → Type 0) where
   -- ---- job 1: c is Committed's change
-  module _ (c : Number) (rest : Bool) (present : List ℕ) where
+  module _ (c : Number) (rest : Bool) (present : Present) where
     pub record CommitChange : Type 0 where
       pub wait : P (refuse 11 t h)
       pub full : t .change .commit ≡ InProgress → i ≡ suc (c .0) → 131070 ≤ h .ordinal .0 → P (refuse 9 t h)

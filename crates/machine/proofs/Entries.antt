@@ -12,11 +12,11 @@ use borrow.Author.Tests.{leb-true, leb-false}
 use Rattle.kinds.specs.declared.Transaction.{Transaction}
 use Rattle.rules.specs.declared.Lay.{Lay}
 use Rattle.rules.specs.declared.Lay.the-variants.{Nothing, Values, Kept}
-use Rattle.machine.specs.State.{Log, unfolded, blank, placeOf, putPlace, entryOf, putEntry, grown, foldedTo, last}
+use Rattle.machine.specs.State.{Log, unfolded, inEach, blank, placeOf, putPlace, entryOf, putEntry, grown, foldedTo, last}
 use Rattle.machine.specs.Stores.{withBase}
 use Rattle.kinds.specs.Numbers.{num}
 use Rattle.machine.specs.WellFormed.{allFrom, allEntries}
-use Rattle.machine.specs.Laid.{laying, over, laidOver}
+use Rattle.machine.specs.Laid.{laying, over, laidOver, ownedOver}
 use Rattle.machine.proofs.Next.{layingIf, baseOver}
 use Rattle.machine.proofs.Cases.{and-left, and-right}
 
@@ -197,6 +197,11 @@ pub length-laid : (v : Lay) (t : Transaction) (l : List ℕ) → length (laidOve
 length-laid Nothing t l = refl
 length-laid Values t l = length-over (t .paths) (t .values) (t .count) l
 length-laid Kept t l = length-over (t .paths) (t .kept) (t .count) l
+
+pub length-owned : (v : Lay) (t : Transaction) (i : ℕ) (l : List ℕ) → length (ownedOver v t i l) ≡ length l
+length-owned Nothing t i l = refl
+length-owned Values t i l = length-over (t .paths) (inEach i) (t .count) l
+length-owned Kept t i l = length-over (t .paths) (t .owners) (t .count) l
 
 length-if : (c : Bool) (t : Transaction) (vs : List ℕ) → length (layingIf c t vs) ≡ length vs
 length-if true t vs = length-over (t .paths) (t .values) (t .count) vs

@@ -19,6 +19,7 @@ use Rattle.kinds.specs.Events.{event, numbered, refusal}
 use Rattle.kinds.specs.Records.{withRollback}
 use Rattle.rules.specs.Sides.{begun}
 use Rattle.rules.specs.declared.Lay.the-variants.{Values, Kept}
+use Rattle.rules.specs.declared.Present.{Present}
 use Rattle.rules.specs.Heads.{aimed}
 use Rattle.rules.specs.Outside as outside
 use Rattle.rules.specs.declared.CommitChangeRule.the-variants as change
@@ -26,15 +27,15 @@ use Rattle.rules.specs.declared.CommitRollbackRule.the-variants as back
 use Rattle.rules.specs.CommitChange as job1
 use Rattle.rules.specs.CommitRollback as job3
 use Rattle.machine.specs.State.{Log, State, entryOf, putPlace, putEntry, grown, last}
-use Rattle.machine.specs.Stores.{ofCommitted, withLog, after, afters}
+use Rattle.machine.specs.Stores.{withLog, withLedgerHead, after, afters}
 use Rattle.machine.specs.Rows.{eventOf}
 use Rattle.machine.specs.Entered.{changedEntry, changedHead, changed, changeStores, newestIn, undoneEntry, undoneHead, undone, undoStores}
 use Rattle.machine.specs.WellFormed.{wellFormed}
 use Rattle.machine.specs.Rest.{markOf, restOf}
-use Rattle.machine.specs.Calls.{Pair, Call, append, rollback, work, validChange, appended, present, planOf, decide}
+use Rattle.machine.specs.Calls.{Pair, Call, append, rollback, work, validChange, appended, presentOf, planOf, decide}
 use Rattle.machine.specs.Step.{outcome, step, run}
 use Rattle.machine.specs.Imports.{Accepted}
-use Rattle.machine.proofs.Next.{laid-over, putting, performed}
+use Rattle.machine.proofs.Next.{laid-owned, putting, performed}
 use Rattle.machine.proofs.Entries.{and-both, entry-put, entry-add, last-put, last-add}
 use Rattle.machine.proofs.Kept.{reached-well-formed}
 use Rattle.machine.proofs.Worked.{work-step}
@@ -43,28 +44,28 @@ use Rattle.machine.proofs.Worked.{work-step}
 pub change-stores : (s : State) (ps : List Pair) → afters s (changeStores s ps) ≡ changed s ps
 unfolding afters after
 change-stores s ps =
-    laid-over
+    laid-owned
     (record {
       log = grown (s .log) (changedEntry s ps);
       change = num (suc (last (s .log)));
-      committed = record { head = changedHead s; values = s .committed .values };
+      committed = record { head = changedHead s; values = s .committed .values; owners = s .committed .owners };
       applied = s .applied;
       net = s .net;
     })
-    ofCommitted Values (appended ps)
+    Values (appended ps) (suc (last (s .log)))
 
 pub undo-stores : (s : State) → afters s (undoStores s) ≡ undone s
 unfolding afters after
 undo-stores s =
-    laid-over
+    laid-owned
     (record {
       log = putEntry (s .log) (s .committed .head .revision .0) (undoneEntry s);
       change = s .change;
-      committed = record { head = undoneHead s; values = s .committed .values };
+      committed = record { head = undoneHead s; values = s .committed .values; owners = s .committed .owners };
       applied = s .applied;
       net = s .net;
     })
-    ofCommitted Kept (newestIn s)
+    Kept (newestIn s) (s .committed .head .revision .0)
 
 -- ---- an entry stored twice, and stored at the end
 set-twice : (ts : List Transaction) (j : ℕ) (t u : Transaction) → set (set ts j t) j u ≡ set ts j u
@@ -125,8 +126,8 @@ module _ (s : State) (w : wellFormed s ≡ true) (fold : s .log .folded .0 ≡ 0
     abbrev i : ℕ
     i = suc (last (s .log))
 
-    abbrev vs : List ℕ
-    vs = present (s .committed .values) (appended ps)
+    abbrev vs : Present
+    vs = presentOf s (appended ps)
 
     -- appended; begun; committed
     abbrev a1 : State
@@ -136,7 +137,14 @@ module _ (s : State) (w : wellFormed s ≡ true) (fold : s .log .folded .0 ≡ 0
     t1 = job1.beginning (appended ps) (h .revision) vs
 
     abbrev a2 : State
-    a2 = record { log = grown (s .log) t1; change = s .change; committed = record { head = aimed h (num i); values = s .committed .values }; applied = s .applied; net = s .net }
+    a2 =
+        record {
+          log = grown (s .log) t1;
+          change = s .change;
+          committed = withLedgerHead (s .committed) (aimed h (num i));
+          applied = s .applied;
+          net = s .net;
+        }
 
     appends : step s (append ps) ≡ record { reply = record { answer = 0; event = numbered (last (s .log) + 1) }; next = a1 }
     unfolding step outcome decide afters after
@@ -155,7 +163,7 @@ module _ (s : State) (w : wellFormed s ≡ true) (fold : s .log .folded .0 ≡ 0
         ∙ ap (λ p. record { reply = record { answer = p .answer; event = eventOf p false }; next = performed true a1 p i false false }) aims
         ∙ ap (λ l. record { reply = record { answer = 0; event = event 1 1 (num i) InProgress }; next = withLog a2 l }) (put-grown (s .log) (appended ps) t1)
 
-    lands : planOf a2 1 1 i true ≡ job1.plans change.Land t1 (aimed h (num i)) (num i) (nextOrdinal (h .ordinal)) (present (s .committed .values) t1)
+    lands : planOf a2 1 1 i true ≡ job1.plans change.Land t1 (aimed h (num i)) (num i) (nextOrdinal (h .ordinal)) (presentOf s t1)
     unfolding planOf
     lands = simp (entry-add (s .log) t1, ready, full)
 
@@ -196,7 +204,14 @@ module _ (s : State) (w : wellFormed s ≡ true) (fold : s .log .folded .0 ≡ 0
     u2 = withRollback u1 (begun (u1 .rollback))
 
     abbrev b2 : State
-    b2 = record { log = putEntry (s .log) k u2; change = s .change; committed = record { head = aimed h (t .index); values = s .committed .values }; applied = s .applied; net = s .net }
+    b2 =
+        record {
+          log = putEntry (s .log) k u2;
+          change = s .change;
+          committed = withLedgerHead (s .committed) (aimed h (t .index));
+          applied = s .applied;
+          net = s .net;
+        }
 
     above : ltb (s .log .folded .0) k ≡ true
     above = lt-ltb (s .log .folded .0) k (omega arith)

@@ -7,7 +7,7 @@ use lib.ListN.{replicate}
 use Rattle.kinds.specs.declared.Event.{Event}
 use Rattle.machine.specs.Stores.{after, afters}
 use Rattle.machine.specs.Rows.{overlay, rowsOf}
-use Rattle.machine.specs.WellFormed.{allFrom, pairsOk, entryOk, headOk, wellFormed}
+use Rattle.machine.specs.WellFormed.{allFrom, allAtMost, pairsOk, entryOk, headOk, wellFormed}
 use Rattle.machine.specs.LiveList.{hops}
 use Rattle.machine.specs.Folding.{baseRow}
 use Rattle.machine.specs.Reads.{entryNumbers, stateNumbers}
@@ -57,7 +57,7 @@ fields =
     ∷ refuses (twos (1 ∷ 1 ∷ 259 ∷ 7 ∷ 0 ∷ 0 ∷ 0 ∷ 0 ∷ 0 ∷ 0 ∷ [])) 3 1 ∷ refuses (change 7 0 ++ undoes 257 0) 16 2 ∷ []
 
 pub fields-hold : read fields ≡ true
-unfolding read twos sameEvents importOf entriesOf entriesFrom entryIn pairsAt import judged judgedFrom numberAt callsUpTo run step outcome decide planOf afters after overlay rowsOf allFrom pairsOk entryOk headOk wellFormed valuesOk present hops baseRow agrees begins entryNumbers stateNumbers fields
+unfolding read twos sameEvents importOf entriesOf entriesFrom entryIn pairsAt import judged judgedFrom numberAt callsUpTo run step outcome decide planOf afters after overlay rowsOf allFrom allAtMost pairsOk entryOk headOk wellFormed valuesOk present hops baseRow agrees begins entryNumbers stateNumbers fields
 fields-hold = refl
 
 -- ---- kind 1 is a change, 2 a rollback, and every other is neither
@@ -67,7 +67,7 @@ kinds =
     ∷ refuses (change 7 0 ++ ofKind 0) 16 2 ∷ refuses (change 7 0 ++ ofKind 258) 16 2 ∷ of (change 7 0 ++ ofKind 2) 0 0 (returns 1 (commits 1 opens)) [] ∷ []
 
 pub kinds-hold : read kinds ≡ true
-unfolding read twos sameEvents importOf entriesOf entriesFrom entryIn pairsAt import judged judgedFrom numberAt callsUpTo run step outcome decide planOf afters after overlay rowsOf allFrom pairsOk entryOk headOk wellFormed valuesOk present hops baseRow agrees begins entryNumbers stateNumbers kinds
+unfolding read twos sameEvents importOf entriesOf entriesFrom entryIn pairsAt import judged judgedFrom numberAt callsUpTo run step outcome decide planOf afters after overlay rowsOf allFrom allAtMost pairsOk entryOk headOk wellFormed valuesOk present hops baseRow agrees begins entryNumbers stateNumbers kinds
 kinds-hold = refl
 
 -- ---- no pairs, or more than four, whatever stands behind them, are 3
@@ -77,7 +77,7 @@ counts =
     ∷ refuses (change 7 0 ++ ofPairs 5) 3 2 ∷ []
 
 pub counts-hold : read counts ≡ true
-unfolding read twos sameEvents importOf entriesOf entriesFrom entryIn pairsAt import judged judgedFrom numberAt callsUpTo run step outcome decide planOf afters after overlay rowsOf allFrom pairsOk entryOk headOk wellFormed valuesOk present hops baseRow agrees begins entryNumbers stateNumbers counts
+unfolding read twos sameEvents importOf entriesOf entriesFrom entryIn pairsAt import judged judgedFrom numberAt callsUpTo run step outcome decide planOf afters after overlay rowsOf allFrom allAtMost pairsOk entryOk headOk wellFormed valuesOk present hops baseRow agrees begins entryNumbers stateNumbers counts
 counts-hold = refl
 
 -- ---- bytes that are no list of entries, or of more than 256, are 2 with position 0, whatever they are
@@ -86,5 +86,5 @@ sizes =
     refuses (replicate 19 0) 2 0 ∷ refuses (0 ∷ change 7 0) 2 0 ∷ refuses (change 7 0 ++ (1 ∷ [])) 2 0 ∷ refuses (replicate 5120 0) 16 1 ∷ refuses (replicate 5121 0) 2 0 ∷ refuses (replicate 5140 0) 2 0 ∷ []
 
 pub sizes-hold : read sizes ≡ true
-unfolding read twos sameEvents importOf entriesOf entriesFrom entryIn pairsAt import judged judgedFrom numberAt callsUpTo run step outcome decide planOf afters after overlay rowsOf allFrom pairsOk entryOk headOk wellFormed valuesOk present hops baseRow agrees begins entryNumbers stateNumbers sizes
+unfolding read twos sameEvents importOf entriesOf entriesFrom entryIn pairsAt import judged judgedFrom numberAt callsUpTo run step outcome decide planOf afters after overlay rowsOf allFrom allAtMost pairsOk entryOk headOk wellFormed valuesOk present hops baseRow agrees begins entryNumbers stateNumbers sizes
 sizes-hold = refl

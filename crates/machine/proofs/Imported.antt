@@ -14,7 +14,7 @@ use Rattle.kinds.specs.Numbers.{num, isFull, ordinalUnless, nextOrdinal}
 use Rattle.rules.specs.Outside as outside
 use Rattle.machine.specs.State.{Log, State, absent, freshPart, entryOf, putEntry, grown, last}
 use Rattle.machine.specs.Stores.{withLog, after, afters}
-use Rattle.machine.specs.WellFormed.{allFrom, headOk, wellFormed}
+use Rattle.machine.specs.WellFormed.{allFrom, allAtMost, headOk, wellFormed}
 use Rattle.machine.specs.Calls.{Pair, Call, append, rollback, work, validChange, appended, decide}
 use Rattle.machine.specs.Step.{outcome, step, run}
 use Rattle.machine.specs.Import.{Entry, adds, undoes, neither, Verdict, judged, opening, numberAt, callsOf, callsUpTo, importCalls}
@@ -293,7 +293,7 @@ record Goes (es : List Entry) (k : ℕ) : Type 0 where
   ready : Ready es k places state
 
 opened : (es : List Entry) → Goes es 0
-unfolding run step outcome decide afters after wellFormed allFrom headOk Accepted Chain callsUpTo numberAt
+unfolding run step outcome decide afters after wellFormed allFrom allAtMost headOk Accepted Chain callsUpTo numberAt
 opened es =
     record {
       places = [];

@@ -34,14 +34,16 @@ use Rattle.rules.specs.CommitChange.{beginning}
 use Rattle.rules.specs.Outside as outside
 use Rattle.machine.specs.State.{State, Net, Log, fresh, entryOf, putEntry, grown, last, putNode}
 use Rattle.machine.specs.Stores.{withLog, withNet}
-use Rattle.machine.specs.WellFormed.{allFrom, allEntries, pairsOk, entryOk, headOk, sizesOk, headsOk, logOk, wellFormed}
+use Rattle.machine.specs.Laid.{ownedOver}
+use Rattle.machine.specs.WellFormed.{allFrom, allAtMost, allEntries, pairsOk, recallsOk, entryOk, headOk, sizesOk, headsOk, logOk, wellFormed}
 use Rattle.machine.specs.LiveList.{live}
-use Rattle.machine.specs.Calls.{Pair, Call, validChange, appended, pathOf, valuesOk, present}
+use Rattle.machine.specs.Calls.{Pair, Call, validChange, appended, pathOf, valuesOk, presentOf}
 use Rattle.machine.specs.Step.{step, run}
 use Rattle.machine.proofs.Next.{putting, changeIf, heading, targeting, performedBy, layingIf, baseOver, folding}
 use Rattle.machine.specs.Notes.{Note}
 use Rattle.machine.proofs.Cases.{and-left, and-right}
-use Rattle.machine.proofs.Entries.{put-all, add-all, last-fold, entry-fold, length-base, length-place, last-put, length-add, last-add, entry-add, entries-true, true-entries, and-both, length-laid}
+use Rattle.machine.proofs.Entries.{put-all, add-all, last-fold, entry-fold, length-base, length-place, last-put, length-add, last-add, entry-add, entries-true, true-entries, and-both, length-laid, length-owned}
+use Rattle.machine.proofs.AtMost.{Most, Recalls, most-true, true-most, recalls-true, true-recalls, most-recalls, most-set, most-back, most-present}
 use Rattle.machine.proofs.ByCall.{Calls, HasRoom, by-call, syncing, synced}
 
 -- ---- a refusal changes nothing, and 1 is for a state that is not well-formed
@@ -128,6 +130,7 @@ pub record EntryFormed (i : ℕ) (t : Transaction) : Type 0 where
   pub change : t .change .ordinal .0 ≤ 131070
   pub rollback : t .rollback .ordinal .0 ≤ 131070
   pub pairs : pairsOk (t .count) (t .paths) ≡ true
+  pub recalls : Recalls i (t .owners)
 
 pub record HeadFormed (n : ℕ) (h : Head) : Type 0 where
   pub index : h .index .0 ≤ n
@@ -135,10 +138,11 @@ pub record HeadFormed (n : ℕ) (h : Head) : Type 0 where
   pub revision : h .revision .0 ≤ n
   pub ordinal : h .ordinal .0 ≤ 131070
 
--- Committed's change c against its revision and the log's length
-pub record ChangeFormed (n c : ℕ) (h : Head) : Type 0 where
+-- Committed's change c against its revision, its owners and the log's length
+pub record ChangeFormed (n c : ℕ) (h : Head) (os : List ℕ) : Type 0 where
   pub inLog : c ≤ n
   pub behind : h .revision .0 ≤ c
+  pub owned : Most c os
 
 pub record NetFormed (w : Net) : Type 0 where
   pub master : w .mastership .master ≤ 8
@@ -154,9 +158,10 @@ pub record Formed (s : State) : Type 0 where
   pub log : LogFormed (s .log)
   pub entries : (k : ℕ) → s .log .folded .0 < k → k ≤ last (s .log) → EntryFormed k (entryOf (s .log) k)
   pub committed : HeadFormed (last (s .log)) (s .committed .head)
-  pub change : ChangeFormed (last (s .log)) (s .change .0) (s .committed .head)
+  pub change : ChangeFormed (last (s .log)) (s .change .0) (s .committed .head) (s .committed .owners)
   pub applied : HeadFormed (last (s .log)) (s .applied .head)
   pub committedValues : length (s .committed .values) ≡ 32
+  pub owners : length (s .committed .owners) ≡ 32
   pub appliedValues : length (s .applied .values) ≡ 32
   pub net : NetFormed (s .net)
 
@@ -170,22 +175,25 @@ entry-formed i t e =
     let r = leb (t .rollback .ordinal .0) 131070 in
     let o = pairsOk (t .count) (t .paths) in
     let f : (p && q) ≡ true = and-left (p && q) _ e in
-    let g : (b && ((c && r) && o)) ≡ true = and-right (p && q) _ e in
-    let m : ((c && r) && o) ≡ true = and-right b _ g in
+    let d = recallsOk i (t .owners) in
+    let g : ((b && d) && ((c && r) && o)) ≡ true = and-right (p && q) _ e in
+    let u : (b && d) ≡ true = and-left (b && d) _ g in
+    let m : ((c && r) && o) ≡ true = and-right (b && d) _ g in
     let n : (c && r) ≡ true = and-left (c && r) o m in
     record {
       phase = (leb-true _ _ (and-left p q f), leb-true _ _ (and-right p q f));
-      below = ltb-true _ _ (and-left b _ g);
+      below = ltb-true _ _ (and-left b d u);
       change = leb-true _ _ (and-left c r n);
       rollback = leb-true _ _ (and-right c r n);
       pairs = and-right (c && r) o m;
+      recalls = recalls-true i (t .owners) (and-right b d u);
     }
 
 formed-entry : (i : ℕ) (t : Transaction) → EntryFormed i t → entryOk i t ≡ true
 unfolding entryOk
 formed-entry i t f =
     and-both _ _ (and-both _ _ (le-leb _ _ (f .phase .0)) (le-leb _ _ (f .phase .1)))
-    (and-both _ _ (lt-ltb _ _ (f .below)) (and-both _ _ (and-both _ _ (le-leb _ _ (f .change)) (le-leb _ _ (f .rollback))) (f .pairs)))
+    (and-both _ _ (and-both _ _ (lt-ltb _ _ (f .below)) (true-recalls i (t .owners) (f .recalls))) (and-both _ _ (and-both _ _ (le-leb _ _ (f .change)) (le-leb _ _ (f .rollback))) (f .pairs)))
 
 head-formed : (n : ℕ) (h : Head) → headOk n h ≡ true → HeadFormed n h
 unfolding headOk
@@ -221,10 +229,14 @@ formed s e =
     let hh = headOk n (s .committed .head) && headOk n (s .applied .head) in
     let c : hs ≡ true = and-left hs _ a in
     let d : hh ≡ true = and-left hh _ c in
-    let ch = leb (s .change .0) n && leb (s .committed .head .revision .0) (s .change .0) in
+    let rs = leb (s .committed .head .revision .0) (s .change .0) in
+    let ow = allAtMost (s .change .0) (s .committed .owners) in
+    let ch = leb (s .change .0) n && (rs && ow) in
     let g : (ch && leb (s .net .mastership .master) 8) ≡ true = and-right hh _ c in
     let h : ch ≡ true = and-left ch _ g in
-    let vs = eqb (length (s .committed .values)) 32 && eqb (length (s .applied .values)) 32 in
+    let ro : (rs && ow) ≡ true = and-right (leb (s .change .0) n) (rs && ow) h in
+    let os = eqb (length (s .committed .values)) 32 && eqb (length (s .committed .owners)) 32 in
+    let vs = os && eqb (length (s .applied .values)) 32 in
     let z : sizesOk s ≡ true = and-right es _ b in
     let bs = eqb (length (s .log .base)) 32 && eqb (length (s .net .connections)) 8 in
     let ns = eqb (length (s .net .values)) 32 && bs in
@@ -239,10 +251,15 @@ formed s e =
       };
       entries = λ j p q. entry-formed j _ (entries-true entryOk (s .log) (and-left es _ b) j p q);
       committed = head-formed n (s .committed .head) (and-left (headOk n (s .committed .head)) _ d);
-      change = record { inLog = leb-true _ _ (and-left (leb (s .change .0) n) _ h); behind = leb-true _ _ (and-right (leb (s .change .0) n) _ h) };
+      change = record {
+        inLog = leb-true _ _ (and-left (leb (s .change .0) n) _ h);
+        behind = leb-true _ _ (and-left rs ow ro);
+        owned = most-true _ (s .committed .owners) (and-right rs ow ro);
+      };
       applied = head-formed n (s .applied .head) (and-right (headOk n (s .committed .head)) _ d);
-      committedValues = eqb-true _ _ (and-left (eqb (length (s .committed .values)) 32) _ y);
-      appliedValues = eqb-true _ _ (and-right (eqb (length (s .committed .values)) 32) _ y);
+      committedValues = eqb-true _ _ (and-left (eqb (length (s .committed .values)) 32) _ (and-left os _ y));
+      owners = eqb-true _ _ (and-right (eqb (length (s .committed .values)) 32) _ (and-left os _ y));
+      appliedValues = eqb-true _ _ (and-right os _ y);
       net = record {
         master = leb-true _ _ (and-right ch _ g);
         values = eqb-true _ _ (and-left (eqb (length (s .net .values)) 32) _ x);
@@ -256,9 +273,9 @@ well-formed s f =
     and-both _ _ (and-both _ _ (le-leb _ _ (f .log .size)) (le-leb _ _ (f .log .last)))
     (and-both _ _
     (and-both _ _ (and-both _ _ (formed-head _ _ (f .committed)) (formed-head _ _ (f .applied)))
-    (and-both _ _ (and-both _ _ (le-leb _ _ (f .change .inLog)) (le-leb _ _ (f .change .behind))) (le-leb _ _ (f .net .master))))
+    (and-both _ _ (and-both _ _ (le-leb _ _ (f .change .inLog)) (and-both _ _ (le-leb _ _ (f .change .behind)) (true-most _ (s .committed .owners) (f .change .owned)))) (le-leb _ _ (f .net .master))))
     (and-both _ _ (true-entries entryOk (s .log) (λ k p q. formed-entry k _ (f .entries k p q)))
-    (and-both _ _ (and-both _ _ (eq-eqb _ _ (f .committedValues)) (eq-eqb _ _ (f .appliedValues)))
+    (and-both _ _ (and-both _ _ (and-both _ _ (eq-eqb _ _ (f .committedValues)) (eq-eqb _ _ (f .owners))) (eq-eqb _ _ (f .appliedValues)))
     (and-both _ _ (eq-eqb _ _ (f .net .values)) (and-both _ _ (eq-eqb _ _ (f .log .base)) (eq-eqb _ _ (f .net .connections)))))))
 
 -- ---- the stores of a plan
@@ -273,11 +290,13 @@ module _ (s : State) (f : Formed s) where
         change = rw n (f .change);
         applied = rw n (f .applied);
         committedValues = f .committedValues;
+        owners = f .owners;
         appliedValues = f .appliedValues;
         net = f .net;
       }
 
-  committed-formed : (p : Plan) (i : ℕ) → HeadFormed (last (s .log)) (p .head) → ChangeFormed (last (s .log)) (changeIf (p .change) i (s .change) .0) (p .head)
+  committed-formed : (p : Plan) (i : ℕ) → HeadFormed (last (s .log)) (p .head)
+      → ChangeFormed (last (s .log)) (changeIf (p .change) i (s .change) .0) (p .head) (ownedOver (p .lay) (p .entry) i (s .committed .owners))
       → Formed (heading true s p i)
   committed-formed p i h c =
       record {
@@ -287,6 +306,7 @@ module _ (s : State) (f : Formed s) where
         change = c;
         applied = f .applied;
         committedValues = length-laid (p .lay) (p .entry) (s .committed .values) ∙ f .committedValues;
+        owners = length-owned (p .lay) (p .entry) i (s .committed .owners) ∙ f .owners;
         appliedValues = f .appliedValues;
         net = f .net;
       }
@@ -300,6 +320,7 @@ module _ (s : State) (f : Formed s) where
         change = f .change;
         applied = h;
         committedValues = f .committedValues;
+        owners = f .owners;
         appliedValues = length-laid (p .lay) (p .entry) (s .applied .values) ∙ f .appliedValues;
         net = f .net;
       }
@@ -313,6 +334,7 @@ module _ (s : State) (f : Formed s) where
         change = f .change;
         applied = f .applied;
         committedValues = f .committedValues;
+        owners = f .owners;
         appliedValues = f .appliedValues;
         net = n;
       }
@@ -323,7 +345,7 @@ module _ (s : State) (f : Formed s) where
 
 module _ (s : State) (f : Formed s) (i : ℕ) where
   commit-formed : (o : Order) (p : Plan) (first second : Bool) → EntryFormed i (p .entry) → HeadFormed (last (s .log)) (p .head)
-      → ChangeFormed (last (s .log)) (changeIf (p .change) i (s .change) .0) (p .head)
+      → ChangeFormed (last (s .log)) (changeIf (p .change) i (s .change) .0) (p .head) (ownedOver (p .lay) (p .entry) i (s .committed .owners))
       → Formed (performedBy o true s p i first second)
   commit-formed Neither p first second e h c = f
   commit-formed EntryOnly p first second e h c = put-formed s f i (p .entry) e
@@ -362,7 +384,7 @@ Next x r s = Formed s
 appended-formed : (k : ℕ) (ps : List Pair) → 1 ≤ k → validChange ps ≡ true → EntryFormed k (appended ps)
 unfolding pairsOk
 appended-formed k ps b e =
-    record { phase = (omega arith, omega arith); below = b; change = omega arith; rollback = omega arith; pairs = and-left (pairsOk (length ps) (map pathOf ps)) (valuesOk ps) e }
+    record { phase = (omega arith, omega arith); below = b; change = omega arith; rollback = omega arith; pairs = and-left (pairsOk (length ps) (map pathOf ps)) (valuesOk ps) e; recalls = record { first = b; second = b; third = b; fourth = b } }
 
 length-node : (l : List Connection) (n : ℕ) (x : Connection) → length (putNode l n x) ≡ length l
 length-node l zero x = refl
@@ -379,9 +401,10 @@ module _ (s : State) (f : Formed s) where
         log = record { size = rw (length-add (s .log .entries) (appended ps)) b; last = rw n c; base = f .log .base };
         entries = λ k p q. go k p (rw n at q) (leb k (last (s .log))) refl;
         committed = rw n (grown-head _ _ (f .committed));
-        change = rw n (record { inLog = omega (arith, f .change .inLog); behind = f .change .behind });
+        change = rw n (record { inLog = omega (arith, f .change .inLog); behind = f .change .behind; owned = f .change .owned });
         applied = rw n (grown-head _ _ (f .applied));
         committedValues = f .committedValues;
+        owners = f .owners;
         appliedValues = f .appliedValues;
         net = f .net;
       }
@@ -406,24 +429,25 @@ module _ (s : State) (f : Formed s) where
         change = rw n (f .change);
         applied = rw n (f .applied);
         committedValues = f .committedValues;
+        owners = f .owners;
         appliedValues = f .appliedValues;
         net = f .net;
       }
 
   -- an entry of the log, its sides, what is kept and the revision to return to anew
   module _ (i : ℕ) (p : s .log .folded .0 < i) (q : i ≤ last (s .log)) where
-    remade : (c r : Side) (x : Number) (vs : List ℕ) → c .ordinal .0 ≤ 131070 → r .ordinal .0 ≤ 131070 → x .0 < i
+    remade : (c r : Side) (x : Number) (vs ws : List ℕ) → c .ordinal .0 ≤ 131070 → r .ordinal .0 ≤ 131070 → x .0 < i → Recalls i ws
         → EntryFormed i
         (let t = entryOf (s .log) i in
-        record { phase = t .phase; count = t .count; paths = t .paths; values = t .values; change = c; rollback = r; index = x; kept = vs })
-    remade c r x vs a b d = let e = f .entries i p q in record { phase = e .phase; below = d; change = a; rollback = b; pairs = e .pairs }
+        record { phase = t .phase; count = t .count; paths = t .paths; values = t .values; change = c; rollback = r; index = x; kept = vs; owners = ws })
+    remade c r x vs ws a b d m = let e = f .entries i p q in record { phase = e .phase; below = d; change = a; rollback = b; pairs = e .pairs; recalls = m }
 
     -- with other statuses
     changed : (c : Side) → c .ordinal .0 ≤ 131070 → EntryFormed i (withChange (entryOf (s .log) i) c)
-    changed c a = let e = f .entries i p q in remade c (entryOf (s .log) i .rollback) _ _ a (e .rollback) (e .below)
+    changed c a = let e = f .entries i p q in remade c (entryOf (s .log) i .rollback) _ _ _ a (e .rollback) (e .below) (e .recalls)
 
     returned : (r : Side) → r .ordinal .0 ≤ 131070 → EntryFormed i (withRollback (entryOf (s .log) i) r)
-    returned r b = let e = f .entries i p q in remade (entryOf (s .log) i .change) r _ _ (e .change) b (e .below)
+    returned r b = let e = f .entries i p q in remade (entryOf (s .log) i .change) r _ _ _ (e .change) b (e .below) (e .recalls)
 
     back : entryOf (s .log) i .index .0 ≤ last (s .log)
     back = omega (arith, f .entries i p q .below)
@@ -446,7 +470,7 @@ module _ (s : State) (f : Formed s) where
       record {
         refused = λ a n. f;
         append = λ ps e r. append-formed ps e (r .0) (r .1);
-        rollback = λ i p q e. put-formed s f i _ (let g = f .entries i p q in record { phase = (omega arith, omega arith); below = g .below; change = g .change; rollback = g .rollback; pairs = g .pairs });
+        rollback = λ i p q e. put-formed s f i _ (let g = f .entries i p q in record { phase = (omega arith, omega arith); below = g .below; change = g .change; rollback = g .rollback; pairs = g .pairs; recalls = g .recalls });
         start = λ e. net-formed s f _ (record { master = f .net .master; values = f .net .values; connections = f .net .connections });
         stop = net-formed s f _ (record { master = f .net .master; values = refl; connections = length-map (s .net .connections) outside.off ∙ f .net .connections });
         connect = λ n p e. net-formed s f _ (record { master = f .net .master; values = f .net .values; connections = length-node (s .net .connections) n _ ∙ f .net .connections });
@@ -455,15 +479,15 @@ module _ (s : State) (f : Formed s) where
         resign = net-formed s f _ (record { master = omega arith; values = f .net .values; connections = f .net .connections });
         syncing = net-formed s f _ (record { master = f .net .master; values = f .net .values; connections = f .net .connections });
         synced = net-formed s f _ (record { master = f .net .master; values = f .appliedValues; connections = f .net .connections });
-        job1 = λ i p q cut second. let e = f .entries i p q in let t = entryOf (s .log) i in let h = s .committed .head in let vs = present (s .committed .values) t in let begins : i ≡ suc (s .change .0) → EntryFormed i (beginning (entryOf (s .log) i) (s .committed .head .revision) (present (s .committed .values) (entryOf (s .log) i))) = λ b. remade i p q _ _ _ _ (e .change) (e .rollback) (omega (arith, f .change .behind)) in record {
+        job1 = λ i p q cut second. let e = f .entries i p q in let t = entryOf (s .log) i in let h = s .committed .head in let vs = presentOf s t in let begins : i ≡ suc (s .change .0) → EntryFormed i (beginning (entryOf (s .log) i) (s .committed .head .revision) (presentOf s (entryOf (s .log) i))) = λ b. remade i p q _ _ _ _ _ (e .change) (e .rollback) (omega (arith, f .change .behind)) (most-recalls (s .change .0) i _ (omega arith) (most-present _ _ t (f .change .owned))) in let later : i ≡ suc (s .change .0) → Most i (s .committed .owners) = λ b k. omega (arith, f .change .owned k) in record {
           wait = f;
           full = λ a b d. f;
           begin = λ a b d. put-formed s f i _ (begins b);
-          aim = λ a b d. commit-formed s f i HeadThenEntry (job1.plans change.Aim t h (num i) (ord 0) vs) cut second (begins b) (turned i p q (s .committed .head) (num i) (f .committed) q) (record { inLog = f .change .inLog; behind = f .change .behind });
-          land = λ a b d o g. let x : o .0 ≤ 131070 = omega arith in let y : i ≤ i = omega arith in commit-formed s f i HeadThenEntry (job1.plans change.Land t h (num i) o vs) cut second (changed i p q _ x) (came i p q (s .committed .head) (num i) o (f .committed) q x) (record { inLog = q; behind = y });
-          reject = λ a b. let x : s .committed .head .revision .0 ≤ i = omega (arith, f .change .behind) in commit-formed s f i EntryThenHead (job1.plans change.Reject t h (num i) (ord 0) vs) cut second (changed i p q _ (e .change)) (gone i p q) (record { inLog = q; behind = x });
+          aim = λ a b d. commit-formed s f i HeadThenEntry (job1.plans change.Aim t h (num i) (ord 0) vs) cut second (begins b) (turned i p q (s .committed .head) (num i) (f .committed) q) (record { inLog = f .change .inLog; behind = f .change .behind; owned = f .change .owned });
+          land = λ a b d o g. let x : o .0 ≤ 131070 = omega arith in let y : i ≤ i = omega arith in commit-formed s f i HeadThenEntry (job1.plans change.Land t h (num i) o vs) cut second (changed i p q _ x) (came i p q (s .committed .head) (num i) o (f .committed) q x) (record { inLog = q; behind = y; owned = most-set i _ _ _ (later b) });
+          reject = λ a b. let x : s .committed .head .revision .0 ≤ i = omega (arith, f .change .behind) in commit-formed s f i EntryThenHead (job1.plans change.Reject t h (num i) (ord 0) vs) cut second (changed i p q _ (e .change)) (gone i p q) (record { inLog = q; behind = x; owned = later b });
           finish = λ a b. put-formed s f i _ (changed i p q _ (f .committed .ordinal));
-          close = λ a b. let x : s .committed .head .revision .0 ≤ i = omega (arith, f .change .behind) in committed-formed s f (job1.plans change.Close t h (num i) (ord 0) vs) i (gone i p q) (record { inLog = q; behind = x });
+          close = λ a b. let x : s .committed .head .revision .0 ≤ i = omega (arith, f .change .behind) in committed-formed s f (job1.plans change.Close t h (num i) (ord 0) vs) i (gone i p q) (record { inLog = q; behind = x; owned = later b });
         };
         job2 = λ n i p q cut second. let e = f .entries i p q in let t = entryOf (s .log) i in let h = s .applied .head in record {
           wait = f;
@@ -481,8 +505,8 @@ module _ (s : State) (f : Formed s) where
           wait = f;
           full = λ a b d. f;
           begin = λ a b d. put-formed s f i _ (returned i p q _ (e .rollback));
-          aim = λ a b d. commit-formed s f i HeadThenEntry (job3.plans rollback.Aim t h (num i) (ord 0)) cut second (returned i p q _ (e .rollback)) (turned i p q (s .committed .head) _ (f .committed) (back i p q)) (record { inLog = f .change .inLog; behind = f .change .behind });
-          land = λ a b d o g. let x : o .0 ≤ 131070 = omega arith in let y : entryOf (s .log) i .index .0 ≤ s .change .0 = omega (arith, f .change .behind, e .below) in commit-formed s f i HeadThenEntry (job3.plans rollback.Land t h (num i) o) cut second (returned i p q _ x) (came i p q (s .committed .head) _ o (f .committed) (back i p q) x) (record { inLog = f .change .inLog; behind = y });
+          aim = λ a b d. commit-formed s f i HeadThenEntry (job3.plans rollback.Aim t h (num i) (ord 0)) cut second (returned i p q _ (e .rollback)) (turned i p q (s .committed .head) _ (f .committed) (back i p q)) (record { inLog = f .change .inLog; behind = f .change .behind; owned = f .change .owned });
+          land = λ a b d o g. let x : o .0 ≤ 131070 = omega arith in let y : entryOf (s .log) i .index .0 ≤ s .change .0 = omega (arith, f .change .behind, e .below) in commit-formed s f i HeadThenEntry (job3.plans rollback.Land t h (num i) o) cut second (returned i p q _ x) (came i p q (s .committed .head) _ o (f .committed) (back i p q) x) (record { inLog = f .change .inLog; behind = y; owned = most-back i _ _ _ _ _ (omega (arith, f .change .behind)) (e .recalls) (f .change .owned) });
           finish = λ a b d. put-formed s f i _ (returned i p q _ (f .committed .ordinal));
         };
         job4 = λ n i p q cut second. let e = f .entries i p q in let t = entryOf (s .log) i in let h = s .applied .head in record {
@@ -504,7 +528,7 @@ step-keeps-well-formed s c w =
     well-formed _ (by-call s Next (λ e. formed s w) (λ e. calls s (formed s w)) (λ e b p q x. fold-formed s (formed s w) b p q) c)
 
 pub fresh-well-formed : wellFormed fresh ≡ true
-unfolding wellFormed allFrom headOk
+unfolding wellFormed allFrom allAtMost headOk
 fresh-well-formed = refl
 
 -- so refusal 1 never occurs in a state reached from fresh

@@ -5,6 +5,7 @@ pub mod Onward
 pub mod ByCall
 pub mod Entries
 pub mod Overlay
+pub mod AtMost
 pub mod Kept
 pub mod LiveEnds
 pub mod Unreached
@@ -13,6 +14,7 @@ pub mod WhyWitnesses
 pub mod NightWitnesses
 pub mod PushWitnesses
 pub mod ImportWitnesses
+pub mod OwnerWitnesses
 pub mod Worked
 pub mod Traps
 pub mod Reconnected

@@ -18,12 +18,12 @@ use Rattle.rules.specs.declared.Lay.{Lay}
 use Rattle.rules.specs.declared.Lay.the-variants.{Nothing, Values, Kept}
 use Rattle.rules.specs.declared.Order.{Order}
 use Rattle.rules.specs.declared.Order.the-variants.{Neither, EntryOnly, HeadOnly, EntryThenHead, HeadThenEntry, TargetThenHeadThenEntry}
-use Rattle.machine.specs.State.{State, Net, Log, entryOf, putEntry, foldedTo}
-use Rattle.machine.specs.Stores.{Table, ofCommitted, ofApplied, ofTarget, ofBase, Store, fold, withLog, withBase, withCommitted, withApplied, withNet, withTargetValues, after, afters}
+use Rattle.machine.specs.State.{State, Net, Log, inEach, entryOf, putEntry, foldedTo}
+use Rattle.machine.specs.Stores.{Table, ofCommitted, ofApplied, ofTarget, ofBase, ofOwners, Store, fold, withLog, withLedgerHead, withBase, withCommitted, withApplied, withNet, withTargetValues, after, afters}
 use Rattle.machine.specs.LiveList.{live}
 use Rattle.machine.specs.Folding.{baseIf, baseRow}
-use Rattle.machine.specs.Laid.{laying, layingAt, over, laidOver}
-use Rattle.machine.specs.Rows.{layOne, layAt, overlay, laid, changeRow, headRow, targetRow, entryRow, rowsBy, rowsOf, eventOf}
+use Rattle.machine.specs.Laid.{laying, layingAt, over, laidOver, ownedOver}
+use Rattle.machine.specs.Rows.{layOne, layAt, overlay, laid, owned, changeRow, headRow, targetRow, entryRow, rowsBy, rowsOf, eventOf}
 
 -- ---- a plan's event, where the call is not cut at its first store
 pub eventOf-whole : (p : Plan) → eventOf p false ≡ p .event
@@ -41,13 +41,17 @@ abbrev pub changeIf : Bool → ℕ → Number → Number
 changeIf true i n = num i
 changeIf false i n = n
 
--- the head, with Committed's change and values, or with Applied's values
+-- the head, with Committed's change, values and owners, or with Applied's values
 abbrev pub heading : Bool → State → Plan → ℕ → State
 heading true s p i =
     record {
       log = s .log;
       change = changeIf (p .change) i (s .change);
-      committed = record { head = p .head; values = laidOver (p .lay) (p .entry) (s .committed .values) };
+      committed = record {
+        head = p .head;
+        values = laidOver (p .lay) (p .entry) (s .committed .values);
+        owners = ownedOver (p .lay) (p .entry) i (s .committed .owners);
+      };
       applied = s .applied;
       net = s .net;
     }
@@ -116,9 +120,11 @@ tableOf s ofCommitted = s .committed .values
 tableOf s ofApplied = s .applied .values
 tableOf s ofTarget = s .net .values
 tableOf s ofBase = s .log .base
+tableOf s ofOwners = s .committed .owners
 
 abbrev withTable : State → Table → List ℕ → State
-withTable s ofCommitted l = withCommitted s (record { head = s .committed .head; values = l })
+withTable s ofCommitted l = withCommitted s (record { head = s .committed .head; values = l; owners = s .committed .owners })
+withTable s ofOwners l = withCommitted s (record { head = s .committed .head; values = s .committed .values; owners = l })
 withTable s ofApplied l = withApplied s (record { head = s .applied .head; values = l })
 withTable s ofTarget l = withNet s (withTargetValues (s .net) l)
 withTable s ofBase l = withLog s (withBase (s .log) l)
@@ -134,12 +140,15 @@ module _ (s : State) where
   lay ofTarget false l p v = refl
   lay ofBase true l p v = refl
   lay ofBase false l p v = refl
+  lay ofOwners true l p v = refl
+  lay ofOwners false l p v = refl
 
   same : (t : Table) → s ≡ withTable s t (tableOf s t)
   same ofCommitted = refl
   same ofApplied = refl
   same ofTarget = refl
   same ofBase = refl
+  same ofOwners = refl
 
   lays : (t : Table) (ps vs : List ℕ) (n k : ℕ) (l : List ℕ) (es : List Store)
       → afters (withTable s t l) (layAt t ps vs n k ++ es) ≡ afters (withTable s t (layingAt ps vs n l k)) es
@@ -161,6 +170,22 @@ module _ (s : State) where
   laid-over t Values u = overlay-over t (u .paths) (u .values) (u .count)
   laid-over t Kept u = overlay-over t (u .paths) (u .kept) (u .count)
 
+  owned-over : (v : Lay) (u : Transaction) (i : ℕ) → afters s (owned v u i) ≡ withTable s ofOwners (ownedOver v u i (s .committed .owners))
+  unfolding afters
+  owned-over Nothing u i = same ofOwners
+  owned-over Values u i = overlay-over ofOwners (u .paths) (inEach i) (u .count)
+  owned-over Kept u i = overlay-over ofOwners (u .paths) (u .owners) (u .count)
+
+-- both of a commit's tables
+pub laid-owned : (s : State) (v : Lay) (u : Transaction) (i : ℕ)
+    → afters s (laid ofCommitted v u ++ owned v u i)
+    ≡ withCommitted s
+    (record { head = s .committed .head; values = laidOver v u (s .committed .values); owners = ownedOver v u i (s .committed .owners) })
+laid-owned s v u i =
+    afters-append s (laid ofCommitted v u) (owned v u i)
+    ∙ ap (λ x. afters x (owned v u i)) (laid-over s ofCommitted v u)
+    ∙ owned-over (withTable s ofCommitted (laidOver v u (s .committed .values))) v u i
+
 entry-putting : (s : State) (p : Plan) (i : ℕ) → afters s (entryRow p i) ≡ putting s i (p .entry)
 unfolding afters after
 entry-putting s p i = refl
@@ -170,13 +195,21 @@ unfolding afters after
 head-heading true s p i = go (p .change)
   where
     go : (b : Bool)
-        → afters s (Rattle.machine.specs.Stores.committedHead (p .head) ∷ (changeRow b i ++ laid ofCommitted (p .lay) (p .entry)))
-        ≡ record { log = s .log; change = changeIf b i (s .change); committed = record { head = p .head; values = laidOver (p .lay) (p .entry) (s .committed .values) }; applied = s .applied; net = s .net }
+        → afters s (Rattle.machine.specs.Stores.committedHead (p .head) ∷ (changeRow b i ++ (laid ofCommitted (p .lay) (p .entry) ++ owned (p .lay) (p .entry) i)))
+        ≡ record {
+          log = s .log;
+          change = changeIf b i (s .change);
+          committed = record {
+            head = p .head;
+            values = laidOver (p .lay) (p .entry) (s .committed .values);
+            owners = ownedOver (p .lay) (p .entry) i (s .committed .owners);
+          };
+          applied = s .applied;
+          net = s .net;
+        }
     go true =
-        laid-over
-        (record { log = s .log; change = num i; committed = record { head = p .head; values = s .committed .values }; applied = s .applied; net = s .net })
-        ofCommitted (p .lay) (p .entry)
-    go false = laid-over (withCommitted s (record { head = p .head; values = s .committed .values })) ofCommitted (p .lay) (p .entry)
+        laid-owned (record { log = s .log; change = num i; committed = withLedgerHead (s .committed) (p .head); applied = s .applied; net = s .net }) (p .lay) (p .entry) i
+    go false = laid-owned (withCommitted s (withLedgerHead (s .committed) (p .head))) (p .lay) (p .entry) i
 head-heading false s p i = laid-over (withApplied s (record { head = p .head; values = s .applied .values })) ofApplied (p .lay) (p .entry)
 
 target-targeting : (s : State) (p : Plan) → afters s (targetRow p) ≡ targeting s p

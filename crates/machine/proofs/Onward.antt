@@ -11,7 +11,7 @@ use Rattle.rules.specs.declared.Order.the-variants.{Neither, EntryOnly, HeadOnl
 use Rattle.machine.specs.State.{State, entryOf, lineOpenFor}
 use Rattle.machine.specs.Settled.{settled}
 use Rattle.machine.specs.Rest.{restOf}
-use Rattle.machine.specs.Calls.{job1, job2, job3, job4, planOf, present, commits, sideIf}
+use Rattle.machine.specs.Calls.{job1, job2, job3, job4, planOf, presentOf, commits, sideIf}
 use Rattle.machine.proofs.Next.{changeIf, performedBy, performed}
 use Rattle.machine.proofs.Cases.{commit-change, commit-rollback, apply-change, apply-rollback}
 
@@ -45,7 +45,7 @@ module _ (s : State) (i : ℕ) where
 
   on-1 : (y : Bool) → HeadOn true (job1 s i y)
   on-1 y =
-      commit-change (entryOf (s .log) i) (s .committed .head) i (HeadOn true) (s .change) (restOf s) (present (s .committed .values) (entryOf (s .log) i)) y
+      commit-change (entryOf (s .log) i) (s .committed .head) i (HeadOn true) (s .change) (restOf s) (presentOf s (entryOf (s .log) i)) y
       (record {
         wait = omega arith;
         full = λ e n b. omega arith;

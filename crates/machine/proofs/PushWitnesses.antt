@@ -7,7 +7,7 @@ use Rattle.kinds.specs.Numbers.{num}
 use Rattle.machine.specs.State.{State, fresh}
 use Rattle.machine.specs.Stores.{change, after, afters}
 use Rattle.machine.specs.Rows.{overlay, rowsOf}
-use Rattle.machine.specs.WellFormed.{allFrom, pairsOk, entryOk, headOk, wellFormed}
+use Rattle.machine.specs.WellFormed.{allFrom, allAtMost, pairsOk, entryOk, headOk, wellFormed}
 use Rattle.machine.specs.Reads.{entryNumbers, stateNumbers}
 use Rattle.machine.specs.Calls.{Call, connect, start, master, sync, work, valuesOk, present, planOf, decide}
 use Rattle.machine.specs.Step.{outcome, step, stateFrom}
@@ -29,5 +29,5 @@ unformed =
     ∷ refuses (begun one) (work 1 2 1 0 2) (stand 1 2 1 1 1 0 1 0 0 ∷ reads 3 7 0 0 ∷ []) ∷ refuses (begun one) (work 1 2 1 0 3) [] ∷ refuses (sync 1 ∷ master 1 ∷ connect 1 ∷ start ∷ []) (sync 1) [] ∷ []
 
 pub unformed-hold : made unformed ≡ true
-unfolding made stateFrom step outcome decide planOf afters after overlay rowsOf allFrom pairsOk entryOk headOk wellFormed valuesOk present agrees begins entryNumbers stateNumbers unformed
+unfolding made stateFrom step outcome decide planOf afters after overlay rowsOf allFrom allAtMost pairsOk entryOk headOk wellFormed valuesOk present agrees begins entryNumbers stateNumbers unformed
 unformed-hold = refl

@@ -14,7 +14,7 @@ use Rattle.kinds.specs.Events.{refusal}
 use Rattle.machine.specs.State.{State, Net, fresh, isNode, nodeOf, reachesTarget, lineOpenFor}
 use Rattle.machine.specs.Stores.{withNet, after, afters}
 use Rattle.machine.specs.Rows.{overlay, rowsOf}
-use Rattle.machine.specs.WellFormed.{allFrom, pairsOk, entryOk, headOk, wellFormed}
+use Rattle.machine.specs.WellFormed.{allFrom, allAtMost, pairsOk, entryOk, headOk, wellFormed}
 use Rattle.machine.specs.Calls.{connect, disconnect, master, sync, work, valuesOk, present, planOf, decide}
 use Rattle.machine.specs.Step.{outcome, step}
 use Rattle.machine.proofs.Next.{withMastership}
@@ -86,5 +86,5 @@ comesBack =
     ∷ does 1 2 2 0 1 Complete ∷ reads 3 7 7 7 ∷ refuses 11 (master 1) ∷ [])))
 
 pub comes-back : agrees fresh comesBack ≡ true
-unfolding agrees step outcome decide wellFormed allFrom entryOk headOk pairsOk valuesOk planOf rowsOf overlay present after afters comesBack
+unfolding agrees step outcome decide wellFormed allFrom allAtMost entryOk headOk pairsOk valuesOk planOf rowsOf overlay present after afters comesBack
 comes-back = refl

@@ -45,7 +45,7 @@ use Rattle.machine.specs.WellFormed.{wellFormed}
 use Rattle.machine.specs.Settled.{settled}
 use Rattle.machine.specs.Rest.{restOf}
 use Rattle.rules.specs.declared.Connected.{Connected}
-use Rattle.machine.specs.Calls.{Call, answers, accepted, append, rollback, start, stop, connect, disconnect, master, sync, work, foldTo, unless, present, job1, job2, job3, job4, planOf, sideIf, commits, workOk, decide}
+use Rattle.machine.specs.Calls.{Call, answers, accepted, append, rollback, start, stop, connect, disconnect, master, sync, work, foldTo, unless, presentOf, job1, job2, job3, job4, planOf, sideIf, commits, workOk, decide}
 use Rattle.machine.specs.Step.{Stepped, outcome, step, run, stateFrom}
 use Rattle.machine.specs.Retry.{leavesLast, elsewhere, allElsewhere, Cut, mayRetry, OneIs, sooner, later, cut, uncut, again, Harmless}
 use Rattle.machine.proofs.Next.{putting, heading, targeting, performedBy, performed, rows-performed, eventOf-whole, withConnections}
@@ -123,13 +123,13 @@ module _ (s : State) (i : ℕ) (p : s .log .folded .0 < i) (q : i ≤ last (s .l
     Again1 = Again s i true (λ m. job1 m i retried)
 
     abbrev plan1 : CommitChangeRule → Head → Ordinal → Plan
-    plan1 x h o = job1.plans x en h (num i) o (present (s .committed .values) en)
+    plan1 x h o = job1.plans x en h (num i) o (presentOf s en)
 
     again1 : (ok : Bool) → Again1 (job1 s i ok)
     again1 ok =
         let h = s .committed .head in
         let two = two s i true (λ m. job1 m i retried) in
-        commit-change en h i Again1 (s .change) (restOf s) (present (s .committed .values) en) ok
+        commit-change en h i Again1 (s .change) (restOf s) (presentOf s en) ok
         (record {
           wait = λ w f g x. no-store x;
           full = λ a b d w f g x. no-store x;

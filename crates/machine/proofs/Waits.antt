@@ -2,7 +2,6 @@
 -- depend on the outcome, so a reason is given exactly when the job answers 11 (order 4). Assumes nothing.
 use Prim.Native.Nat.{ℕ, suc, _+_, _≤_, _<_}
 use native.Mathlib.Omega.{arith}
-use mathlib.Core.List.{List}
 use mathlib.Core.Bool.{Bool, true, false, _&&_, _||_, cond}
 use mathlib.Core.Path.{_≡_, refl, sym, ap, _∙_}
 use lib.Dec.{eqb, ltb, leb}
@@ -15,6 +14,7 @@ use Rattle.kinds.specs.declared.Status.the-variants.{None, Pending, InProgress,
 use Rattle.kinds.specs.Numbers.{num, follows, isFull, nextOrdinal}
 use Rattle.kinds.specs.Statuses.{isComplete}
 use Rattle.rules.specs.declared.Plan.{Plan}
+use Rattle.rules.specs.declared.Present.{Present}
 use Rattle.rules.specs.declared.CommitTests.{CommitTests}
 use Rattle.rules.specs.declared.ApplyChangeTests.{ApplyChangeTests}
 use Rattle.rules.specs.declared.ApplyChangeRule.the-variants.{Finish, Fail, Push, NoLine, Wait}
@@ -30,7 +30,7 @@ use Rattle.machine.specs.WellFormed.{wellFormed}
 use Rattle.machine.specs.Settled.{settled}
 use Rattle.machine.specs.Calls as calls
 use Rattle.machine.specs.Rest.{restOf}
-use Rattle.machine.specs.Calls.{work, unless, planned, present, planOf, decide}
+use Rattle.machine.specs.Calls.{work, unless, planned, presentOf, planOf, decide}
 use Rattle.machine.specs.Step.{outcome, step}
 use Rattle.machine.proofs.Cases.{commit-change, commit-rollback, apply-change, apply-rollback}
 use Rattle.machine.specs.Why.{reason, named, whyNot, why, asks}
@@ -41,7 +41,7 @@ one-after a b e = eq-eqb (a + 1) b (omega arith)
 
 module _ (t : Transaction) (h : Head) (i : ℕ) where
   -- ---- job 1
-  module _ (c : Number) (rest : Bool) (present : List ℕ) (y : Bool) (e : job1.commitChange t h c rest (num i) y present .answer ≡ 11) where
+  module _ (c : Number) (rest : Bool) (present : Present) (y : Bool) (e : job1.commitChange t h c rest (num i) y present .answer ≡ 11) where
     pub record Waits1 : Type 0 where
       pub pending : t .change .commit ≡ Pending → i ≡ suc (c .0) → (h .target .0 ≡ i → ⊥) × (rest ≡ true → ⊥)
       pub begun : t .change .commit ≡ InProgress → (i ≡ suc (c .0) → ⊥) × (c .0 ≡ i → ⊥)
@@ -187,7 +187,7 @@ module _ (s : State) (n i : ℕ) where
           let h = s .committed .head in
           let a : CommitTests = job1.tests h (s .change) (restOf s) (num i) y in
           let at : Bool → CommitTests = λ y. record { ready = n; aimed = a .aimed; rest = a .rest; accepted = y; full = f; landed = a .landed } in
-          let answers : Bool → Bool = λ y. eleven (job1.plans (job1.rule x (at y)) t h (num i) (nextOrdinal (h .ordinal)) (present (s .committed .values) t)) in
+          let answers : Bool → Bool = λ y. eleven (job1.plans (job1.rule x (at y)) t h (num i) (nextOrdinal (h .ordinal)) (presentOf s t)) in
           answers y ≡ answers false)
       go None n y f = refl
       go Pending n y f = refl
@@ -281,7 +281,7 @@ module _ (s : State) (n i : ℕ) where
     where
       go : (a b d : Bool) → Asks (cond a (calls.job1 s i y) (cond b (calls.job2 s n i y) (cond d (calls.job3 s i) (calls.job4 s n i y))))
       go true b d =
-          commit-change (entryOf (s .log) i) (s .committed .head) i Asks (s .change) (restOf s) (present (s .committed .values) (entryOf (s .log) i)) y
+          commit-change (entryOf (s .log) i) (s .committed .head) i Asks (s .change) (restOf s) (presentOf s (entryOf (s .log) i)) y
           (record { wait = refl; full = λ a b c. refl; begin = λ a b c. refl; aim = λ a b c. refl; land = λ a b c d e. refl; reject = λ a b. refl; finish = λ a b. refl; close = λ a b. refl })
       go false true d =
           apply-change (entryOf (s .log) i) (s .applied .head) i Asks (settled s) (lineOpenFor (s .net) n) y

@@ -13,7 +13,18 @@ side c a o = record { commit = c; apply = a; ordinal = ord o }
 
 -- 3:7, in a phase, with its two sides and its r.index
 abbrev pub entry : ℕ → Side → Side → ℕ → Transaction
-entry p c r i = record { phase = p; count = 1; paths = 3 ∷ 0 ∷ 0 ∷ 0 ∷ []; values = 7 ∷ 0 ∷ 0 ∷ 0 ∷ []; change = c; rollback = r; index = num i; kept = four }
+entry p c r i =
+    record {
+      phase = p;
+      count = 1;
+      paths = 3 ∷ 0 ∷ 0 ∷ 0 ∷ [];
+      values = 7 ∷ 0 ∷ 0 ∷ 0 ∷ [];
+      change = c;
+      rollback = r;
+      index = num i;
+      kept = four;
+      owners = four;
+    }
 
 -- what is kept after a fold
 abbrev pub log : ℕ → List Transaction → Log
@@ -25,10 +36,16 @@ head i g r o = record { index = num i; target = num g; revision = num r; ordinal
 abbrev pub none : Head
 none = head 0 0 0 0
 
--- a log, two heads and a change; the values and the nodes' side are fresh
+-- a log, two heads and a change; the values, the owners and the nodes' side are fresh
 abbrev pub stateOf : Log → (change : ℕ) → (committed applied : Head) → State
 stateOf l n c a =
-    record { log = l; change = num n; committed = record { head = c; values = absent }; applied = record { head = a; values = absent }; net = fresh .net }
+    record {
+      log = l;
+      change = num n;
+      committed = record { head = c; values = absent; owners = absent };
+      applied = record { head = a; values = absent };
+      net = fresh .net;
+    }
 
 -- a log alone
 abbrev pub logged : Log → State

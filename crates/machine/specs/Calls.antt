@@ -10,6 +10,7 @@ use Rattle.kinds.specs.declared.Reply.{Reply}
 use Rattle.kinds.specs.Numbers.{num}
 use Rattle.kinds.specs.Events.{numbered, refusal}
 use Rattle.rules.specs.declared.Plan.{Plan}
+use Rattle.rules.specs.declared.Present.{Present}
 use Rattle.rules.specs.Sides.{untouched, asked}
 use Rattle.rules.specs.CommitChange.{commitChange}
 use Rattle.rules.specs.CommitRollback.{commitRollback}
@@ -89,6 +90,7 @@ appended ps =
       rollback = untouched;
       index = num 0;
       kept = four;
+      owners = four;
     }
 
 -- ---- the jobs
@@ -103,9 +105,13 @@ presentAt vs t k = presentOne (ltb k (t .count)) vs (getD (t .paths) k 0)
 unfoldable pub present : List ℕ → Transaction → List ℕ
 present vs t = presentAt vs t 0 ∷ presentAt vs t 1 ∷ presentAt vs t 2 ∷ presentAt vs t 3 ∷ []
 
+-- and their owners
+abbrev pub presentOf : State → Transaction → Present
+presentOf s t = record { values = present (s .committed .values) t; owners = present (s .committed .owners) t }
+
 abbrev pub job1 : State → ℕ → Bool → Plan
 job1 s i ok =
-    commitChange (entryOf (s .log) i) (s .committed .head) (s .change) (restOf s) (num i) ok (present (s .committed .values) (entryOf (s .log) i))
+    commitChange (entryOf (s .log) i) (s .committed .head) (s .change) (restOf s) (num i) ok (presentOf s (entryOf (s .log) i))
 
 abbrev pub job2 : State → ℕ → ℕ → Bool → Plan
 job2 s n i ok = applyChange (entryOf (s .log) i) (s .applied .head) (settled s) (num i) (lineOpenFor (s .net) n) ok

@@ -1,7 +1,7 @@
 -- Order 6, an entry of a list: the state that its calls come to, and a row of stores that leaves it at once. That it is so:
 -- proofs/ImportCalls. Assumes nothing.
-use Prim.Native.Nat.{ℕ, suc}
-use mathlib.Core.List.{List, _∷_}
+use Prim.Native.Nat.{suc}
+use mathlib.Core.List.{List, _∷_, _++_}
 use Rattle.kinds.specs.declared.Transaction.{Transaction}
 use Rattle.kinds.specs.declared.Head.{Head}
 use Rattle.kinds.specs.declared.Number.{Number}
@@ -9,16 +9,17 @@ use Rattle.kinds.specs.declared.Ordinal.{Ordinal}
 use Rattle.kinds.specs.declared.Status.the-variants.{Pending, Complete}
 use Rattle.kinds.specs.Numbers.{num, nextOrdinal}
 use Rattle.rules.specs.declared.Lay.the-variants.{Values, Kept}
+use Rattle.rules.specs.declared.Present.{Present}
 use Rattle.rules.specs.Sides.{untouched}
-use Rattle.machine.specs.State.{State, entryOf, putEntry, grown, last}
+use Rattle.machine.specs.State.{State, inEach, entryOf, putEntry, grown, last}
 use Rattle.machine.specs.Stores.{Store, ofCommitted, grow, entry, change, committedHead}
-use Rattle.machine.specs.Rows.{laid}
+use Rattle.machine.specs.Rows.{laid, owned}
 use Rattle.machine.specs.Laid.{over}
-use Rattle.machine.specs.Calls.{Pair, appended, present}
+use Rattle.machine.specs.Calls.{Pair, appended, presentOf}
 
 -- ---- a transaction more, its change committed and not applied
-abbrev pub committedAs : Transaction → (index : Number) → (ordinal : Ordinal) → (kept : List ℕ) → Transaction
-committedAs t k o vs =
+abbrev pub committedAs : Transaction → (index : Number) → (ordinal : Ordinal) → Present → Transaction
+committedAs t k o present =
     record {
       phase = 1;
       count = t .count;
@@ -27,12 +28,13 @@ committedAs t k o vs =
       change = record { commit = Complete; apply = Pending; ordinal = o };
       rollback = untouched;
       index = k;
-      kept = vs;
+      kept = present .values;
+      owners = present .owners;
     }
 
 abbrev pub changedEntry : State → List Pair → Transaction
 changedEntry s ps =
-    let t = appended ps in committedAs t (s .committed .head .revision) (nextOrdinal (s .committed .head .ordinal)) (present (s .committed .values) t)
+    let t = appended ps in committedAs t (s .committed .head .revision) (nextOrdinal (s .committed .head .ordinal)) (presentOf s t)
 
 abbrev pub changedHead : State → Head
 changedHead s = let n = num (suc (last (s .log))) in record { index = n; target = n; revision = n; ordinal = nextOrdinal (s .committed .head .ordinal) }
@@ -43,14 +45,19 @@ changed s ps =
     record {
       log = grown (s .log) (changedEntry s ps);
       change = num (suc (last (s .log)));
-      committed = record { head = changedHead s; values = over (t .paths) (t .values) (t .count) (s .committed .values) };
+      committed = record {
+        head = changedHead s;
+        values = over (t .paths) (t .values) (t .count) (s .committed .values);
+        owners = over (t .paths) (inEach (suc (last (s .log)))) (t .count) (s .committed .owners);
+      };
       applied = s .applied;
       net = s .net;
     }
 
 abbrev pub changeStores : State → List Pair → List Store
 changeStores s ps =
-    grow (changedEntry s ps) ∷ change (num (suc (last (s .log)))) ∷ committedHead (changedHead s) ∷ laid ofCommitted Values (appended ps)
+    grow (changedEntry s ps) ∷ change (num (suc (last (s .log)))) ∷ committedHead (changedHead s)
+    ∷ (laid ofCommitted Values (appended ps) ++ owned Values (appended ps) (suc (last (s .log))))
 
 -- ---- the newest live change undone, its rollback committed and not applied
 abbrev pub undoneAs : Transaction → Ordinal → Transaction
@@ -64,6 +71,7 @@ undoneAs t o =
       rollback = record { commit = Complete; apply = Pending; ordinal = o };
       index = t .index;
       kept = t .kept;
+      owners = t .owners;
     }
 
 abbrev pub newestIn : State → Transaction
@@ -87,10 +95,16 @@ undone s =
     record {
       log = putEntry (s .log) (s .committed .head .revision .0) (undoneEntry s);
       change = s .change;
-      committed = record { head = undoneHead s; values = over (t .paths) (t .kept) (t .count) (s .committed .values) };
+      committed = record {
+        head = undoneHead s;
+        values = over (t .paths) (t .kept) (t .count) (s .committed .values);
+        owners = over (t .paths) (t .owners) (t .count) (s .committed .owners);
+      };
       applied = s .applied;
       net = s .net;
     }
 
 abbrev pub undoStores : State → List Store
-undoStores s = entry (s .committed .head .revision .0) (undoneEntry s) ∷ committedHead (undoneHead s) ∷ laid ofCommitted Kept (newestIn s)
+undoStores s =
+    entry (s .committed .head .revision .0) (undoneEntry s) ∷ committedHead (undoneHead s)
+    ∷ (laid ofCommitted Kept (newestIn s) ++ owned Kept (newestIn s) (s .committed .head .revision .0))

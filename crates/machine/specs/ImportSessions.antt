@@ -12,7 +12,7 @@ use Rattle.kinds.specs.Numbers.{num}
 use Rattle.kinds.specs.Events.{event, noEvent, numbered}
 use Rattle.machine.specs.Stores.{after, afters}
 use Rattle.machine.specs.Rows.{overlay, rowsOf}
-use Rattle.machine.specs.WellFormed.{allFrom, pairsOk, entryOk, headOk, wellFormed}
+use Rattle.machine.specs.WellFormed.{allFrom, allAtMost, pairsOk, entryOk, headOk, wellFormed}
 use Rattle.machine.specs.LiveList.{hops}
 use Rattle.machine.specs.Folding.{baseRow}
 use Rattle.machine.specs.Reads.{entryNumbers, stateNumbers}
@@ -86,7 +86,7 @@ pub opening : List Row
 opening = of [] 0 0 opens (stand 0 0 0 0 0 ∷ mastered ∷ nodes 1 (1 ∷ 1 ∷ []) ∷ nodes 2 (0 ∷ 0 ∷ []) ∷ []) ∷ []
 
 pub opening-hold : taken opening ≡ true
-unfolding taken sameEvents import judged judgedFrom numberAt callsUpTo run step outcome decide planOf afters after overlay rowsOf allFrom pairsOk entryOk headOk wellFormed valuesOk present hops baseRow agrees begins entryNumbers stateNumbers opening
+unfolding taken sameEvents import judged judgedFrom numberAt callsUpTo run step outcome decide planOf afters after overlay rowsOf allFrom allAtMost pairsOk entryOk headOk wellFormed valuesOk present hops baseRow agrees begins entryNumbers stateNumbers opening
 opening-hold = refl
 
 -- ---- changes become transactions in order, renumbered; all commits finished, nothing applied
@@ -99,7 +99,7 @@ renumbered =
     ∷ []
 
 pub renumbered-hold : taken renumbered ≡ true
-unfolding taken sameEvents import judged judgedFrom numberAt callsUpTo run step outcome decide planOf afters after overlay rowsOf allFrom pairsOk entryOk headOk wellFormed valuesOk present hops baseRow agrees begins entryNumbers stateNumbers renumbered
+unfolding taken sameEvents import judged judgedFrom numberAt callsUpTo run step outcome decide planOf afters after overlay rowsOf allFrom allAtMost pairsOk entryOk headOk wellFormed valuesOk present hops baseRow agrees begins entryNumbers stateNumbers renumbered
 renumbered-hold = refl
 
 -- ---- each rollback entry undoes the change that it names, by its place in the list
@@ -116,7 +116,7 @@ undoing =
     ∷ []
 
 pub undoing-hold : taken undoing ≡ true
-unfolding taken sameEvents import judged judgedFrom numberAt callsUpTo run step outcome decide planOf afters after overlay rowsOf allFrom pairsOk entryOk headOk wellFormed valuesOk present hops baseRow agrees begins entryNumbers stateNumbers undoing
+unfolding taken sameEvents import judged judgedFrom numberAt callsUpTo run step outcome decide planOf afters after overlay rowsOf allFrom allAtMost pairsOk entryOk headOk wellFormed valuesOk present hops baseRow agrees begins entryNumbers stateNumbers undoing
 undoing-hold = refl
 
 -- ---- unlike 002 a change overlays: paths that it does not name stay; a delete sets its path to absent, and its rollback brings it back
@@ -131,7 +131,7 @@ overlaid =
     ∷ []
 
 pub overlaid-hold : taken overlaid ≡ true
-unfolding taken sameEvents import judged judgedFrom numberAt callsUpTo run step outcome decide planOf afters after overlay rowsOf allFrom pairsOk entryOk headOk wellFormed valuesOk present hops baseRow agrees begins entryNumbers stateNumbers overlaid
+unfolding taken sameEvents import judged judgedFrom numberAt callsUpTo run step outcome decide planOf afters after overlay rowsOf allFrom allAtMost pairsOk entryOk headOk wellFormed valuesOk present hops baseRow agrees begins entryNumbers stateNumbers overlaid
 overlaid-hold = refl
 
 -- ---- 16: a rollback that names an older change, one that is undone, a rollback or nothing; an entry of neither kind
@@ -143,7 +143,7 @@ naming =
     ∷ refuses (change 7 ∷ undoes 2 ∷ []) 16 2 ∷ refuses (change 7 ∷ undoes 3 ∷ change 9 ∷ []) 16 2 ∷ refuses (neither ∷ []) 16 1 ∷ []
 
 pub naming-hold : taken naming ≡ true
-unfolding taken sameEvents import judged judgedFrom numberAt callsUpTo run step outcome decide planOf afters after overlay rowsOf allFrom pairsOk entryOk headOk wellFormed valuesOk present hops baseRow agrees begins entryNumbers stateNumbers naming
+unfolding taken sameEvents import judged judgedFrom numberAt callsUpTo run step outcome decide planOf afters after overlay rowsOf allFrom allAtMost pairsOk entryOk headOk wellFormed valuesOk present hops baseRow agrees begins entryNumbers stateNumbers naming
 naming-hold = refl
 
 -- ---- a refusal answers the position of the first bad entry, at the first place, in the middle and at the last; and writes nothing
@@ -157,7 +157,7 @@ positions =
     ∷ refuses (adds (pair 3 7 ∷ pair 3 9 ∷ []) ∷ []) 3 1 ∷ refuses (sets 32 7 ∷ []) 3 1 ∷ refuses (adds (replicate 5 (pair 3 7)) ∷ []) 3 1 ∷ []
 
 pub positions-hold : taken positions ≡ true
-unfolding taken sameEvents import judged judgedFrom numberAt callsUpTo run step outcome decide planOf afters after overlay rowsOf allFrom pairsOk entryOk headOk wellFormed valuesOk present hops baseRow agrees begins entryNumbers stateNumbers positions
+unfolding taken sameEvents import judged judgedFrom numberAt callsUpTo run step outcome decide planOf afters after overlay rowsOf allFrom allAtMost pairsOk entryOk headOk wellFormed valuesOk present hops baseRow agrees begins entryNumbers stateNumbers positions
 positions-hold = refl
 
 -- ---- long lists: up to 256 entries, of which 128 changes; 2 comes before any entry is looked at, and 3 before 4

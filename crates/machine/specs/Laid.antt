@@ -7,6 +7,7 @@ use lib.ListN.{getD, set}
 use Rattle.kinds.specs.declared.Transaction.{Transaction}
 use Rattle.rules.specs.declared.Lay.{Lay}
 use Rattle.rules.specs.declared.Lay.the-variants.{Nothing, Values, Kept}
+use Rattle.machine.specs.State.{inEach}
 
 -- the first n pairs, place by place
 abbrev pub laying : Bool → List ℕ → ℕ → ℕ → List ℕ
@@ -23,3 +24,9 @@ abbrev pub laidOver : Lay → Transaction → List ℕ → List ℕ
 laidOver Nothing t l = l
 laidOver Values t l = over (t .paths) (t .values) (t .count) l
 laidOver Kept t l = over (t .paths) (t .kept) (t .count) l
+
+-- a path's owner, likewise (order 7)
+abbrev pub ownedOver : Lay → Transaction → ℕ → List ℕ → List ℕ
+ownedOver Nothing t i l = l
+ownedOver Values t i l = over (t .paths) (inEach i) (t .count) l
+ownedOver Kept t i l = over (t .paths) (t .owners) (t .count) l

@@ -8,6 +8,7 @@ pub mod Settled
 pub mod Rest
 pub mod Folding
 pub mod LiveList
+pub mod Owner
 pub mod Reads
 pub mod Calls
 pub mod Step
@@ -26,3 +27,4 @@ pub mod Import
 pub mod Entered
 pub mod Imports
 pub mod ImportSessions
+pub mod OwnerSessions

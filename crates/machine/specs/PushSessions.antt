@@ -11,7 +11,7 @@ use Rattle.machine.specs.State.{State, fresh, entryOf}
 use Rattle.machine.specs.Stores.{after, afters}
 use Rattle.machine.specs.Rows.{overlay, rowsOf}
 use Rattle.machine.specs.Laid.{over, laidOver}
-use Rattle.machine.specs.WellFormed.{allFrom, pairsOk, entryOk, headOk, wellFormed}
+use Rattle.machine.specs.WellFormed.{allFrom, allAtMost, pairsOk, entryOk, headOk, wellFormed}
 use Rattle.machine.specs.LiveList.{hops}
 use Rattle.machine.specs.Folding.{baseRow}
 use Rattle.machine.specs.Reads.{entryNumbers, stateNumbers}
@@ -120,7 +120,7 @@ whole =
     ∷ gives liftedOff 4 2 0 0 3 (full 2) (stand 2 2 1 1 3 2 1 1 3 ∷ statuses 2 2 3 3 2 3 3 3 ∷ reads 3 7 7 7 ∷ reads 4 8 8 8 ∷ reads 5 9 9 9 ∷ reads 31 10 10 10 ∷ []) ∷ []
 
 pub whole-hold : made whole ≡ true
-unfolding made stateFrom step outcome decide planOf afters after overlay rowsOf allFrom pairsOk entryOk headOk wellFormed valuesOk present agrees begins entryNumbers stateNumbers whole
+unfolding made stateFrom step outcome decide planOf afters after overlay rowsOf allFrom allAtMost pairsOk entryOk headOk wellFormed valuesOk present agrees begins entryNumbers stateNumbers whole
 whole-hold = refl
 
 -- ---- cut 1 keeps only the first store, the target's
@@ -134,7 +134,7 @@ firstOnly =
     ∷ quiet liftedOff 4 2 0 1 (half 2) (stand 2 2 1 1 3 2 1 2 2 ∷ statuses 2 2 3 3 2 3 2 3 ∷ reads 3 7 11 7 ∷ reads 4 8 8 8 ∷ reads 5 9 0 9 ∷ reads 31 10 10 10 ∷ []) ∷ []
 
 pub first-only-hold : made firstOnly ≡ true
-unfolding made stateFrom step outcome decide planOf afters after overlay rowsOf allFrom pairsOk entryOk headOk wellFormed valuesOk present agrees begins entryNumbers stateNumbers firstOnly
+unfolding made stateFrom step outcome decide planOf afters after overlay rowsOf allFrom allAtMost pairsOk entryOk headOk wellFormed valuesOk present agrees begins entryNumbers stateNumbers firstOnly
 first-only-hold = refl
 
 -- ---- cut 2 keeps the first two: the status is left
@@ -148,7 +148,7 @@ firstTwo =
     ∷ gives liftedOff 4 2 0 2 3 (full 2) (stand 2 2 1 1 3 2 1 1 3 ∷ statuses 2 2 3 3 2 3 2 3 ∷ reads 3 7 7 7 ∷ reads 4 8 8 8 ∷ reads 5 9 9 9 ∷ reads 31 10 10 10 ∷ []) ∷ []
 
 pub first-two-hold : made firstTwo ≡ true
-unfolding made stateFrom step outcome decide planOf afters after overlay rowsOf allFrom pairsOk entryOk headOk wellFormed valuesOk present agrees begins entryNumbers stateNumbers firstTwo
+unfolding made stateFrom step outcome decide planOf afters after overlay rowsOf allFrom allAtMost pairsOk entryOk headOk wellFormed valuesOk present agrees begins entryNumbers stateNumbers firstTwo
 first-two-hold = refl
 
 -- ---- the event comes with the second store of a push, and with the first of every other rule: a rejected one too
@@ -164,7 +164,7 @@ told =
     ∷ gives (undone (applied one)) 4 1 0 1 2 nothing [] ∷ gives (work 1 2 1 0 0 ∷ undone (committed one)) 4 1 0 1 5 nothing [] ∷ []
 
 pub told-hold : made told ≡ true
-unfolding made stateFrom step outcome decide planOf afters after overlay rowsOf allFrom pairsOk entryOk headOk wellFormed valuesOk present agrees begins told
+unfolding made stateFrom step outcome decide planOf afters after overlay rowsOf allFrom allAtMost pairsOk entryOk headOk wellFormed valuesOk present agrees begins told
 told-hold = refl
 
 -- ---- cut may be 0, 1 or 2; above 2 is 2, before 5, 10, 11, 12 and 13
@@ -178,7 +178,7 @@ cuts =
     ∷ refuses 13 (returning one) (work 1 4 1 1 2) (reads 3 0 7 7 ∷ []) ∷ []
 
 pub cuts-hold : made cuts ≡ true
-unfolding made stateFrom step outcome decide planOf afters after overlay rowsOf allFrom pairsOk entryOk headOk wellFormed valuesOk present agrees begins entryNumbers stateNumbers cuts
+unfolding made stateFrom step outcome decide planOf afters after overlay rowsOf allFrom allAtMost pairsOk entryOk headOk wellFormed valuesOk present agrees begins entryNumbers stateNumbers cuts
 cuts-hold = refl
 
 -- ---- cut 2 does nothing special in rules with fewer than three stores
@@ -196,7 +196,7 @@ ofTwo =
     ∷ gives (work 1 2 1 0 0 ∷ undone (committed one)) 4 1 0 2 5 nothing (stand 1 1 0 0 2 1 0 0 2 ∷ statuses 1 2 3 4 1 3 5 2 ∷ reads 3 0 0 0 ∷ []) ∷ []
 
 pub of-two-hold : made ofTwo ≡ true
-unfolding made stateFrom step outcome decide planOf afters after overlay rowsOf allFrom pairsOk entryOk headOk wellFormed valuesOk present agrees begins entryNumbers stateNumbers ofTwo
+unfolding made stateFrom step outcome decide planOf afters after overlay rowsOf allFrom allAtMost pairsOk entryOk headOk wellFormed valuesOk present agrees begins entryNumbers stateNumbers ofTwo
 of-two-hold = refl
 
 -- of one, which is what a cut left: it is made. The status that begins jobs 1 to 4, and the one that ends them; the closing store
@@ -216,7 +216,7 @@ ofOne =
     ∷ quiet (work 1 4 1 0 1 ∷ work 1 2 1 0 0 ∷ undone (committed one)) 4 1 0 2 nothing (stand 1 1 0 0 2 1 0 0 2 ∷ statuses 1 2 3 4 1 3 5 2 ∷ []) ∷ []
 
 pub of-one-hold : made ofOne ≡ true
-unfolding made stateFrom step outcome decide planOf afters after overlay rowsOf allFrom pairsOk entryOk headOk wellFormed valuesOk present agrees begins entryNumbers stateNumbers ofOne
+unfolding made stateFrom step outcome decide planOf afters after overlay rowsOf allFrom allAtMost pairsOk entryOk headOk wellFormed valuesOk present agrees begins entryNumbers stateNumbers ofOne
 of-one-hold = refl
 
 -- ---- called again: after the first of three stores, with the line open and the same outcome, it ends as the uncut job; cut again, it
@@ -241,7 +241,7 @@ again =
     ∷ quiet (disconnect 1 ∷ work 1 4 2 0 2 ∷ liftedOff) 4 2 1 1 nothing (stand 2 2 1 1 3 2 1 1 3 ∷ statuses 2 2 3 3 2 3 3 3 ∷ reads 3 7 7 7 ∷ reads 5 9 9 9 ∷ []) ∷ []
 
 pub again-hold : made again ≡ true
-unfolding made stateFrom step outcome decide planOf afters after overlay rowsOf allFrom pairsOk entryOk headOk wellFormed valuesOk present agrees begins entryNumbers stateNumbers again
+unfolding made stateFrom step outcome decide planOf afters after overlay rowsOf allFrom allAtMost pairsOk entryOk headOk wellFormed valuesOk present agrees begins entryNumbers stateNumbers again
 again-hold = refl
 
 -- ---- the line lost after a cut at the first store: the synchronise that wrote puts the applied values there; the pairs come with the
@@ -257,7 +257,7 @@ rewritten =
     ∷ accepts (work 1 2 1 0 1 ∷ begun one) stop nothing (reads 3 7 0 0 ∷ []) ∷ []
 
 pub rewritten-hold : made rewritten ≡ true
-unfolding made stateFrom step outcome decide planOf afters after overlay rowsOf allFrom pairsOk entryOk headOk wellFormed valuesOk present agrees begins entryNumbers stateNumbers rewritten
+unfolding made stateFrom step outcome decide planOf afters after overlay rowsOf allFrom allAtMost pairsOk entryOk headOk wellFormed valuesOk present agrees begins entryNumbers stateNumbers rewritten
 rewritten-hold = refl
 
 -- ---- a fold beside a cut push: not while it is the next, and of what lies below it once it has ended Failed
@@ -268,7 +268,7 @@ cutAbove =
     ∷ refuses 17 (work 1 2 2 1 0 ∷ work 1 2 2 0 1 ∷ laidOn) (foldTo 2) (reads 3 11 7 11 ∷ []) ∷ []
 
 pub cut-above-hold : made cutAbove ≡ true
-unfolding made stateFrom step outcome decide planOf afters after overlay rowsOf allFrom pairsOk entryOk headOk wellFormed valuesOk present hops baseRow agrees begins entryNumbers stateNumbers cutAbove
+unfolding made stateFrom step outcome decide planOf afters after overlay rowsOf allFrom allAtMost pairsOk entryOk headOk wellFormed valuesOk present hops baseRow agrees begins entryNumbers stateNumbers cutAbove
 cut-above-hold = refl
 
 -- ---- the target holds the applied values, or those overlaid with a transaction's pairs or with its rollback values
@@ -313,7 +313,7 @@ shapes =
     ∷ by (sync 1 ∷ sync 1 ∷ master 1 ∷ lost) 1 true false true ∷ []
 
 pub shapes-hold : held shapes ≡ true
-unfolding held over stateFrom step outcome decide planOf afters after overlay rowsOf allFrom pairsOk entryOk headOk wellFormed valuesOk present begins shapes
+unfolding held over stateFrom step outcome decide planOf afters after overlay rowsOf allFrom allAtMost pairsOk entryOk headOk wellFormed valuesOk present begins shapes
 shapes-hold = refl
 
 -- ---- what the calls of a session are noted as: its calls with the notes, the newest first
@@ -356,7 +356,7 @@ pushing =
     ∷ of (work 2 2 1 0 0 ∷ work 2 2 1 0 1 ∷ work 2 2 1 0 0 ∷ work 2 1 1 0 0 ∷ work 2 1 1 0 0 ∷ append (pair 3 7 ∷ []) ∷ sync 2 ∷ sync 2 ∷ master 2 ∷ connect 2 ∷ start ∷ []) (full 1 ∷ half 1 ∷ atBegun) ∷ []
 
 pub pushing-hold : remembered pushing ≡ true
-unfolding remembered sameNotes silent notes run step outcome decide planOf afters after overlay rowsOf allFrom pairsOk entryOk headOk wellFormed valuesOk present begins pushing
+unfolding remembered sameNotes silent notes run step outcome decide planOf afters after overlay rowsOf allFrom allAtMost pairsOk entryOk headOk wellFormed valuesOk present begins pushing
 pushing-hold = refl
 
 -- every other call: each of the others, accepted; jobs of one store and of two, whatever their cut; a rejected push
@@ -369,7 +369,7 @@ quietly =
     ∷ of (work 1 4 1 0 0 ∷ work 1 4 1 0 2 ∷ returning one) (nothing ∷ full 1 ∷ atReturning) ∷ of (sync 2 ∷ master 2 ∷ master 1 ∷ disconnect 1 ∷ connect 2 ∷ line) (silent 5 onLine) ∷ []
 
 pub quietly-hold : remembered quietly ≡ true
-unfolding remembered sameNotes silent notes run step outcome decide planOf afters after overlay rowsOf allFrom pairsOk entryOk headOk wellFormed valuesOk present hops baseRow begins quietly
+unfolding remembered sameNotes silent notes run step outcome decide planOf afters after overlay rowsOf allFrom allAtMost pairsOk entryOk headOk wellFormed valuesOk present hops baseRow begins quietly
 quietly-hold = refl
 
 -- a refused call: a push of a cut or a node out of range or by another node, without a line, rejected; a synchronise by another node
@@ -384,7 +384,7 @@ unnoted =
     ∷ of (sync 2 ∷ waiting) (silent 6 []) ∷ of (sync 9 ∷ waiting) (silent 6 []) ∷ of (sync 1 ∷ disconnect 1 ∷ waiting) (silent 7 []) ∷ of (sync 1 ∷ line) (nothing ∷ onLine) ∷ of (sync 1 ∷ []) (nothing ∷ []) ∷ []
 
 pub unnoted-hold : remembered unnoted ≡ true
-unfolding remembered sameNotes silent notes run step outcome decide planOf afters after overlay rowsOf allFrom pairsOk entryOk headOk wellFormed valuesOk present begins unnoted
+unfolding remembered sameNotes silent notes run step outcome decide planOf afters after overlay rowsOf allFrom allAtMost pairsOk entryOk headOk wellFormed valuesOk present begins unnoted
 unnoted-hold = refl
 
 -- ---- which retries are promised (Retry): of each order of stores, cut after the first or the second, with outcome 0 or 1, called

@@ -9,6 +9,7 @@ use Rattle.kinds.specs.declared.Transaction.{Transaction}
 use Rattle.kinds.specs.declared.Connection.{Connection}
 use Rattle.kinds.specs.Statuses.{codeOf, progressCode}
 use Rattle.machine.specs.State.{State, entryOf, last, inLog, isKept, isNode, nodeOf}
+use Rattle.machine.specs.Owner.{ownerOf}
 
 -- what is asked; fields are counted from 1, in the order of the numbers below
 pub data Query : Type 0 where
@@ -16,6 +17,7 @@ pub data Query : Type 0 where
   ofEntry : (number field : ℕ) → Query  -- a transaction's
   ofState : (field : ℕ) → Query  -- what the state has once
   ofNode : (node field : ℕ) → Query  -- a connection's
+  ofOwner : (path : ℕ) → Query  -- who set a path (order 7)
 
 pub record Answer : Type 0 where
   pub answer : ℕ
@@ -80,3 +82,4 @@ read s (ofTable b p) = unless 2 (isField 4 b && ltb p 32) (shows (getD (tableNum
 read s (ofEntry i f) = unless 2 (isField 21 f) (unless 5 (inLog s i) (unless 18 (isKept s i) (shows (fieldOf (entryNumbers (entryOf (s .log) i)) f))))
 read s (ofState f) = unless 2 (isField 18 f) (shows (fieldOf (stateNumbers s) f))
 read s (ofNode n f) = unless 2 (isNode n && isField 2 f) (shows (fieldOf (nodeNumbers (nodeOf (s .net .connections) n)) f))
+read s (ofOwner p) = unless 2 (ltb p 32) (shows (ownerOf s p))

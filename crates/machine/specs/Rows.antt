@@ -16,7 +16,8 @@ use Rattle.rules.specs.declared.Lay.{Lay}
 use Rattle.rules.specs.declared.Lay.the-variants.{Nothing, Values, Kept}
 use Rattle.rules.specs.declared.Order.{Order}
 use Rattle.rules.specs.declared.Order.the-variants.{Neither, EntryOnly, HeadOnly, EntryThenHead, HeadThenEntry, TargetThenHeadThenEntry}
-use Rattle.machine.specs.Stores.{Table, ofCommitted, ofApplied, ofTarget, Store, entry, change, committedHead, appliedHead, value}
+use Rattle.machine.specs.State.{inEach}
+use Rattle.machine.specs.Stores.{Table, ofCommitted, ofApplied, ofTarget, ofOwners, Store, entry, change, committedHead, appliedHead, value}
 
 -- ---- overlay: the first n pairs over a table's values, each path's value replaced, the others kept
 abbrev pub layOne : Bool → Table → ℕ → ℕ → List Store
@@ -34,6 +35,12 @@ laid b Nothing t = []
 laid b Values t = overlay b (t .paths) (t .values) (t .count)
 laid b Kept t = overlay b (t .paths) (t .kept) (t .count)
 
+-- the owners of a change's paths: its number, or those that it remembers (order 7)
+abbrev pub owned : Lay → Transaction → ℕ → List Store
+owned Nothing t i = []
+owned Values t i = overlay ofOwners (t .paths) (inEach i) (t .count)
+owned Kept t i = overlay ofOwners (t .paths) (t .owners) (t .count)
+
 -- ---- the stores of a plan
 abbrev pub entryRow : Plan → ℕ → List Store
 entryRow p i = entry i (p .entry) ∷ []
@@ -44,7 +51,7 @@ changeRow false i = []
 
 -- jobs 1 and 3 store Committed; jobs 2 and 4 Applied
 abbrev pub headRow : Bool → Plan → ℕ → List Store
-headRow true p i = committedHead (p .head) ∷ (changeRow (p .change) i ++ laid ofCommitted (p .lay) (p .entry))
+headRow true p i = committedHead (p .head) ∷ (changeRow (p .change) i ++ (laid ofCommitted (p .lay) (p .entry) ++ owned (p .lay) (p .entry) i))
 headRow false p i = appliedHead (p .head) ∷ laid ofApplied (p .lay) (p .entry)
 
 -- the push itself

@@ -16,10 +16,16 @@ use Rattle.kinds.specs.Numbers.{num, ord, trm}
 use Rattle.rules.specs.Sides.{untouched}
 use Rattle.rules.specs.Outside.{reaches, lineOpen}
 
--- Committed, but for its change, and Applied: a head and 32 values
+-- Applied: a head and 32 values
 pub record Part : Type 0 where
   pub head : Head
   pub values : List ℕ
+
+-- Committed, but for its change: also, for each path, the number of the newest live change that set it, 0 if none (order 7)
+pub record Ledger : Type 0 where
+  pub head : Head
+  pub values : List ℕ
+  pub owners : List ℕ
 
 -- the nodes' side: the configuration with its term, the mastership, eight connections, the target and its 32 values
 pub record Net : Type 0 where
@@ -41,8 +47,8 @@ pub record State : Type 0 where
   pub log : Log
   -- revision ≤ index ≤ change ≤ the highest number given
   pub change : Number
-  -- its values are those of the live changes, which the revision leads to
-  pub committed : Part
+  -- its values are those of the live changes, which the revision leads to, and its owners the newest of them that set each path
+  pub committed : Ledger
   -- its ordinal ≤ Committed's; its values are those of the changes taken by the switch and not undone
   pub applied : Part
   -- line open: the target's values are the applied values; nobody is connected to a stopped target
@@ -54,6 +60,9 @@ absent = replicate 32 0
 
 abbrev pub freshPart : Part
 freshPart = record { head = record { index = num 0; target = num 0; revision = num 0; ordinal = ord 0 }; values = absent }
+
+abbrev pub freshLedger : Ledger
+freshLedger = record { head = freshPart .head; values = absent; owners = absent }
 
 abbrev pub never : Connection
 never = record { id = 0; connected = false }
@@ -73,15 +82,19 @@ abbrev pub unfolded : List Transaction → Log
 unfolded ts = record { folded = num 0; base = absent; entries = ts }
 
 abbrev pub fresh : State
-fresh = record { log = unfolded []; change = num 0; committed = freshPart; applied = freshPart; net = freshNet }
+fresh = record { log = unfolded []; change = num 0; committed = freshLedger; applied = freshPart; net = freshNet }
 
 -- ---- entries of the log and nodes, both counted from 1
 abbrev pub four : List ℕ
 four = replicate 4 0
 
+-- a number at each
+abbrev pub inEach : ℕ → List ℕ
+inEach k = replicate 4 k
+
 -- what stands outside the log
 abbrev pub blank : Transaction
-blank = record { phase = 0; count = 0; paths = four; values = four; change = untouched; rollback = untouched; index = num 0; kept = four }
+blank = record { phase = 0; count = 0; paths = four; values = four; change = untouched; rollback = untouched; index = num 0; kept = four; owners = four }
 
 -- an entry by its place among those kept, from 1
 abbrev pub placeOf : List Transaction → ℕ → Transaction

@@ -10,11 +10,11 @@ use Rattle.kinds.specs.declared.Configuration.{Configuration}
 use Rattle.kinds.specs.declared.Mastership.{Mastership}
 use Rattle.kinds.specs.declared.Connection.{Connection}
 use Rattle.kinds.specs.declared.Target.{Target}
-use Rattle.machine.specs.State.{Part, Net, Log, State, putEntry, grown, foldedTo}
+use Rattle.machine.specs.State.{Part, Ledger, Net, Log, State, putEntry, grown, foldedTo}
 
--- the four tables of 32 values; the first two have heads, the last is the log's base
+-- the tables of 32: Committed's values and owners, Applied's and the target's values, and the log's base
 pub data Table : Type 0 where
-  ofCommitted ofApplied ofTarget ofBase : Table
+  ofCommitted ofApplied ofTarget ofBase ofOwners : Table
 
 pub data Store : Type 0 where
   grow : Transaction → Store  -- one entry more, at the log's end
@@ -23,7 +23,7 @@ pub data Store : Type 0 where
   change : Number → Store  -- Committed's change
   committedHead : Head → Store
   appliedHead : Head → Store
-  value : Table → ℕ → ℕ → Store  -- one path's value
+  value : Table → ℕ → ℕ → Store  -- one path's value, or owner
   targetValues : List ℕ → Store  -- all of the target's values
   configuration : Configuration → Store
   mastership : Mastership → Store
@@ -34,7 +34,7 @@ pub data Store : Type 0 where
 abbrev pub withLog : State → Log → State
 withLog s l = record { log = l; change = s .change; committed = s .committed; applied = s .applied; net = s .net }
 
-abbrev pub withCommitted : State → Part → State
+abbrev pub withCommitted : State → Ledger → State
 withCommitted s p = record { log = s .log; change = s .change; committed = p; applied = s .applied; net = s .net }
 
 abbrev pub withApplied : State → Part → State
@@ -49,6 +49,9 @@ withHead p h = record { head = h; values = p .values }
 abbrev pub withValue : Part → ℕ → ℕ → Part
 withValue p k v = record { head = p .head; values = set (p .values) k v }
 
+abbrev pub withLedgerHead : Ledger → Head → Ledger
+withLedgerHead p h = record { head = h; values = p .values; owners = p .owners }
+
 abbrev pub withBase : Log → List ℕ → Log
 withBase l vs = record { folded = l .folded; base = vs; entries = l .entries }
 
@@ -58,7 +61,8 @@ withTargetValues w vs =
 
 -- ---- the state after a store, and after a row of them
 abbrev pub afterValue : State → Table → ℕ → ℕ → State
-afterValue s ofCommitted p v = withCommitted s (withValue (s .committed) p v)
+afterValue s ofCommitted p v = withCommitted s (record { head = s .committed .head; values = set (s .committed .values) p v; owners = s .committed .owners })
+afterValue s ofOwners p v = withCommitted s (record { head = s .committed .head; values = s .committed .values; owners = set (s .committed .owners) p v })
 afterValue s ofApplied p v = withApplied s (withValue (s .applied) p v)
 afterValue s ofTarget p v = withNet s (withTargetValues (s .net) (set (s .net .values) p v))
 afterValue s ofBase p v = withLog s (withBase (s .log) (set (s .log .base) p v))
@@ -68,7 +72,7 @@ after s (grow t) = withLog s (grown (s .log) t)
 after s (entry i t) = withLog s (putEntry (s .log) i t)
 after s (fold b) = withLog s (foldedTo (s .log) b)
 after s (change n) = record { log = s .log; change = n; committed = s .committed; applied = s .applied; net = s .net }
-after s (committedHead h) = withCommitted s (withHead (s .committed) h)
+after s (committedHead h) = withCommitted s (withLedgerHead (s .committed) h)
 after s (appliedHead h) = withApplied s (withHead (s .applied) h)
 after s (value b p v) = afterValue s b p v
 after s (targetValues vs) = withNet s (withTargetValues (s .net) vs)

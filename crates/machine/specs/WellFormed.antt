@@ -26,11 +26,16 @@ pairsOk n ps =
     && ((ltb n 3 || (ltb (getD ps 1 0) (getD ps 2 0) && ltb (getD ps 2 0) 32))
     && (ltb n 4 || (ltb (getD ps 2 0) (getD ps 3 0) && ltb (getD ps 3 0) 32)))))
 
--- phase 1 or 2, valid pairs, r.index below its own number, ordinals at most 131,070
+-- four owners that a change remembers, each below its own number (order 7)
+abbrev pub recallsOk : ℕ → List ℕ → Bool
+recallsOk i os = (ltb (getD os 0 0) i && ltb (getD os 1 0) i) && (ltb (getD os 2 0) i && ltb (getD os 3 0) i)
+
+-- phase 1 or 2, valid pairs, r.index and the owners remembered below its own number, ordinals at most 131,070
 unfoldable pub entryOk : ℕ → Transaction → Bool
 entryOk i t =
     (leb 1 (t .phase) && leb (t .phase) 2)
-    && (ltb (t .index .0) i && ((leb (t .change .ordinal .0) 131070 && leb (t .rollback .ordinal .0) 131070) && pairsOk (t .count) (t .paths)))
+    && ((ltb (t .index .0) i && recallsOk i (t .owners))
+    && ((leb (t .change .ordinal .0) 131070 && leb (t .rollback .ordinal .0) 131070) && pairsOk (t .count) (t .paths)))
 
 -- index, target and revision at most the highest number given, ordinal at most 131,070
 unfoldable pub headOk : ℕ → Head → Bool
@@ -39,14 +44,21 @@ headOk n h = (leb (h .index .0) n && (leb (h .target .0) n && leb (h .revision .
 -- the tables' sizes
 abbrev pub sizesOk : State → Bool
 sizesOk s =
-    (eqb (length (s .committed .values)) 32 && eqb (length (s .applied .values)) 32)
+    ((eqb (length (s .committed .values)) 32 && eqb (length (s .committed .owners)) 32) && eqb (length (s .applied .values)) 32)
     && (eqb (length (s .net .values)) 32 && (eqb (length (s .log .base)) 32 && eqb (length (s .net .connections)) 8))
 
--- the heads where the highest number given is n, Committed's change, and the master
+-- each at most n
+unfoldable pub allAtMost : ℕ → List ℕ → Bool
+allAtMost n [] = true
+allAtMost n (k ∷ ks) = leb k n && allAtMost n ks
+
+-- the heads where the highest number given is n; Committed's change, which its revision and its owners are at most (order 7); and
+-- the master
 abbrev pub headsOk : State → ℕ → Bool
 headsOk s n =
     (headOk n (s .committed .head) && headOk n (s .applied .head))
-    && ((leb (s .change .0) n && leb (s .committed .head .revision .0) (s .change .0)) && leb (s .net .mastership .master) 8)
+    && ((leb (s .change .0) n && (leb (s .committed .head .revision .0) (s .change .0) && allAtMost (s .change .0) (s .committed .owners)))
+    && leb (s .net .mastership .master) 8)
 
 -- at most 128 kept, numbered up to 65,535
 abbrev pub logOk : Log → Bool

@@ -8,7 +8,7 @@ use lib.Dec.{eqb}
 use Rattle.machine.specs.State.{State, fresh}
 use Rattle.machine.specs.Stores.{after, afters}
 use Rattle.machine.specs.Rows.{overlay, rowsOf}
-use Rattle.machine.specs.WellFormed.{allFrom, pairsOk, entryOk, headOk, wellFormed}
+use Rattle.machine.specs.WellFormed.{allFrom, allAtMost, pairsOk, entryOk, headOk, wellFormed}
 use Rattle.machine.specs.LiveList.{hops}
 use Rattle.machine.specs.Folding.{baseRow}
 use Rattle.machine.specs.Calls.{Call, append, rollback, start, connect, master, sync, work, foldTo, valuesOk, present, planOf, decide}
@@ -106,7 +106,7 @@ finished =
     ∷ row (job 4 2 ∷ job 2 2 ∷ through 2 1 returned) (waits 4 2 1 0 ∷ waits 2 2 1 0 ∷ []) ∷ row (cut 4 2 ∷ job 2 2 ∷ through 2 1 returned) (closes 4 2 ∷ []) ∷ []
 
 pub finished-hold : all finished ≡ true
-unfolding all agrees why stateFrom step outcome decide planOf afters after overlay rowsOf allFrom pairsOk entryOk headOk wellFormed valuesOk present firstOf lowest hops baseRow finished
+unfolding all agrees why stateFrom step outcome decide planOf afters after overlay rowsOf allFrom allAtMost pairsOk entryOk headOk wellFormed valuesOk present firstOf lowest hops baseRow finished
 finished-hold = refl
 
 -- ---- 2 no rollback asked
@@ -116,7 +116,7 @@ unasked =
     ∷ row (rollback 2 ∷ committed) (goes 3 2 ∷ waits 4 2 6 0 ∷ waits 3 1 2 0 ∷ waits 4 1 2 0 ∷ []) ∷ []
 
 pub unasked-hold : all unasked ≡ true
-unfolding all agrees why stateFrom step outcome decide planOf afters after overlay rowsOf allFrom pairsOk entryOk headOk wellFormed valuesOk present firstOf lowest hops baseRow unasked
+unfolding all agrees why stateFrom step outcome decide planOf afters after overlay rowsOf allFrom allAtMost pairsOk entryOk headOk wellFormed valuesOk present firstOf lowest hops baseRow unasked
 unasked-hold = refl
 
 -- ---- 3 an earlier change not yet through commit: change + 1, if below the number
@@ -127,7 +127,7 @@ earlier =
     ∷ row (change 4 ∷ returned) (goes 1 3 ∷ waits 1 4 3 3 ∷ []) ∷ row (change 4 ∷ through 3 1 (rollback 1 ∷ returned)) (goes 1 3 ∷ waits 1 4 3 3 ∷ []) ∷ []
 
 pub earlier-hold : all earlier ≡ true
-unfolding all agrees why stateFrom step outcome decide planOf afters after overlay rowsOf allFrom pairsOk entryOk headOk wellFormed valuesOk present firstOf lowest hops baseRow earlier
+unfolding all agrees why stateFrom step outcome decide planOf afters after overlay rowsOf allFrom allAtMost pairsOk entryOk headOk wellFormed valuesOk present firstOf lowest hops baseRow earlier
 earlier-hold = refl
 
 -- ---- 4 another commit in flight: the target if above change, else the lowest in progress, else the revision
@@ -140,7 +140,7 @@ flying =
     ∷ row (cut 3 1 ∷ rollback 1 ∷ returned) (goes 3 1 ∷ waits 1 3 4 1 ∷ []) ∷ row (through 3 1 (rollback 1 ∷ returned)) (goes 1 3 ∷ []) ∷ []
 
 pub flying-hold : all flying ≡ true
-unfolding all agrees why stateFrom step outcome decide planOf afters after overlay rowsOf allFrom pairsOk entryOk headOk wellFormed valuesOk present firstOf lowest hops baseRow flying
+unfolding all agrees why stateFrom step outcome decide planOf afters after overlay rowsOf allFrom allAtMost pairsOk entryOk headOk wellFormed valuesOk present firstOf lowest hops baseRow flying
 flying-hold = refl
 
 -- ---- 5 a later live change on top: the revision, if above the number
@@ -150,7 +150,7 @@ covered =
     ∷ row (rollback 2 ∷ rollback 1 ∷ through 1 3 committed) (waits 3 1 5 3 ∷ waits 3 2 5 3 ∷ []) ∷ row (rollback 1 ∷ returned) (goes 3 1 ∷ []) ∷ []
 
 pub covered-hold : all covered ≡ true
-unfolding all agrees why stateFrom step outcome decide planOf afters after overlay rowsOf allFrom pairsOk entryOk headOk wellFormed valuesOk present firstOf lowest hops baseRow covered
+unfolding all agrees why stateFrom step outcome decide planOf afters after overlay rowsOf allFrom allAtMost pairsOk entryOk headOk wellFormed valuesOk present firstOf lowest hops baseRow covered
 covered-hold = refl
 
 -- ---- 6 not yet committed
@@ -161,7 +161,7 @@ uncommitted =
     ∷ row (cut 3 2 ∷ job 3 2 ∷ rollback 2 ∷ committed) (waits 4 2 6 0 ∷ []) ∷ []
 
 pub uncommitted-hold : all uncommitted ≡ true
-unfolding all agrees why stateFrom step outcome decide planOf afters after overlay rowsOf allFrom pairsOk entryOk headOk wellFormed valuesOk present firstOf lowest hops baseRow uncommitted
+unfolding all agrees why stateFrom step outcome decide planOf afters after overlay rowsOf allFrom allAtMost pairsOk entryOk headOk wellFormed valuesOk present firstOf lowest hops baseRow uncommitted
 uncommitted-hold = refl
 
 -- ---- 7 an earlier ordinal not settled: the applied one, or where it is settled the one after, if below the job's own
@@ -173,7 +173,7 @@ unsettled =
     ∷ row (through 3 2 (rollback 2 ∷ unmarked 2 2 ∷ job 2 2 ∷ through 2 1 committed)) (goes 2 2 ∷ waits 4 2 7 2 ∷ []) ∷ row (job 2 2 ∷ through 2 1 returned) (goes 4 2 ∷ []) ∷ []
 
 pub unsettled-hold : all unsettled ≡ true
-unfolding all agrees why stateFrom step outcome decide planOf afters after overlay rowsOf allFrom pairsOk entryOk headOk wellFormed valuesOk present firstOf lowest hops baseRow unsettled
+unfolding all agrees why stateFrom step outcome decide planOf afters after overlay rowsOf allFrom allAtMost pairsOk entryOk headOk wellFormed valuesOk present firstOf lowest hops baseRow unsettled
 unsettled-hold = refl
 
 -- ---- the first of those that fit, in the order of the job: two or more fit
@@ -185,7 +185,7 @@ firsts =
     ∷ row (job 3 2 ∷ rollback 2 ∷ rollback 1 ∷ committed) (waits 3 1 4 2 ∷ []) ∷ []
 
 pub firsts-hold : all firsts ≡ true
-unfolding all agrees why stateFrom step outcome decide planOf afters after overlay rowsOf allFrom pairsOk entryOk headOk wellFormed valuesOk present firstOf lowest hops baseRow firsts
+unfolding all agrees why stateFrom step outcome decide planOf afters after overlay rowsOf allFrom allAtMost pairsOk entryOk headOk wellFormed valuesOk present firstOf lowest hops baseRow firsts
 firsts-hold = refl
 
 -- ---- refusals: 2, 5 and 10 as in a job; 15 where it would not answer 11: it goes, has no line (12) or is rejected (13)
@@ -197,7 +197,7 @@ refusing =
     ∷ row (job 2 1 ∷ through 1 1 (change 7 ∷ led)) (goes 2 1 ∷ []) ∷ row (job 4 2 ∷ through 3 2 (rollback 2 ∷ through 2 2 (through 2 1 committed))) (goes 4 2 ∷ []) ∷ []
 
 pub refusing-hold : all refusing ≡ true
-unfolding all agrees why stateFrom step outcome decide planOf afters after overlay rowsOf allFrom pairsOk entryOk headOk wellFormed valuesOk present firstOf lowest hops baseRow refusing
+unfolding all agrees why stateFrom step outcome decide planOf afters after overlay rowsOf allFrom allAtMost pairsOk entryOk headOk wellFormed valuesOk present firstOf lowest hops baseRow refusing
 refusing-hold = refl
 
 -- 1 applied and folded away, 2 and 3 after it
@@ -212,5 +212,5 @@ kept =
     ∷ row (change 6 ∷ cut 3 3 ∷ job 3 3 ∷ rollback 3 ∷ through 1 3 (through 1 2 folded)) (waits 1 4 4 3 ∷ waits 4 3 6 0 ∷ []) ∷ []
 
 pub kept-hold : all kept ≡ true
-unfolding all agrees why stateFrom step outcome decide planOf afters after overlay rowsOf allFrom pairsOk entryOk headOk wellFormed valuesOk present firstOf lowest hops baseRow kept
+unfolding all agrees why stateFrom step outcome decide planOf afters after overlay rowsOf allFrom allAtMost pairsOk entryOk headOk wellFormed valuesOk present firstOf lowest hops baseRow kept
 kept-hold = refl

@@ -1,6 +1,4 @@
 -- Job 1, commit change: which rule holds, and its plan. Fields are of Committed (paper: Job 1). Assumes nothing.
-use Prim.Native.Nat.{ℕ}
-use mathlib.Core.List.{List}
 use mathlib.Core.Bool.{Bool, true, false, cond}
 use lib.Dec.{eqb}
 use Rattle.kinds.specs.declared.Transaction.{Transaction}
@@ -14,6 +12,7 @@ use Rattle.kinds.specs.Events.{event}
 use Rattle.kinds.specs.Records.{withChange}
 use Rattle.rules.specs.declared.Plan.{Plan}
 use Rattle.rules.specs.declared.CommitTests.{CommitTests}
+use Rattle.rules.specs.declared.Present.{Present}
 use Rattle.rules.specs.declared.CommitChangeRule.{CommitChangeRule}
 use Rattle.rules.specs.declared.CommitChangeRule.the-variants.{Begin, Aim, Land, Full, Reject, Finish, Close, Wait}
 use Rattle.rules.specs.declared.Lay.the-variants.{Nothing, Values}
@@ -43,8 +42,8 @@ rule Complete a = Wait
 rule Aborted a = Wait
 rule Canceled a = Wait
 
--- c.commit InProgress, r.index = revision, r.values = the present values
-abbrev pub beginning : Transaction → Number → List ℕ → Transaction
+-- c.commit InProgress, r.index = revision, r.values = the present values, and the present owners are remembered (order 7)
+abbrev pub beginning : Transaction → Number → Present → Transaction
 beginning t revision present =
     record {
       phase = t .phase;
@@ -54,11 +53,12 @@ beginning t revision present =
       change = begun (t .change);
       rollback = t .rollback;
       index = revision;
-      kept = present;
+      kept = present .values;
+      owners = present .owners;
     }
 
 -- o is the ordinal + 1
-abbrev pub plans : CommitChangeRule → Transaction → Head → Number → Ordinal → List ℕ → Plan
+abbrev pub plans : CommitChangeRule → Transaction → Head → Number → Ordinal → Present → Plan
 plans Begin t h i o present = entryOnly (beginning t (h .revision) present) h
 plans Aim t h i o present = headThenEntry (event 1 1 i InProgress) (aimed h i) false Nothing (beginning t (h .revision) present)
 plans Land t h i o present = headThenEntry (event 1 1 i Complete) (landed h i i o) true Values (withChange t (committed (t .change) o))
@@ -68,6 +68,6 @@ plans Finish t h i o present = entryOnly (withChange t (committed (t .change) (h
 plans Close t h i o present = headOnly t (passed h i) true
 plans Wait t h i o present = refuse 11 t h
 
-abbrev pub commitChange : Transaction → Head → Number → Bool → Number → Bool → List ℕ → Plan
+abbrev pub commitChange : Transaction → Head → Number → Bool → Number → Bool → Present → Plan
 commitChange t h change rest i accepted present =
     plans (rule (t .change .commit) (tests h change rest i accepted)) t h i (nextOrdinal (h .ordinal)) present

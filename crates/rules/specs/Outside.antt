@@ -35,6 +35,7 @@ rolledBack t =
       rollback = asked (t .rollback);
       index = t .index;
       kept = t .kept;
+      owners = t .owners;
     }
 
 -- ---- start and stop: the target. Stop also clears its values and disconnects every node

@@ -3,7 +3,6 @@
 use Prim.Native.Nat.{ℕ}
 use mathlib.Core.Path.{_≡_}
 use mathlib.Core.Bool.{Bool}
-use mathlib.Core.List.{List}
 use Rattle.kinds.specs.declared.Configuration.{Configuration}
 use Rattle.kinds.specs.declared.Connection.{Connection}
 use Rattle.kinds.specs.declared.Head.{Head}
@@ -17,6 +16,7 @@ use Rattle.kinds.specs.Outcome.{one}
 use Rattle.rules.specs.declared.Connected.{Connected}
 use Rattle.rules.specs.declared.Mastered.{Mastered}
 use Rattle.rules.specs.declared.Plan.{Plan}
+use Rattle.rules.specs.declared.Present.{Present}
 use Rattle.rules.specs.declared.Synchronised.{Synchronised}
 use Rattle.rules.specs.declared.Targeted.{Targeted}
 use Rattle.rules.specs.AtRest.{atRest}
@@ -33,10 +33,10 @@ TellsRest h c r b = b ≡ atRest h c r
 pub tells-rest-only : (h : Head) (c r : Status) (a b : Bool) → TellsRest h c r a → TellsRest h c r b → a ≡ b
 tells-rest-only h c r a b = one
 
-abbrev pub CommitsChange : Transaction → Head → Number → Bool → Number → Bool → List ℕ → Plan → Type 0
+abbrev pub CommitsChange : Transaction → Head → Number → Bool → Number → Bool → Present → Plan → Type 0
 CommitsChange t h change rest i accepted present r = r ≡ commitChange t h change rest i accepted present
 
-pub commits-change-only : (t : Transaction) (h : Head) (change : Number) (rest : Bool) (i : Number) (accepted : Bool) (present : List ℕ) (r q : Plan)
+pub commits-change-only : (t : Transaction) (h : Head) (change : Number) (rest : Bool) (i : Number) (accepted : Bool) (present : Present) (r q : Plan)
     → CommitsChange t h change rest i accepted present r → CommitsChange t h change rest i accepted present q → r ≡ q
 commits-change-only t h change rest i accepted present r q = one
 

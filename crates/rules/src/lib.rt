@@ -41,6 +41,12 @@ pub enum Order {
     TargetThenHeadThenEntry,
 }
 
+// The committed values and the owners at a change's paths, unused places 0.
+pub struct Present {
+    pub values: [u16; 4],
+    pub owners: [u16; 4],
+}
+
 // Which values the head's store lays over those at the entry's paths: none, the change's, or r.values.
 pub enum Lay {
     Nothing,

@@ -3,6 +3,7 @@ use crate::CommitChangeRule as Rule;
 use crate::CommitTests;
 use crate::Lay;
 use crate::Plan;
+use crate::Present;
 use crate::heads::aimed;
 use crate::heads::landed;
 use crate::heads::passed;
@@ -89,14 +90,17 @@ pub fn rule(commit: Status, a: CommitTests) -> Rule
     }
 }
 
-// The entry begun: c.commit InProgress, r.index = revision, r.values = the present values of its paths.
-pub fn beginning(t: Transaction, revision: Number, present: [u16; 4]) -> Transaction
+// The entry begun: c.commit InProgress, r.index = revision, r.values = the present values of its paths, and their present
+// owners are remembered.
+pub fn beginning(t: Transaction, revision: Number, present: Present) -> Transaction
     ensures { λ r. ⌜ r ≡ beginning t revision present ⌝ }
 {
     let paths = t.paths;
     let values = t.values;
     let change = t.change;
     let rollback = t.rollback;
+    let kept = present.values;
+    let owners = present.owners;
     Transaction {
         phase: t.phase,
         count: t.count,
@@ -105,7 +109,8 @@ pub fn beginning(t: Transaction, revision: Number, present: [u16; 4]) -> Transac
         change: begun(change),
         rollback,
         index: revision,
-        kept: present,
+        kept,
+        owners,
     }
 }
 
@@ -130,7 +135,7 @@ pub fn event(i: Number, status: Status) -> Event
 }
 
 // The plan of a rule; o is the ordinal + 1.
-pub fn plans(rule: Rule, t: Transaction, h: Head, i: Number, o: Ordinal, present: [u16; 4]) -> Plan
+pub fn plans(rule: Rule, t: Transaction, h: Head, i: Number, o: Ordinal, present: Present) -> Plan
     ensures { λ r. ⌜ r ≡ plans rule t h i o present ⌝ }
 {
     let change = t.change;
@@ -166,7 +171,7 @@ pub fn plans(rule: Rule, t: Transaction, h: Head, i: Number, o: Ordinal, present
 }
 
 // The plan that job 1 decides for entry t, numbered i; `rest` says whether the commit side is at rest, and `present`
-// are the committed values at the entry's paths.
+// are the committed values and the owners at the entry's paths.
 pub fn commit_change(
     t: Transaction,
     h: Head,
@@ -174,7 +179,7 @@ pub fn commit_change(
     rest: bool,
     i: Number,
     accepted: bool,
-    present: [u16; 4],
+    present: Present,
 ) -> Plan
     ensures { λ r. ⌜ CommitsChange t h change rest i accepted present r ⌝ }
 {
