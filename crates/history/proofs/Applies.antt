@@ -370,7 +370,7 @@ module _ {l : Log} {part : Part} {ops acts : List Op} {bad : List ℕ} (side : A
       → Applied (putEntry l i (withChange (entryOf l i) (applyAt (entryOf l i .change) x))) part ops acts bad
   set-change i x f u c b g t r s =
       let o = inv .entries i in
-      put-applied i _ (newest ops) (omega arith) (λ y. record { count = refl; paths = refl; values = refl; kept = refl; index = refl }) f
+      put-applied i _ (newest ops) (omega arith) (λ y. record { count = refl; paths = refl; values = refl; kept = refl; owners = refl; index = refl }) f
       (λ y. record { change = u y; rollback = y .rollback })
       (λ w. record { change = c w; rollback = λ y z. w (inv .calm i .rollback y z) })
       (record {
@@ -392,7 +392,7 @@ module _ {l : Log} {part : Part} {ops acts : List Op} {bad : List ℕ} (side : A
       → Applied (putEntry l i (withRollback (entryOf l i) (applyAt (entryOf l i .rollback) x))) part ops acts bad
   set-rollback i x u c b g t r s =
       let o = inv .entries i in
-      put-applied i _ (newest ops) (omega arith) (λ y. record { count = refl; paths = refl; values = refl; kept = refl; index = refl }) (λ y. refl)
+      put-applied i _ (newest ops) (omega arith) (λ y. record { count = refl; paths = refl; values = refl; kept = refl; owners = refl; index = refl }) (λ y. refl)
       (λ y. record { change = y .change; rollback = u y })
       (λ w. record { change = λ y z. w (inv .calm i .change y z); rollback = c w })
       (record {

@@ -30,10 +30,11 @@ use Rattle.rules.specs.CommitChange as job1
 use Rattle.rules.specs.CommitRollback as job3
 use Rattle.rules.specs.ApplyChange as job2
 use Rattle.rules.specs.ApplyRollback as job4
+use Rattle.rules.specs.declared.Present.{Present}
 use Rattle.machine.specs.State.{Log, State, unfolded, entryOf, putEntry, grown, last}
 use Rattle.machine.specs.Stores.{grow, withLog, after, afters}
 use Rattle.machine.specs.WellFormed.{wellFormed}
-use Rattle.machine.specs.Calls.{Pair, Call, Outcome, append, rollback, start, stop, connect, disconnect, master, sync, work, foldTo, refused, unless, validChange, appended, present, decide}
+use Rattle.machine.specs.Calls.{Pair, Call, Outcome, append, rollback, start, stop, connect, disconnect, master, sync, work, foldTo, refused, unless, validChange, appended, presentOf, decide}
 use Rattle.machine.specs.Step.{outcome, step, run}
 use Rattle.machine.specs.Notes.{Note}
 use Rattle.machine.proofs.Next.{performedBy, performed}
@@ -108,7 +109,7 @@ grow-alike {l} {m} t a =
         subst (λ u. SamePairs u (entryOf (grown m t) k)) (sym y) (subst (SamePairs t) (sym x) (same-pairs t))
 
 -- ---- no call but append touches pairs: whatever the rule, its plan's entry has those of the entry that it is made for
-pairs1 : (r : CommitChangeRule) (t : Transaction) (h : Head) (i : Number) (o : Ordinal) (vs : List ℕ) → SamePairs t (job1.plans r t h i o vs .entry)
+pairs1 : (r : CommitChangeRule) (t : Transaction) (h : Head) (i : Number) (o : Ordinal) (vs : Present) → SamePairs t (job1.plans r t h i o vs .entry)
 pairs1 change.Begin t h i o vs = record { count = refl; paths = refl; values = refl }
 pairs1 change.Aim t h i o vs = record { count = refl; paths = refl; values = refl }
 pairs1 change.Land t h i o vs = record { count = refl; paths = refl; values = refl }
@@ -177,8 +178,8 @@ module _ (w : State) (c : Call) (n : (ps : List Pair) → c ≡ append ps → �
   abbrev en : ℕ → Transaction
   en i = entryOf (w .log) i
 
-  by1 : (i : ℕ) (cut second : Bool) (r : CommitChangeRule) (o : Ordinal) → Does w Pairs true i cut second (job1.plans r (en i) (w .committed .head) (num i) o (present (w .committed .values) (en i)))
-  by1 i cut second r o = plan i true cut second (job1.plans r (en i) (w .committed .head) (num i) o (present (w .committed .values) (en i))) (pairs1 r (en i) (w .committed .head) (num i) o (present (w .committed .values) (en i)))
+  by1 : (i : ℕ) (cut second : Bool) (r : CommitChangeRule) (o : Ordinal) → Does w Pairs true i cut second (job1.plans r (en i) (w .committed .head) (num i) o (presentOf w (en i)))
+  by1 i cut second r o = plan i true cut second (job1.plans r (en i) (w .committed .head) (num i) o (presentOf w (en i))) (pairs1 r (en i) (w .committed .head) (num i) o (presentOf w (en i)))
 
   by2 : (i : ℕ) (cut second : Bool) (r : ApplyChangeRule) → Does w Pairs false i cut second (job2.plans r (en i) (w .applied .head) (num i))
   by2 i cut second r = plan i false cut second (job2.plans r (en i) (w .applied .head) (num i)) (pairs2 r (en i) (w .applied .head) (num i))

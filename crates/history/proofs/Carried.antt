@@ -16,7 +16,7 @@ use Rattle.kinds.specs.declared.Status.the-variants.{None, Pending, InProgress,
 use Rattle.kinds.specs.Statuses.{done}
 use Rattle.rules.specs.ApplyRollback.{wasTried}
 use Rattle.machine.specs.State.{State, blank, placeOf, entryOf, last}
-use Rattle.machine.specs.WellFormed.{allFrom}
+use Rattle.machine.specs.WellFormed.{allFrom, allAtMost}
 use Rattle.machine.specs.Settled.{sideSettled, entrySettled, settled}
 use Rattle.machine.specs.Calls.{Call}
 use Rattle.machine.specs.Step.{run}
@@ -40,7 +40,7 @@ use Rattle.history.proofs.Reasons.{holds-seen}
 
 -- ---- not settled, in any state: what is not Done applying carries the applied ordinal
 some-false : {R : Type 0} (p : ℕ → Transaction → Bool) (k : ℕ) (l : List Transaction) → allFrom p k l ≡ false → ((j : ℕ) → j < length l → p (k + j) (getD l j blank) ≡ false → R) → R
-unfolding allFrom
+unfolding allFrom allAtMost
 some-false p k [] e f = clash e
 some-false {R} p k (t ∷ ts) e f = go (p k t) refl e (some-false p (k + 1) ts)
   where

@@ -21,15 +21,15 @@ use Rattle.rules.specs.Heads.{aimed, landed, passed}
 use Rattle.rules.specs.Sides.{begun, committed, invalid}
 use Rattle.rules.specs.Outside.{rolledBack}
 use Rattle.rules.specs.AtRest.{atRest}
-use Rattle.machine.specs.State.{Part, Log, entryOf, putEntry, grown, last}
+use Rattle.machine.specs.State.{Ledger, inEach, Log, entryOf, putEntry, grown, last}
 use Rattle.machine.specs.Laid.{over}
 use Rattle.machine.proofs.Cases.{and-left, and-right, or-cases}
 use Rattle.machine.proofs.Entries.{put-all, add-all, entry-cases, last-put, last-add, length-over}
 use Rattle.machine.specs.Rest.{markOf}
 use Rattle.machine.proofs.Overlay.{at-over}
 use Rattle.history.specs.Ops.{Op, push, pop, pushed, popped, top, tail, stack, newest, Rising, Falls, stack-low, stack-falls, pushed-above, popped-above, on-top, opAt-last, clash}
-use Rattle.history.specs.Invariant.{val, Linked, says, returns, isGoing, complete, commitView, CommitEntry, Committed, isEnded}
-use Rattle.history.specs.Frames.{Same, same, val-same, linked-same, put-same, LinkedStack, stack-linked, not-going, complete-same, by-eq}
+use Rattle.history.specs.Invariant.{val, own, Linked, says, returns, claims, recalls, isGoing, complete, commitView, CommitEntry, Committed, isEnded}
+use Rattle.history.specs.Frames.{Same, same, val-same, own-same, linked-same, put-same, LinkedStack, stack-linked, not-going, complete-same, by-eq}
 
 -- ---- at rest
 abbrev commitAt : Log → ℕ → Status
@@ -87,7 +87,7 @@ mark-kept l k x p = rw (lt-leb k (l .folded .0) p) refl
 pub mark-folded : (l : Log) (k : ℕ) (x : Status) → k ≤ l .folded .0 → markOf l k x ≡ Complete
 mark-folded l k x p = rw (le-leb k (l .folded .0) p) refl
 
-module _ {l : Log} {c : ℕ} {part : Part} {ops : List Op} (inv : Committed l c part ops) where
+module _ {l : Log} {c : ℕ} {part : Ledger} {ops : List Op} (inv : Committed l c part ops) where
   abbrev hd : Head
   hd = part .head
 
@@ -129,12 +129,12 @@ module _ {l : Log} {c : ℕ} {part : Part} {ops : List Op} (inv : Committed l c 
         (λ z. omega (arith, inv .entries k .returning x z, tip-back k z (omega (arith, some-back l k (ap isGoing x))), asked k x))
         (λ z. omega (arith, inv .entries k .returned x z .target, inv .low, inv .mid))
 
-  pub aim-change : (i : ℕ) → i ≡ suc c → Rests l hd → Committed l c (record { head = aimed hd (num i); values = part .values }) ops
+  pub aim-change : (i : ℕ) → i ≡ suc c → Rests l hd → Committed l c (record { head = aimed hd (num i); values = part .values; owners = part .owners }) ops
   aim-change i e r =
       record {
         entries = λ k. let o = inv .entries k in record {
           begun = o .begun;
-          flight = λ x y. let f = o .flight x y in record { origin = f .origin; target = e ∙ sym y; restores = f .restores };
+          flight = λ x y. let f = o .flight x y in record { origin = f .origin; target = e ∙ sym y; restores = f .restores; owners = f .owners };
           closing = λ x y. absurd (not-closing r k x y);
           failed = o .failed;
           failing = λ x y. e ∙ sym y;
@@ -150,6 +150,8 @@ module _ {l : Log} {c : ℕ} {part : Part} {ops : List Op} (inv : Committed l c 
         tip = inv .tip;
         holds = inv .holds;
         room = inv .room;
+        owns = inv .owns;
+        ownRoom = inv .ownRoom;
         low = inv .low;
         mid = inv .mid;
         high = inv .high;
@@ -158,13 +160,13 @@ module _ {l : Log} {c : ℕ} {part : Part} {ops : List Op} (inv : Committed l c 
 
   -- one entry is stored, its pairs as they were if its number is at most n, which no live change passes
   pub put-committed : (i : ℕ) (t : Transaction) (n : ℕ) → newest ops ≤ n → (i ≤ n → Same (entryOf l i) t)
-      → CommitEntry hd c (part .values) ops i (commitView t)
+      → CommitEntry hd c (part .values) (part .owners) ops i (commitView t)
       → Committed (putEntry l i t) c part ops
   put-committed i t n b q o =
       let m = putEntry l i t in
       let s : (k : ℕ) → k ≤ n → Same (entryOf l k) (entryOf m k) = put-same l i t n q in
       record {
-        entries = put-all (λ k u. CommitEntry hd c (part .values) ops k (commitView u)) l i t (inv .entries) o;
+        entries = put-all (λ k u. CommitEntry hd c (part .values) (part .owners) ops k (commitView u)) l i t (inv .entries) o;
         rising = inv .rising;
         linked = linked-same l m n s ops (inv .rising) b (inv .linked);
         count = inv .count;
@@ -172,6 +174,8 @@ module _ {l : Log} {c : ℕ} {part : Part} {ops : List Op} (inv : Committed l c 
         tip = inv .tip;
         holds = λ p x. inv .holds p x ∙ sym (val-same l m n s (stack ops) (stack-falls ops (inv .rising)) (omega (arith, stack-low ops (inv .rising))) p);
         room = inv .room;
+        owns = λ p x. inv .owns p x ∙ sym (own-same l m n s (stack ops) (stack-falls ops (inv .rising)) (omega (arith, stack-low ops (inv .rising))) p);
+        ownRoom = inv .ownRoom;
         low = inv .low;
         mid = inv .mid;
         high = rw last-put (inv .high);
@@ -184,13 +188,14 @@ module _ {l : Log} {c : ℕ} {part : Part} {ops : List Op} (inv : Committed l c 
       → commitView t .rollback ≡ entryOf l i .rollback .commit
       → commitView t .index ≡ hd .revision .0
       → ((p : ℕ) → returns t p (says t p (getD (part .values) p 0)) ≡ getD (part .values) p 0)
+      → ((p : ℕ) → recalls t p (claims i t p (getD (part .owners) p 0)) ≡ getD (part .owners) p 0)
       → Committed (putEntry l i t) c part ops
-  begin-change i t e g d tc tr ti tk =
+  begin-change i t e g d tc tr ti tk to =
       let o = inv .entries i in
       let nb : entryOf l i .rollback .commit ≡ InProgress → ⊥ = λ x. omega (arith, asked i x) in
       put-committed i t c (inv .newest) (λ b. absurd (omega arith)) (record {
         begun = λ x. omega arith;
-        flight = λ x y. record { origin = ti; target = g; restores = λ p q. tk p };
+        flight = λ x y. record { origin = ti; target = g; restores = λ p q. tk p; owners = λ p q. to p };
         closing = λ x y. absurd (omega arith);
         failed = λ x. omega arith;
         failing = λ x y. g;
@@ -203,9 +208,9 @@ module _ {l : Log} {c : ℕ} {part : Part} {ops : List Op} (inv : Committed l c 
   -- it lands: one push more
   pub land-change : (i : ℕ) (o : Ordinal) → i ≡ suc c → i ≤ last l → entryOf l i .change .commit ≡ InProgress → o .0 ≡ suc (hd .ordinal .0)
       → Committed l i
-      (record { head = landed hd (num i) (num i) o; values = over (entryOf l i .paths) (entryOf l i .values) (entryOf l i .count) (part .values) })
+      (record { head = landed hd (num i) (num i) o; values = over (entryOf l i .paths) (entryOf l i .values) (entryOf l i .count) (part .values); owners = over (entryOf l i .paths) (inEach i) (entryOf l i .count) (part .owners) })
       (push i ∷ ops)
-  unfolding pushed popped Rising Linked stack newest val
+  unfolding pushed popped Rising Linked stack newest val own
   land-change i o e b d n =
       let t = entryOf l i in
       let f = inv .entries i .flight d e in
@@ -224,12 +229,14 @@ module _ {l : Log} {c : ℕ} {part : Part} {ops : List Op} (inv : Committed l c 
           undone = x .undone ∙ sym (complete-same (entryOf l k .rollback .commit) (hd .revision .0) (entryOf l k .index .0) i (entryOf l k .index .0) (λ y. absurd (alone-back i e (f .target) k y)));
         };
         rising = (omega (arith, inv .newest), inv .rising);
-        linked = (record { back = f .origin ∙ inv .tip; keeps = λ p q. rw (← inv .holds p q) (f .restores p q) }, inv .linked);
+        linked = (record { back = f .origin ∙ inv .tip; keeps = λ p q. rw (← inv .holds p q) (f .restores p q); owners = λ p q. rw (← inv .owns p q) (f .owners p q) }, inv .linked);
         count = omega (arith, inv .count);
         newest = omega arith;
         tip = refl;
         holds = λ p q. at-over p _ _ _ (part .values) (omega (arith, inv .room)) ∙ ap (says t p) (inv .holds p q);
         room = length-over (t .paths) (t .values) (t .count) (part .values) ∙ inv .room;
+        owns = λ p q. at-over p _ _ _ (part .owners) (omega (arith, inv .ownRoom)) ∙ ap (claims i t p) (inv .owns p q);
+        ownRoom = length-over (t .paths) (inEach i) (t .count) (part .owners) ∙ inv .ownRoom;
         low = omega arith;
         mid = omega arith;
         high = b;
@@ -248,7 +255,7 @@ module _ {l : Log} {c : ℕ} {part : Part} {ops : List Op} (inv : Committed l c 
       → Committed (putEntry l i (withChange (entryOf l i) (committed (entryOf l i .change) o))) c part ops
   finish-change i o d e =
       let x = inv .entries i in
-      put-committed i _ c (inv .newest) (λ b. record { count = refl; paths = refl; values = refl; kept = refl; index = refl }) (record {
+      put-committed i _ c (inv .newest) (λ b. record { count = refl; paths = refl; values = refl; kept = refl; owners = refl; index = refl }) (record {
         begun = not-going Complete refl;
         flight = not-going Complete refl;
         closing = not-going Complete refl;
@@ -265,7 +272,7 @@ module _ {l : Log} {c : ℕ} {part : Part} {ops : List Op} (inv : Committed l c 
       → Committed (putEntry l i (withChange (entryOf l i) (invalid (entryOf l i .change)))) c part ops
   fail-change i e d =
       let x = inv .entries i in
-      put-committed i _ c (inv .newest) (λ b. record { count = refl; paths = refl; values = refl; kept = refl; index = refl }) (record {
+      put-committed i _ c (inv .newest) (λ b. record { count = refl; paths = refl; values = refl; kept = refl; owners = refl; index = refl }) (record {
         begun = not-going Failed refl;
         flight = not-going Failed refl;
         closing = not-going Failed refl;
@@ -278,7 +285,7 @@ module _ {l : Log} {c : ℕ} {part : Part} {ops : List Op} (inv : Committed l c 
       })
 
   pub pass-change : (i : ℕ) → i ≡ suc c → i ≤ last l → entryOf l i .change .commit ≡ Failed
-      → Committed l i (record { head = passed hd (num i); values = part .values }) ops
+      → Committed l i (record { head = passed hd (num i); values = part .values; owners = part .owners }) ops
   pass-change i e b d =
       let g : hd .target .0 ≡ i = inv .entries i .failing d e in
       let other : (k : ℕ) → entryOf l k .change .commit ≡ InProgress → k ≡ i → ⊥ = λ k x y. not-going Failed refl (sym d ∙ subst (λ z. entryOf l z .change .commit ≡ InProgress) y x) in
@@ -301,6 +308,8 @@ module _ {l : Log} {c : ℕ} {part : Part} {ops : List Op} (inv : Committed l c 
         tip = inv .tip;
         holds = inv .holds;
         room = inv .room;
+        owns = inv .owns;
+        ownRoom = inv .ownRoom;
         low = omega (arith, inv .low, inv .mid);
         mid = omega arith;
         high = b;
@@ -308,7 +317,7 @@ module _ {l : Log} {c : ℕ} {part : Part} {ops : List Op} (inv : Committed l c 
       }
 
   -- ---- job 3
-  pub aim-rollback : (n : Number) → n .0 < hd .revision .0 → Rests l hd → Committed l c (record { head = aimed hd n; values = part .values }) ops
+  pub aim-rollback : (n : Number) → n .0 < hd .revision .0 → Rests l hd → Committed l c (record { head = aimed hd n; values = part .values; owners = part .owners }) ops
   aim-rollback n u r =
       record {
         entries = λ k. let x = inv .entries k in record {
@@ -329,6 +338,8 @@ module _ {l : Log} {c : ℕ} {part : Part} {ops : List Op} (inv : Committed l c 
         tip = inv .tip;
         holds = inv .holds;
         room = inv .room;
+        owns = inv .owns;
+        ownRoom = inv .ownRoom;
         low = inv .low;
         mid = inv .mid;
         high = inv .high;
@@ -339,9 +350,9 @@ module _ {l : Log} {c : ℕ} {part : Part} {ops : List Op} (inv : Committed l c 
       → Committed (putEntry l i (withRollback (entryOf l i) (begun (entryOf l i .rollback)))) c part ops
   begin-rollback i p e g d =
       let x = inv .entries i in
-      put-committed i _ c (inv .newest) (λ b. record { count = refl; paths = refl; values = refl; kept = refl; index = refl }) (record {
+      put-committed i _ c (inv .newest) (λ b. record { count = refl; paths = refl; values = refl; kept = refl; owners = refl; index = refl }) (record {
         begun = x .begun;
-        flight = λ y z. let f = x .flight y z in record { origin = f .origin; target = f .target; restores = f .restores };
+        flight = λ y z. let f = x .flight y z in record { origin = f .origin; target = f .target; restores = f .restores; owners = f .owners };
         closing = x .closing;
         failed = x .failed;
         failing = x .failing;
@@ -355,9 +366,9 @@ module _ {l : Log} {c : ℕ} {part : Part} {ops : List Op} (inv : Committed l c 
   -- the rollback of i lands: one pop more
   pub land-rollback : (i : ℕ) (o : Ordinal) → 1 ≤ i → hd .revision .0 ≡ i → entryOf l i .rollback .commit ≡ InProgress → o .0 ≡ suc (hd .ordinal .0)
       → Committed l c
-      (record { head = landed hd (num i) (entryOf l i .index) o; values = over (entryOf l i .paths) (entryOf l i .kept) (entryOf l i .count) (part .values) })
+      (record { head = landed hd (num i) (entryOf l i .index) o; values = over (entryOf l i .paths) (entryOf l i .kept) (entryOf l i .count) (part .values); owners = over (entryOf l i .paths) (entryOf l i .owners) (entryOf l i .count) (part .owners) })
       (pop i ∷ ops)
-  unfolding pushed popped Rising Linked stack newest LinkedStack val
+  unfolding pushed popped Rising Linked stack newest LinkedStack val own
   land-rollback i o p e d n =
       let t = entryOf l i in
       let w : stack ops ≡ i ∷ tail (stack ops) = on-top (stack ops) i (sym (inv .tip) ∙ e) p in
@@ -383,6 +394,8 @@ module _ {l : Log} {c : ℕ} {part : Part} {ops : List Op} (inv : Committed l c 
         tip = s .0 .back;
         holds = λ q b. at-over q _ _ _ (part .values) (omega (arith, inv .room)) ∙ ap (returns t q) (inv .holds q b ∙ ap (λ ks. val l ks q) w) ∙ s .0 .keeps q b;
         room = length-over (t .paths) (t .kept) (t .count) (part .values) ∙ inv .room;
+        owns = λ q b. at-over q _ _ _ (part .owners) (omega (arith, inv .ownRoom)) ∙ ap (recalls t q) (inv .owns q b ∙ ap (λ ks. own l ks q) w) ∙ s .0 .owners q b;
+        ownRoom = length-over (t .paths) (t .owners) (t .count) (part .owners) ∙ inv .ownRoom;
         low = omega (arith, low);
         mid = asked i d;
         high = inv .high;
@@ -410,9 +423,9 @@ module _ {l : Log} {c : ℕ} {part : Part} {ops : List Op} (inv : Committed l c 
       → Committed (putEntry l i (withRollback (entryOf l i) (committed (entryOf l i .rollback) o))) c part ops
   finish-rollback i o d e =
       let x = inv .entries i in
-      put-committed i _ c (inv .newest) (λ b. record { count = refl; paths = refl; values = refl; kept = refl; index = refl }) (record {
+      put-committed i _ c (inv .newest) (λ b. record { count = refl; paths = refl; values = refl; kept = refl; owners = refl; index = refl }) (record {
         begun = x .begun;
-        flight = λ y z. let f = x .flight y z in record { origin = f .origin; target = f .target; restores = f .restores };
+        flight = λ y z. let f = x .flight y z in record { origin = f .origin; target = f .target; restores = f .restores; owners = f .owners };
         closing = x .closing;
         failed = x .failed;
         failing = x .failing;
@@ -426,9 +439,9 @@ module _ {l : Log} {c : ℕ} {part : Part} {ops : List Op} (inv : Committed l c 
   pub ask-committed : (i : ℕ) → entryOf l i .rollback .commit ≡ None → Committed (putEntry l i (rolledBack (entryOf l i))) c part ops
   ask-committed i d =
       let x = inv .entries i in
-      put-committed i _ c (inv .newest) (λ b. record { count = refl; paths = refl; values = refl; kept = refl; index = refl }) (record {
+      put-committed i _ c (inv .newest) (λ b. record { count = refl; paths = refl; values = refl; kept = refl; owners = refl; index = refl }) (record {
         begun = x .begun;
-        flight = λ y z. let f = x .flight y z in record { origin = f .origin; target = f .target; restores = f .restores };
+        flight = λ y z. let f = x .flight y z in record { origin = f .origin; target = f .target; restores = f .restores; owners = f .owners };
         closing = x .closing;
         failed = x .failed;
         failing = x .failing;
@@ -445,7 +458,7 @@ module _ {l : Log} {c : ℕ} {part : Part} {ops : List Op} (inv : Committed l c 
       let b : newest ops ≤ last l = omega (arith, inv .newest, inv .high) in
       let s : (k : ℕ) → k ≤ last l → Same (entryOf l k) (entryOf m k) = add-all (λ k u. k ≤ last l → Same (entryOf l k) u) l t (λ k x. same (entryOf l k)) (λ x. absurd (omega arith)) in
       record {
-        entries = add-all (λ k u. CommitEntry hd c (part .values) ops k (commitView u)) l t (inv .entries) (record {
+        entries = add-all (λ k u. CommitEntry hd c (part .values) (part .owners) ops k (commitView u)) l t (inv .entries) (record {
           begun = λ y. not-going Pending refl (sym d ∙ y);
           flight = λ y. not-going Pending refl (sym d ∙ y);
           closing = λ y. not-going Pending refl (sym d ∙ y);
@@ -463,6 +476,8 @@ module _ {l : Log} {c : ℕ} {part : Part} {ops : List Op} (inv : Committed l c 
         tip = inv .tip;
         holds = λ p x. inv .holds p x ∙ sym (val-same l m (last l) s (stack ops) (stack-falls ops (inv .rising)) (omega (arith, stack-low ops (inv .rising))) p);
         room = inv .room;
+        owns = λ p x. inv .owns p x ∙ sym (own-same l m (last l) s (stack ops) (stack-falls ops (inv .rising)) (omega (arith, stack-low ops (inv .rising))) p);
+        ownRoom = inv .ownRoom;
         low = inv .low;
         mid = inv .mid;
         high = rw last-add (omega (arith, inv .high));

@@ -17,7 +17,7 @@ use Rattle.machine.specs.State.{State, entryOf, last, lineOpenFor}
 use Rattle.machine.specs.Settled.{sideSettled, entrySettled, settled}
 use Rattle.machine.specs.WellFormed.{allEntries}
 use Rattle.machine.specs.Rest.{restOf}
-use Rattle.machine.specs.Calls.{present, planOf}
+use Rattle.machine.specs.Calls.{presentOf, planOf}
 use Rattle.machine.specs.Calls as calls
 use Rattle.machine.proofs.Cases.{and-right}
 use Rattle.machine.proofs.Entries.{true-entries, and-both}
@@ -67,8 +67,8 @@ module _ {s : State} {ops acts : List Op} {bad : List ℕ} (inv : Invariant s op
     unfolding planOf
     idle-4 = idle 4 k (omega arith) (omega arith) p q
 
-    w1 : Waits1 (en k) (s .committed .head) k (s .change) (restOf s) (present (s .committed .values) (en k)) false idle-1
-    w1 = waits1 (en k) (s .committed .head) k (s .change) (restOf s) (present (s .committed .values) (en k)) false idle-1
+    w1 : Waits1 (en k) (s .committed .head) k (s .change) (restOf s) (presentOf s (en k)) false idle-1
+    w1 = waits1 (en k) (s .committed .head) k (s .change) (restOf s) (presentOf s (en k)) false idle-1
 
     w3 : Waits3 (en k) (s .committed .head) k (restOf s) idle-3
     w3 = waits3 (en k) (s .committed .head) k (restOf s) idle-3
@@ -105,7 +105,7 @@ module _ {s : State} {ops acts : List Op} {bad : List ℕ} (inv : Invariant s op
       by-mode (rests e) = e
       by-mode (flies e b) = absurd (go (en (suc c) .change .commit) refl)
         where
-          w : Waits1 (en (suc c)) (s .committed .head) (suc c) (s .change) (restOf s) (present (s .committed .values) (en (suc c))) false (idle-1 (suc c) (omega arith) b)
+          w : Waits1 (en (suc c)) (s .committed .head) (suc c) (s .change) (restOf s) (presentOf s (en (suc c))) false (idle-1 (suc c) (omega arith) b)
           w = w1 (suc c) (omega arith) b
 
           go : (x : Status) → en (suc c) .change .commit ≡ x → ⊥

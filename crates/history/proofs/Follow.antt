@@ -28,7 +28,7 @@ use Rattle.machine.specs.Settled.{settled}
 use Rattle.machine.specs.Rest.{restOf}
 use Rattle.machine.specs.LiveList.{live}
 use Rattle.machine.specs.Folding.{stays, finished, mayFold}
-use Rattle.machine.specs.Calls.{Pair, Call, Outcome, append, rollback, start, stop, connect, disconnect, master, sync, work, foldTo, refused, accepted, unless, answers, validChange, appended, present, planOf, commits, planned, workOk, copyRow, decide}
+use Rattle.machine.specs.Calls.{Pair, Call, Outcome, append, rollback, start, stop, connect, disconnect, master, sync, work, foldTo, refused, accepted, unless, answers, validChange, appended, presentOf, planOf, commits, planned, workOk, copyRow, decide}
 use Rattle.machine.specs.Step.{outcome, step}
 use Rattle.machine.specs.Notes.{Note, nothing, pushNote, syncNote, noteOf, note}
 use Rattle.machine.proofs.Next.{putting, heading, targeting, performedBy, performed, rows-performed, baseOver, folding, row-folding}
@@ -107,7 +107,7 @@ module _ (w : State) (b : ℕ) (vs : List ℕ) (f : Front (w .log) b vs) where
     where
       plan : Transaction → Bool → Bool → Plan
       plan t rest still =
-          cond (eqb j 1) (commitChange t (w .committed .head) (w .change) rest (num i) ok (present (w .committed .values) t))
+          cond (eqb j 1) (commitChange t (w .committed .head) (w .change) rest (num i) ok (presentOf w t))
           (cond (eqb j 2) (applyChange t (w .applied .head) still (num i) (lineOpenFor (w .net) n) ok)
           (cond (eqb j 3) (commitRollback t (w .committed .head) rest (num i)) (applyRollback t (w .applied .head) still (num i) (lineOpenFor (w .net) n) ok)))
 

@@ -22,11 +22,11 @@ use Rattle.rules.specs.Sides.{begun, committed, invalid, applyAt}
 use Rattle.rules.specs.CommitChange.{beginning}
 use Rattle.rules.specs.ApplyRollback.{wasTried, isAborted}
 use Rattle.rules.specs.Outside.{mayRollBack, rolledBack}
-use Rattle.machine.specs.State.{State, Part, Net, Log, blank, entryOf, putEntry, grown, last}
+use Rattle.machine.specs.State.{State, Part, Ledger, inEach, Net, Log, blank, entryOf, putEntry, grown, last}
 use Rattle.machine.specs.Stores.{withLog, withNet}
 use Rattle.machine.specs.WellFormed.{allEntries}
 use Rattle.machine.specs.Settled.{sideSettled, entrySettled, settled}
-use Rattle.machine.specs.Calls.{Pair, appended, present}
+use Rattle.machine.specs.Calls.{Pair, appended, presentOf}
 use Rattle.machine.specs.Rest.{restOf}
 use Rattle.machine.specs.Laid.{over}
 use Rattle.machine.proofs.Next.{putting}
@@ -158,14 +158,14 @@ module _ {s : State} {ops acts : List Op} {bad : List ℕ} (inv : Invariant s op
       omega (arith, inv .committed .newest, popped-low ops (inv .committed .rising) i (inv .committed .entries i .undone ∙ ap (λ y. complete y (s .committed .head .revision .0) (en i .index .0)) c))
 
   pub begin-change : (i : ℕ) → en i .change .commit ≡ Pending → i ≡ suc (s .change .0) → s .committed .head .target .0 ≡ i
-      → Invariant (putting s i (beginning (en i) (s .committed .head .revision) (present (s .committed .values) (en i)))) ops acts bad
+      → Invariant (putting s i (beginning (en i) (s .committed .head .revision) (presentOf s (en i)))) ops acts bad
   begin-change i e n g =
       let o = inv .sides i in
       let x = inv .applied .entries i in
       puts i _
       (record { change = paired (en i .change .commit) Pending _ _ e (o .change); rollback = o .rollback; unasked = o .unasked; orderly = sym (ap (λ c. orderly c (en i .rollback .commit) (en i .rollback .apply)) e) ∙ o .orderly })
       (inv .numbered i)
-      (commits.begin-change (inv .committed) i _ n g e refl refl refl (λ p. present-restores (s .committed .values) (en i) (en i .values) p))
+      (commits.begin-change (inv .committed) i _ n g e refl refl refl (λ p. present-restores (s .committed .values) (en i) (en i .values) p) (λ p. present-restores (s .committed .owners) (en i) (inEach i) p))
       (on-applied i _ (s .change .0) (inv .committed .newest) (λ b. absurd (omega arith)) (λ y. refl) (λ y. (refl, refl)) (λ y. (refl, refl))
       (record {
         change = x .change;
@@ -185,7 +185,7 @@ module _ {s : State} {ops acts : List Op} {bad : List ℕ} (inv : Invariant s op
       (record { change = opAt-some ops _ (push i) refl (f .last); rollback = o .rollback; unasked = o .unasked; orderly = orderly-more (en i .change .commit) (en i .rollback .commit) (en i .rollback .apply) (o .orderly) })
       (record { change = λ y z. rw (← z) (f .last); rollback = inv .numbered i .rollback })
       (commits.finish-change (inv .committed) i (s .committed .head .ordinal) e n)
-      (on-applied i _ (newest ops) (omega arith) (λ b. record { count = refl; paths = refl; values = refl; kept = refl; index = refl }) (λ y. refl)
+      (on-applied i _ (newest ops) (omega arith) (λ b. record { count = refl; paths = refl; values = refl; kept = refl; owners = refl; index = refl }) (λ y. refl)
       (λ y. crash (sym (ap changeTouched (p .0)) ∙ y)) (λ y. (refl, refl))
       (record {
         change = subst (λ c. ChangeEntry at (s .applied .head .target .0) acts i c (s .committed .head .ordinal .0)) (sym (p .0)) (idle-change i Pending Pending _ (p .0) refl refl refl refl refl refl);
@@ -204,7 +204,7 @@ module _ {s : State} {ops acts : List Op} {bad : List ℕ} (inv : Invariant s op
       (record { change = (refl, p .1); rollback = o .rollback; unasked = o .unasked; orderly = sym (ap (λ c. orderly c (en i .rollback .commit) (en i .rollback .apply)) e) ∙ o .orderly })
       (inv .numbered i)
       (commits.fail-change (inv .committed) i n e)
-      (on-applied i _ (newest ops) (omega arith) (λ b. record { count = refl; paths = refl; values = refl; kept = refl; index = refl })
+      (on-applied i _ (newest ops) (omega arith) (λ b. record { count = refl; paths = refl; values = refl; kept = refl; owners = refl; index = refl })
       (λ y. crash (sym (ap changeTouched (p .0)) ∙ y)) (λ y. crash y) (λ y. (refl, refl))
       (record {
         change = idle-change i Pending Canceled _ (p .0) refl refl refl refl refl refl;
@@ -214,19 +214,19 @@ module _ {s : State} {ops acts : List Op} {bad : List ℕ} (inv : Invariant s op
       }))
 
   -- the head of Committed moves, no commit completes
-  heads : (c : ℕ) (part : Part) → Committed lg c part ops → (n : Number) → n .0 ≡ c → Invariant (record { log = lg; change = n; committed = part; applied = s .applied; net = s .net }) ops acts bad
+  heads : (c : ℕ) (part : Ledger) → Committed lg c part ops → (n : Number) → n .0 ≡ c → Invariant (record { log = lg; change = n; committed = part; applied = s .applied; net = s .net }) ops acts bad
   heads c part k n e = record { sides = inv .sides; numbered = inv .numbered; committed = rw e k; applied = inv .applied }
 
   pub aim-change : (i : ℕ) → i ≡ suc (s .change .0) → restOf s ≡ true
-      → Invariant (record { log = lg; change = s .change; committed = record { head = aimed (s .committed .head) (num i); values = s .committed .values }; applied = s .applied; net = s .net }) ops acts bad
+      → Invariant (record { log = lg; change = s .change; committed = record { head = aimed (s .committed .head) (num i); values = s .committed .values; owners = s .committed .owners }; applied = s .applied; net = s .net }) ops acts bad
   aim-change i n r = heads (s .change .0) _ (commits.aim-change (inv .committed) i n r) (s .change) refl
 
   pub pass-change : (i : ℕ) → i ≡ suc (s .change .0) → i ≤ last lg → en i .change .commit ≡ Failed
-      → Invariant (record { log = lg; change = num i; committed = record { head = passed (s .committed .head) (num i); values = s .committed .values }; applied = s .applied; net = s .net }) ops acts bad
+      → Invariant (record { log = lg; change = num i; committed = record { head = passed (s .committed .head) (num i); values = s .committed .values; owners = s .committed .owners }; applied = s .applied; net = s .net }) ops acts bad
   pass-change i n b e = heads i _ (commits.pass-change (inv .committed) i n b e) (num i) refl
 
   -- a commit completes
-  more : (x : Op) → ((k : ℕ) → x ≡ push k → newest ops < k) → (c : Number) (part : Part) → Committed lg (c .0) part (x ∷ ops)
+  more : (x : Op) → ((k : ℕ) → x ≡ push k → newest ops < k) → (c : Number) (part : Ledger) → Committed lg (c .0) part (x ∷ ops)
       → Invariant (record { log = lg; change = c; committed = part; applied = s .applied; net = s .net }) (x ∷ ops) acts bad
   more x b c part k =
       record {
@@ -244,7 +244,7 @@ module _ {s : State} {ops acts : List Op} {bad : List ℕ} (inv : Invariant s op
       (record {
         log = lg;
         change = num i;
-        committed = record { head = landed (s .committed .head) (num i) (num i) o; values = over (en i .paths) (en i .values) (en i .count) (s .committed .values) };
+        committed = record { head = landed (s .committed .head) (num i) (num i) o; values = over (en i .paths) (en i .values) (en i .count) (s .committed .values); owners = over (en i .paths) (inEach i) (en i .count) (s .committed .owners) };
         applied = s .applied;
         net = s .net;
       })
@@ -254,7 +254,7 @@ module _ {s : State} {ops acts : List Op} {bad : List ℕ} (inv : Invariant s op
 
   -- ---- job 3
   pub aim-rollback : (i : ℕ) → 1 ≤ i → s .committed .head .revision .0 ≡ i → restOf s ≡ true
-      → Invariant (record { log = lg; change = s .change; committed = record { head = aimed (s .committed .head) (en i .index); values = s .committed .values }; applied = s .applied; net = s .net }) ops acts bad
+      → Invariant (record { log = lg; change = s .change; committed = record { head = aimed (s .committed .head) (en i .index); values = s .committed .values; owners = s .committed .owners }; applied = s .applied; net = s .net }) ops acts bad
   aim-rollback i p n r =
       heads (s .change .0) _ (commits.aim-rollback (inv .committed) (en i .index) (omega (arith, commits.tip-back (inv .committed) i (sym n) p)) r) (s .change) refl
 
@@ -268,7 +268,7 @@ module _ {s : State} {ops acts : List Op} {bad : List ℕ} (inv : Invariant s op
       (record { change = o .change; rollback = paired (en i .rollback .commit) Pending _ _ e (o .rollback); unasked = λ z. let w : Pending ≡ None = y z in cc; orderly = sym (ap (λ r. orderly (en i .change .commit) r (en i .rollback .apply)) e) ∙ o .orderly })
       (inv .numbered i)
       (commits.begin-rollback (inv .committed) i p n g e)
-      (on-applied i _ (newest ops) (omega arith) (λ b. record { count = refl; paths = refl; values = refl; kept = refl; index = refl }) (λ y. refl) (λ y. (refl, refl)) (λ y. (refl, refl))
+      (on-applied i _ (newest ops) (omega arith) (λ b. record { count = refl; paths = refl; values = refl; kept = refl; owners = refl; index = refl }) (λ y. refl) (λ y. (refl, refl)) (λ y. (refl, refl))
       (record { change = x .change; rollback = x .rollback; tried = x .tried; spared = x .spared }))
 
   pub land-rollback : (i : ℕ) (o : Ordinal) → 1 ≤ i → en i .rollback .commit ≡ InProgress → s .committed .head .revision .0 ≡ i → o .0 ≡ suc (s .committed .head .ordinal .0)
@@ -276,7 +276,7 @@ module _ {s : State} {ops acts : List Op} {bad : List ℕ} (inv : Invariant s op
       (record {
         log = lg;
         change = s .change;
-        committed = record { head = landed (s .committed .head) (num i) (en i .index) o; values = over (en i .paths) (en i .kept) (en i .count) (s .committed .values) };
+        committed = record { head = landed (s .committed .head) (num i) (en i .index) o; values = over (en i .paths) (en i .kept) (en i .count) (s .committed .values); owners = over (en i .paths) (en i .owners) (en i .count) (s .committed .owners) };
         applied = s .applied;
         net = s .net;
       })
@@ -296,7 +296,7 @@ module _ {s : State} {ops acts : List Op} {bad : List ℕ} (inv : Invariant s op
       (record { change = o .change; rollback = opAt-some ops _ (pop i) refl (f .last); unasked = λ z. not-going None refl (sym (y z)); orderly = sym (ap (λ r. orderly (en i .change .commit) r (en i .rollback .apply)) e) ∙ o .orderly })
       (record { change = inv .numbered i .change; rollback = λ y z. rw (← z) (f .last) })
       (commits.finish-rollback (inv .committed) i (s .committed .head .ordinal) e n)
-      (on-applied i _ (newest ops) (omega arith) (λ b. record { count = refl; paths = refl; values = refl; kept = refl; index = refl }) (λ y. refl) (λ y. (refl, refl))
+      (on-applied i _ (newest ops) (omega arith) (λ b. record { count = refl; paths = refl; values = refl; kept = refl; owners = refl; index = refl }) (λ y. refl) (λ y. (refl, refl))
       (λ y. crash (sym (ap rollbackTouched (p .0)) ∙ y))
       (record {
         change = x .change;
@@ -317,7 +317,7 @@ module _ {s : State} {ops acts : List Op} {bad : List ℕ} (inv : Invariant s op
       (record { change = o .change; rollback = (refl, p .1); unasked = λ z. absurd (omega arith); orderly = rw (and-right (eqb (en i .phase) 1) _ e) refl })
       (inv .numbered i)
       (commits.ask-committed (inv .committed) i u)
-      (on-applied i _ (newest ops) (omega arith) (λ b. record { count = refl; paths = refl; values = refl; kept = refl; index = refl }) (λ y. refl) (λ y. (refl, refl)) (λ y. crash y)
+      (on-applied i _ (newest ops) (omega arith) (λ b. record { count = refl; paths = refl; values = refl; kept = refl; owners = refl; index = refl }) (λ y. refl) (λ y. (refl, refl)) (λ y. crash y)
       (record {
         change = x .change;
         rollback = idle-rollback i None Pending _ _ (p .0) refl refl refl refl refl;
@@ -356,7 +356,7 @@ module _ {s : State} {ops acts : List Op} {bad : List ℕ} (inv : Invariant s op
         orderly = o .orderly;
       })
       (inv .numbered i)
-      (unseen i _ refl (record { count = refl; paths = refl; values = refl; kept = refl; index = refl })) k
+      (unseen i _ refl (record { count = refl; paths = refl; values = refl; kept = refl; owners = refl; index = refl })) k
 
   set-rollback : (i : ℕ) (x : Status) → isEnded x ≡ false → en i .rollback .commit ≡ Complete
       → Applied (putEntry lg i (withRollback (en i) (applyAt (en i .rollback) x))) (s .applied) ops acts bad
@@ -371,7 +371,7 @@ module _ {s : State} {ops acts : List Op} {bad : List ℕ} (inv : Invariant s op
         orderly = orderly-apply (en i .change .commit) (en i .rollback .commit) (en i .rollback .apply) x f (o .orderly);
       })
       (inv .numbered i)
-      (unseen i _ refl (record { count = refl; paths = refl; values = refl; kept = refl; index = refl })) k
+      (unseen i _ refl (record { count = refl; paths = refl; values = refl; kept = refl; owners = refl; index = refl })) k
 
   -- the head of Applied moves, whatever is on the nodes' side
   lands : (part : Part) (w : Net) (does : List Op) (ills : List ℕ) → Applied lg part ops does ills

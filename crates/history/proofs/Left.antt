@@ -13,7 +13,7 @@ use Rattle.rules.specs.declared.Plan.{Plan}
 use Rattle.machine.specs.State.{Log, State, entryOf, putEntry, last, lineOpenFor}
 use Rattle.machine.specs.Settled.{settled}
 use Rattle.machine.specs.Rest.{restOf}
-use Rattle.machine.specs.Calls.{present, planOf, commits, sideIf}
+use Rattle.machine.specs.Calls.{presentOf, planOf, commits, sideIf}
 use Rattle.machine.specs.Calls as calls
 use Rattle.machine.proofs.Next.{performed}
 use Rattle.machine.proofs.Cases.{commit-change, commit-rollback, apply-change, apply-rollback}
@@ -142,7 +142,7 @@ module _ {s : State} {ops acts : List Op} {bad : List ℕ} (inv : Invariant s op
 
   falls-1 : (y : Bool) → Falls true (calls.job1 s i y)
   falls-1 y =
-      commit-change t (s .committed .head) i (Falls true) (s .change) (restOf s) (present (s .committed .values) t) y
+      commit-change t (s .committed .head) i (Falls true) (s .change) (restOf s) (presentOf s t) y
       (record {
         wait = λ z. absurd (omega arith);
         full = λ e n b z. absurd (omega arith);

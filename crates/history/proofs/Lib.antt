@@ -24,3 +24,4 @@ pub mod Left
 pub mod Ends
 pub mod Nights
 pub mod Imports
+pub mod Owned

@@ -31,7 +31,7 @@ use Rattle.rules.specs.ApplyChange as job2
 use Rattle.rules.specs.ApplyRollback as job4
 use Rattle.kinds.specs.Statuses.{isFailed, isPending}
 use Rattle.machine.specs.State.{State, Log, blank, entryOf, putEntry, grown, last}
-use Rattle.machine.specs.Calls.{Call, Pair, appended, present}
+use Rattle.machine.specs.Calls.{Call, Pair, appended, presentOf}
 use Rattle.machine.specs.Rest.{restOf}
 use Rattle.machine.specs.Settled.{settled}
 use Rattle.machine.specs.Step.{run}
@@ -84,7 +84,7 @@ module _ (s : State) (es : List Event) (bad : List ℕ) (inv : Invariant s (opsO
   put-told e i t p q n w m = rw w (put-marks at tg (first ops at) es e (s .log) i t p q n marks m)
 
   -- ---- entries of jobs 1 and 3
-  pub begin1 : (i : ℕ) → en i .change .commit ≡ Pending → Marked (putEntry (s .log) i (beginning (en i) (s .committed .head .revision) (present (s .committed .values) (en i)))) (s .applied .head) es
+  pub begin1 : (i : ℕ) → en i .change .commit ≡ Pending → Marked (putEntry (s .log) i (beginning (en i) (s .committed .head .revision) (presentOf s (en i)))) (s .applied .head) es
   begin1 i e = put i _ (alike at tg (first ops at) es i (en i) _ (sym (ap isFailed e)) refl refl (λ x y. refl) (marks i))
 
   pub finish1 : (i : ℕ) (o : Ordinal) → en i .change .commit ≡ InProgress → Marked (putEntry (s .log) i (withChange (en i) (committed (en i .change) o))) (s .applied .head) es
@@ -446,7 +446,7 @@ module _ (s : State) (es : List Event) (bad : List ℕ) (inv : Invariant s (opsO
 
     -- ---- jobs 1 and 3
     aims1 : (cut second : Bool) → this .change .commit ≡ Pending → i ≡ suc (s .change .0) → restOf s ≡ true
-        → Does s Keeps true i cut second (job1.plans change.Aim this (s .committed .head) (num i) (ord 0) (present (s .committed .values) this))
+        → Does s Keeps true i cut second (job1.plans change.Aim this (s .committed .head) (num i) (ord 0) (presentOf s this))
     unfolding opsOf
     aims1 true second e n r = rests (event 1 1 (num i) InProgress) refl (λ k. refl) refl
     aims1 false second e n r =
@@ -458,7 +458,7 @@ module _ (s : State) (es : List Event) (bad : List ℕ) (inv : Invariant s (opsO
         carry s es bad inv marks e d f (ap (λ y. first y (s .applied .head .ordinal .0)) w ∙ first-more (opsOf Complete 1 es) x (s .applied .head .ordinal .0) (inv .applied .reach))
 
     lands1 : (cut second : Bool) → this .change .commit ≡ InProgress → i ≡ suc (s .change .0) → (o : Ordinal) → o .0 ≡ suc (s .committed .head .ordinal .0)
-        → Does s Keeps true i cut second (job1.plans change.Land this (s .committed .head) (num i) o (present (s .committed .values) this))
+        → Does s Keeps true i cut second (job1.plans change.Land this (s .committed .head) (num i) o (presentOf s this))
     unfolding opsOf
     lands1 true second e n o x = completes (event 1 1 (num i) Complete) (push i) refl (λ k. refl) refl
     lands1 false second e n o x =
@@ -466,7 +466,7 @@ module _ (s : State) (es : List Event) (bad : List ℕ) (inv : Invariant s (opsO
         (completes (event 1 1 (num i) Complete) (push i) refl (λ k. refl) refl) i o e
 
     rejects1 : (cut second : Bool) → this .change .commit ≡ InProgress
-        → Does s Keeps true i cut second (job1.plans change.Reject this (s .committed .head) (num i) (ord 0) (present (s .committed .values) this))
+        → Does s Keeps true i cut second (job1.plans change.Reject this (s .committed .head) (num i) (ord 0) (presentOf s this))
     rejects1 true second e = reject1 s es bad inv marks i p q e
     rejects1 false second e = reject1 s es bad inv marks i p q e
 

@@ -16,7 +16,7 @@ use Rattle.kinds.specs.Statuses.{done, codeOf}
 use Rattle.machine.specs.State.{State, blank, placeOf, entryOf, last}
 use Rattle.machine.specs.WellFormed.{allEntries, wellFormed}
 use Rattle.machine.specs.Rest.{restOf}
-use Rattle.machine.specs.Calls.{Call, planOf, present}
+use Rattle.machine.specs.Calls.{Call, planOf, presentOf}
 use Rattle.machine.specs.Settled.{entrySettled, settled}
 use Rattle.machine.specs.Step.{run}
 use Rattle.machine.proofs.Kept.{formed, reached-well-formed}
@@ -180,8 +180,8 @@ module _ {s : State} {ops acts : List Op} {bad : List ℕ} (inv : Invariant s op
   not-itself-1 : Says tx → (y : Bool) → calls.job1 s i y .answer ≡ 11 → holds s 1 i 1 ≡ false → Flies s i → ⊥
   not-itself-1 ph y e h = by
     where
-      w : Waits1 tx (s .committed .head) i (s .change) (restOf s) (present (s .committed .values) tx) y e
-      w = waits1 tx (s .committed .head) i (s .change) (restOf s) (present (s .committed .values) tx) y e
+      w : Waits1 tx (s .committed .head) i (s .change) (restOf s) (presentOf s tx) y e
+      w = waits1 tx (s .committed .head) i (s .change) (restOf s) (presentOf s tx) y e
 
       -- a change with a rollback is committed, so finished
       finished : (tx .rollback .commit ≡ None → ⊥) → ⊥

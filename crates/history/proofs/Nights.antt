@@ -20,7 +20,7 @@ use Rattle.machine.specs.WellFormed.{wellFormed}
 use Rattle.machine.specs.Settled.{settled}
 use Rattle.machine.specs.LiveList as list
 use Rattle.machine.specs.Rest.{restOf}
-use Rattle.machine.specs.Calls.{Call, work, unless, planOf, planned, present, commits, workOk, decide}
+use Rattle.machine.specs.Calls.{Call, work, unless, planOf, planned, presentOf, commits, workOk, decide}
 use Rattle.machine.specs.Step.{outcome, step, Past, run, stateFrom, eventsFrom}
 use Rattle.machine.specs.Notes.{notes}
 use Rattle.machine.proofs.Next.{performed, rows-performed}
@@ -357,7 +357,7 @@ module _ (s : State) (n : ℕ) (line : lineOpenFor (s .net) n ≡ true) where
   unfolding planOf
   else-11 zero i y t p q = absurd (omega arith)
   else-11 (suc zero) i y t p q =
-      commit-change (entryOf (s .log) i) (s .committed .head) i Else (s .change) (restOf s) (present (s .committed .values) (entryOf (s .log) i)) y
+      commit-change (entryOf (s .log) i) (s .committed .head) i Else (s .change) (restOf s) (presentOf s (entryOf (s .log) i)) y
       (record {
         wait = λ x y. refl;
         full = λ a b c x y. absurd (y refl);

@@ -15,7 +15,7 @@ use Rattle.rules.specs.declared.Plan.{Plan}
 use Rattle.machine.specs.State.{State, entryOf, last, inLog, isKept, isMaster, lineOpenFor}
 use Rattle.machine.specs.WellFormed.{wellFormed}
 use Rattle.machine.specs.Settled.{settled}
-use Rattle.machine.specs.Calls.{Call, Outcome, work, unless, job1, job2, job3, job4, planOf, present, workOk, decide}
+use Rattle.machine.specs.Calls.{Call, Outcome, work, unless, job1, job2, job3, job4, planOf, presentOf, workOk, decide}
 use Rattle.machine.specs.Rest.{restOf}
 use Rattle.machine.specs.Step.{outcome, step, run}
 use Rattle.machine.proofs.Cases.{and-left, and-right, commit-change, commit-rollback, apply-change, apply-rollback}
@@ -81,7 +81,7 @@ module _ (s : State) (es : List Event) (r : Reached s es) where
 
     not-nine : (n : ℕ) (a b d ok : Bool) → Not9 (cond a (job1 s i ok) (cond b (job2 s n i ok) (cond d (job3 s i) (job4 s n i ok))))
     not-nine n true b d ok =
-        commit-change (entryOf (s .log) i) (s .committed .head) i Not9 (s .change) (restOf s) (present (s .committed .values) (entryOf (s .log) i)) ok
+        commit-change (entryOf (s .log) i) (s .committed .head) i Not9 (s .change) (restOf s) (presentOf s (entryOf (s .log) i)) ok
         (record {
           wait = λ e. omega arith;
           full = λ x y z e. room-change y z;

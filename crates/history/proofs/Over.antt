@@ -18,7 +18,7 @@ use Rattle.machine.specs.WellFormed.{wellFormed}
 use Rattle.machine.specs.Settled.{settled}
 use Rattle.machine.specs.Rest.{restOf}
 use Rattle.machine.specs.Folding.{finished, mayFold}
-use Rattle.machine.specs.Calls.{Call, Outcome, foldTo, unless, job1, job2, job3, job4, planOf, present, decide}
+use Rattle.machine.specs.Calls.{Call, Outcome, foldTo, unless, job1, job2, job3, job4, planOf, presentOf, decide}
 use Rattle.machine.specs.Step.{outcome, step, run}
 use Rattle.machine.proofs.Cases.{and-left, and-right, commit-change, commit-rollback, apply-change, apply-rollback}
 use Rattle.history.specs.Ops.{Op, crash}
@@ -74,7 +74,7 @@ module _ (w : State) {ops acts : List Op} {bad : List ℕ} (inv : Invariant w op
   none-goes : (net : Net) (n : ℕ) (a b d ok : Bool)
       → Refused (cond a (job1 (withNet w net) i ok) (cond b (job2 (withNet w net) n i ok) (cond d (job3 (withNet w net) i) (job4 (withNet w net) n i ok))))
   none-goes net n true b d ok =
-      commit-change t (w .committed .head) i Refused (w .change) (restOf w) (present (w .committed .values) t) ok
+      commit-change t (w .committed .head) i Refused (w .change) (restOf w) (presentOf w t) ok
       (record {
         wait = ((λ z. omega arith), (λ z. omega arith));
         full = λ x y z. not-going (t .change .commit) InProgress commit-idle refl x;

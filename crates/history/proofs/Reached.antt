@@ -27,13 +27,14 @@ use Rattle.rules.specs.CommitChange as job1
 use Rattle.rules.specs.CommitRollback as job3
 use Rattle.rules.specs.ApplyChange as job2
 use Rattle.rules.specs.ApplyRollback as job4
-use Rattle.machine.specs.State.{Log, State, absent, fresh, freshPart, unfolded, entryOf, putEntry, last, isKept, lineOpenFor}
+use Rattle.rules.specs.declared.Present.{Present}
+use Rattle.machine.specs.State.{Log, State, absent, fresh, freshPart, freshLedger, unfolded, entryOf, putEntry, last, isKept, lineOpenFor}
 use Rattle.machine.specs.Stores.{Store, fold, withLog, afters}
 use Rattle.machine.specs.WellFormed.{wellFormed}
 use Rattle.machine.specs.LiveList as list
 use Rattle.machine.specs.Folding.{stays, mayFold, baseRow}
 use Rattle.machine.specs.Settled.{settled}
-use Rattle.machine.specs.Calls.{Pair, Call, append, rollback, start, stop, connect, disconnect, master, sync, work, foldTo, accepted, unless, present, decide}
+use Rattle.machine.specs.Calls.{Pair, Call, append, rollback, start, stop, connect, disconnect, master, sync, work, foldTo, accepted, unless, presentOf, decide}
 use Rattle.machine.specs.Rest.{restOf}
 use Rattle.machine.specs.Step.{outcome, step, run}
 use Rattle.machine.specs.Notes.{Note, nothing, note}
@@ -41,7 +42,7 @@ use Rattle.machine.proofs.Entries.{none-all, last-put, entry-put}
 use Rattle.machine.proofs.ByCall.{Does, Calls}
 use Rattle.history.specs.Demand3.{live, highest, newestFirst, hopped}
 use Rattle.history.specs.Ops.{Op, push, opsOf, pushed, popped, told-change, told-rollback, top, tail, stack, newest, Rising, Falls, stack-low, stack-falls, mem, standing, first, first-rises, done, held, holding, clash, crash}
-use Rattle.history.specs.Invariant.{val, Linked, Sides, Numbered, CommitEntry, commitView, Committed, ApplyEntry, applyView, Calm, Quiet, Fell, Applied, Invariant, isEnded}
+use Rattle.history.specs.Invariant.{val, own, Linked, Sides, Numbered, CommitEntry, commitView, Committed, ApplyEntry, applyView, Calm, Quiet, Fell, Applied, Invariant, isEnded}
 use Rattle.history.specs.Frames.{stack-linked, not-going}
 use Rattle.history.proofs.Commits.{tip-back}
 use Rattle.history.proofs.Applies.{held-falls, held-low}
@@ -69,8 +70,8 @@ module _ (s : State) (es : List Event) (bad : List ℕ) (inv : Invariant s (opsO
   abbrev en : ℕ → Transaction
   en i = entryOf (s .log) i
 
-  abbrev vs : ℕ → List ℕ
-  vs i = present (s .committed .values) (entryOf (s .log) i)
+  abbrev vs : ℕ → Present
+  vs i = presentOf s (entryOf (s .log) i)
 
   -- no event that completes
   still : (next : State) → Invariant next ops acts bad → Reached next (noEvent ∷ es)
@@ -246,11 +247,11 @@ module _ (s : State) (es : List Event) (bad : List ℕ) (inv : Invariant s (opsO
       }
 
 -- ---- fresh
-fresh-committed : Committed (unfolded []) 0 freshPart []
-unfolding Rising Linked stack newest val pushed popped
+fresh-committed : Committed (unfolded []) 0 freshLedger []
+unfolding Rising Linked stack newest val own pushed popped
 fresh-committed =
     record {
-      entries = none-all (λ k u. CommitEntry (freshPart .head) 0 (freshPart .values) [] k (commitView u)) (λ k. record {
+      entries = none-all (λ k u. CommitEntry (freshLedger .head) 0 (freshLedger .values) (freshLedger .owners) [] k (commitView u)) (λ k. record {
         begun = not-going None refl;
         flight = not-going None refl;
         closing = not-going None refl;
@@ -268,6 +269,8 @@ fresh-committed =
       tip = refl;
       holds = λ p b. getD-replicate 32 p 0 0 b;
       room = refl;
+      owns = λ p b. getD-replicate 32 p 0 0 b;
+      ownRoom = refl;
       low = omega arith;
       mid = omega arith;
       high = omega arith;

@@ -17,7 +17,7 @@ use Rattle.machine.specs.State.{State, entryOf, last, inLog, isKept, isNode, is
 use Rattle.machine.specs.WellFormed.{wellFormed}
 use Rattle.machine.specs.Settled.{settled}
 use Rattle.machine.specs.Rest.{restOf}
-use Rattle.machine.specs.Calls.{Call, present, planOf}
+use Rattle.machine.specs.Calls.{Call, presentOf, planOf}
 use Rattle.machine.specs.Calls as calls
 use Rattle.machine.specs.Step.{run}
 use Rattle.machine.proofs.Cases.{and-left, and-right, or-cases, complete-is}
@@ -140,8 +140,8 @@ module _ {s : State} {ops acts : List Op} {bad : List ℕ} (inv : Invariant s op
   pub eighth-1 : Says t → (y : Bool) → calls.job1 s i y .answer ≡ 11 → holds s 1 i 1 ≡ false → holds s 1 i 3 ≡ false → holds s 1 i 4 ≡ false → ⊥
   eighth-1 ph y e h1 h3 h4 = go (t .change .commit) refl
     where
-      w : Waits1 t (s .committed .head) i (s .change) (restOf s) (present (s .committed .values) t) y e
-      w = waits1 t (s .committed .head) i (s .change) (restOf s) (present (s .committed .values) t) y e
+      w : Waits1 t (s .committed .head) i (s .change) (restOf s) (presentOf s t) y e
+      w = waits1 t (s .committed .head) i (s .change) (restOf s) (presentOf s t) y e
 
       go : (x : Status) → t .change .commit ≡ x → ⊥
       go None p = ph .0 p

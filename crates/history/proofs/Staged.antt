@@ -29,9 +29,10 @@ use Rattle.rules.specs.CommitChange as job1
 use Rattle.rules.specs.CommitRollback as job3
 use Rattle.rules.specs.ApplyChange as job2
 use Rattle.rules.specs.ApplyRollback as job4
+use Rattle.rules.specs.declared.Present.{Present}
 use Rattle.machine.specs.State.{Log, State, entryOf, putEntry, grown, last, lineOpenFor}
 use Rattle.machine.specs.Rest.{markOf, restOf}
-use Rattle.machine.specs.Calls.{Call, Pair, appended, present}
+use Rattle.machine.specs.Calls.{Call, Pair, appended, presentOf}
 use Rattle.machine.specs.Settled.{settled}
 use Rattle.machine.specs.Step.{run}
 use Rattle.machine.specs.Notes.{Note}
@@ -143,7 +144,7 @@ module _ {s : State} {ops acts : List Op} {bad : List ℕ} (inv : Invariant s op
   unasked : {A : Type 0} (i : ℕ) (x : Status) → eqb (codeOf x) (codeOf Complete) ≡ false → en i .change .commit ≡ x → (en i .rollback .commit ≡ None → ⊥) → A
   unasked i x f e p = differ x Complete f (sym e ∙ st .entries i .asked p .0)
 
-  begin1 : (i : ℕ) → en i .change .commit ≡ Pending → i ≡ suc c → (r : Number) (vs : List ℕ) → Entries (putEntry (s .log) i (beginning (en i) r vs)) c v b a
+  begin1 : (i : ℕ) → en i .change .commit ≡ Pending → i ≡ suc c → (r : Number) (vs : Present) → Entries (putEntry (s .log) i (beginning (en i) r vs)) c v b a
   begin1 i e n r vs =
       let w = st .entries i in
       put i _ (record {
@@ -382,8 +383,8 @@ module _ (s : State) (es : List Event) (bad : List ℕ) (inv : Invariant s (opsO
   abbrev Keeps : Note → Reply → State → Type 0
   Keeps x r next = Stages next
 
-  abbrev vs : ℕ → List ℕ
-  vs i = present (s .committed .values) (entryOf (s .log) i)
+  abbrev vs : ℕ → Present
+  vs i = presentOf s (entryOf (s .log) i)
 
   abbrev at : ℕ
   at = s .applied .head .ordinal .0

@@ -17,7 +17,7 @@ use Rattle.kinds.specs.declared.Status.{Status}
 use Rattle.kinds.specs.declared.Status.the-variants.{None, Pending, InProgress, Complete, Aborted, Canceled, Failed}
 use Rattle.kinds.specs.Records.{withChange, withRollback}
 use Rattle.rules.specs.Heads.{aimed}
-use Rattle.machine.specs.State.{Log, State, Part, Net, blank, entryOf, grown, last}
+use Rattle.machine.specs.State.{Log, State, Part, Ledger, Net, blank, entryOf, grown, last}
 use Rattle.machine.specs.Stores.{withLog, withNet, withTargetValues}
 use Rattle.machine.specs.Laid.{over}
 use Rattle.machine.proofs.Next.{putting}
@@ -96,7 +96,7 @@ module _ {s : State} {T : ℕ → Type 0} {ops acts : List Op} {h : ℕ} (sw : S
   retold U f = record { began = λ k e. f k (sw .began k e); left = λ x k e. f k (sw .left x k e); wired = sw .wired }
 
   -- the commit side moves
-  pub commits : (c : Number) (part : Part) → Switch (record { log = s .log; change = c; committed = part; applied = s .applied; net = s .net }) T ops acts h
+  pub commits : (c : Number) (part : Ledger) → Switch (record { log = s .log; change = c; committed = part; applied = s .applied; net = s .net }) T ops acts h
   commits c part = record { began = sw .began; left = sw .left; wired = sw .wired }
 
   -- the nodes' side moves

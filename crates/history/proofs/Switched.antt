@@ -30,11 +30,12 @@ use Rattle.rules.specs.CommitChange as job1
 use Rattle.rules.specs.CommitRollback as job3
 use Rattle.rules.specs.ApplyChange as job2
 use Rattle.rules.specs.ApplyRollback as job4
-use Rattle.machine.specs.State.{State, Log, Part, Net, absent, fresh, entryOf, putEntry, last, lineOpenFor}
+use Rattle.rules.specs.declared.Present.{Present}
+use Rattle.machine.specs.State.{State, Log, Part, Ledger, Net, absent, fresh, entryOf, putEntry, last, lineOpenFor}
 use Rattle.machine.specs.Stores.{withLog, withNet, withTargetValues}
 use Rattle.machine.specs.Settled.{settled}
 use Rattle.machine.specs.Folding.{finished}
-use Rattle.machine.specs.Calls.{Call, Pair, appended, present}
+use Rattle.machine.specs.Calls.{Call, Pair, appended, presentOf}
 use Rattle.machine.specs.Step.{step, run}
 use Rattle.machine.specs.Notes.{Note, nothing, wrote, half, full, note, notes}
 use Rattle.machine.specs.Laid.{over}
@@ -257,7 +258,7 @@ module _ (s : State) (es : List Event) (h : ℕ) (r : Reached s es) (marks : Mar
   not-returning i e = not-in-progress (this i .rollback .apply) (λ x. clash (sym (inv .applied .entries i .tried (ap wasPushed x)) ∙ e))
 
   -- a state with this log
-  abbrev On : Number → Part → Part → Net → State
+  abbrev On : Number → Ledger → Part → Net → State
   On c d a w = record { log = s .log; change = c; committed = d; applied = a; net = w }
 
   module _ (i : ℕ) (p : s .log .folded .0 < i) (q : i ≤ last (s .log)) where
@@ -265,11 +266,11 @@ module _ (s : State) (es : List Event) (h : ℕ) (r : Reached s es) (marks : Mar
     stored t = entry-put (s .log) i t p q
 
     -- ---- a status stored, after another store or alone
-    module _ {T : ℕ → Type 0} {xs ys : List Op} {g : ℕ} {c : Number} {d a : Part} {w : Net} (k : Switch (On c d a w) T xs ys g) where
+    module _ {T : ℕ → Type 0} {xs ys : List Op} {g : ℕ} {c : Number} {d : Ledger} {a : Part} {w : Net} (k : Switch (On c d a w) T xs ys g) where
       abbrev Puts : Transaction → Type 0
       Puts t = Switch (putting (On c d a w) i t) T xs ys g
 
-      begins1 : this i .change .commit ≡ Pending → (n : Number) (vs : List ℕ) → Puts (job1.beginning (this i) n vs)
+      begins1 : this i .change .commit ≡ Pending → (n : Number) (vs : Present) → Puts (job1.beginning (this i) n vs)
       begins1 e n vs =
           let x = waits i Pending e .0 in
           puts k i _ (k .began i) (λ us y. idle-partly (this i) (ap isStarted x) (not-returning i (ap wasTried x)) y)
@@ -308,8 +309,8 @@ module _ (s : State) (es : List Event) (h : ℕ) (r : Reached s es) (marks : Mar
       finishes4 o = puts k i _ (k .began i) (λ us. returns-partly (this i) o)
 
     -- ---- jobs 1 and 3
-    abbrev vs : List ℕ
-    vs = present (s .committed .values) (this i)
+    abbrev vs : Present
+    vs = presentOf s (this i)
 
     aim1 : (cut second : Bool) → this i .change .commit ≡ Pending → Does s Keeps true i cut second (job1.plans change.Aim (this i) (s .committed .head) (num i) (ord 0) vs)
     unfolding opsOf

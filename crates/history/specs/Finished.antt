@@ -10,7 +10,7 @@ use Rattle.kinds.specs.declared.Status.the-variants.{None, Pending}
 use Rattle.machine.specs.State.{State, entryOf, last}
 use Rattle.machine.specs.Stores.{after, afters}
 use Rattle.machine.specs.Rows.{overlay, rowsOf}
-use Rattle.machine.specs.WellFormed.{allFrom, pairsOk, entryOk, headOk, wellFormed}
+use Rattle.machine.specs.WellFormed.{allFrom, allAtMost, pairsOk, entryOk, headOk, wellFormed}
 use Rattle.machine.specs.LiveList as list
 use Rattle.machine.specs.Calls.{Call, append, work, valuesOk, present, planOf, decide}
 use Rattle.machine.specs.Step.{outcome, step, Past, run}
@@ -85,5 +85,5 @@ shows b n r c =
     ((eqb (last (p .state .log)) n && eqb (p .state .committed .head .revision .0) r) && (eqb (length (p .events)) c && eqb (length (callsIn b appends)) c)) ≡ true
 
 pub starts-hold : shows one 2 1 7 × shows freshly 1 0 1
-unfolding acted callsIn import judged judgedFrom numberAt callsUpTo run step outcome decide planOf afters after overlay rowsOf allFrom pairsOk entryOk headOk wellFormed valuesOk present
+unfolding acted callsIn import judged judgedFrom numberAt callsUpTo run step outcome decide planOf afters after overlay rowsOf allFrom allAtMost pairsOk entryOk headOk wellFormed valuesOk present
 starts-hold = (refl, refl)

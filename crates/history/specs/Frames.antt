@@ -14,7 +14,7 @@ use Rattle.kinds.specs.Statuses.{isComplete}
 use Rattle.machine.specs.State.{Log, entryOf, putEntry}
 use Rattle.machine.proofs.Entries.{put-all, entry-zero}
 use Rattle.history.specs.Ops.{Op, push, pop, none, top, tail, stack, newest, Rising, Falls, stack-low, stack-falls, clash}
-use Rattle.history.specs.Invariant.{val, Link, Linked, isGoing, complete, Paired}
+use Rattle.history.specs.Invariant.{val, own, Link, Linked, isGoing, complete, Paired}
 
 -- ---- two entries that say the same of values
 pub record Same (t u : Transaction) : Type 0 where
@@ -22,16 +22,22 @@ pub record Same (t u : Transaction) : Type 0 where
   pub paths : u .paths ≡ t .paths
   pub values : u .values ≡ t .values
   pub kept : u .kept ≡ t .kept
+  pub owners : u .owners ≡ t .owners
   pub index : u .index .0 ≡ t .index .0
 
 pub same : (t : Transaction) → Same t t
-same t = record { count = refl; paths = refl; values = refl; kept = refl; index = refl }
+same t = record { count = refl; paths = refl; values = refl; kept = refl; owners = refl; index = refl }
 
 module _ (l m : Log) (n : ℕ) (s : (k : ℕ) → k ≤ n → Same (entryOf l k) (entryOf m k)) where
   pub val-same : (ks : List ℕ) → Falls ks → top ks ≤ n → (p : ℕ) → val m ks p ≡ val l ks p
   unfolding val Falls
   val-same [] f b p = refl
   val-same (k ∷ ks) f b p = rw (s k b .paths, s k b .count, s k b .values, val-same ks (f .1) (omega (arith, f .0)) p)
+
+  pub own-same : (ks : List ℕ) → Falls ks → top ks ≤ n → (p : ℕ) → own m ks p ≡ own l ks p
+  unfolding own Falls
+  own-same [] f b p = refl
+  own-same (k ∷ ks) f b p = rw (s k b .paths, s k b .count, own-same ks (f .1) (omega (arith, f .0)) p)
 
   pub linked-same : (o : List Op) → Rising o → newest o ≤ n → Linked l o → Linked m o
   unfolding Linked Rising newest
@@ -40,6 +46,7 @@ module _ (l m : Log) (n : ℕ) (s : (k : ℕ) → k ≤ n → Same (entryOf l k)
     record {
       back = s k b .index ∙ h .0 .back;
       keeps = λ p q. rw (s k b .paths, s k b .count, s k b .kept, s k b .values, val-same (stack o) (stack-falls o (r .1)) (omega (arith, stack-low o (r .1), r .0)) p) (h .0 .keeps p q);
+      owners = λ p q. rw (s k b .paths, s k b .count, s k b .owners, own-same (stack o) (stack-falls o (r .1)) (omega (arith, stack-low o (r .1), r .0)) p) (h .0 .owners p q);
     },
     linked-same o (r .1) (omega (arith, r .0)) (h .1),
   )

@@ -15,7 +15,7 @@ use Rattle.kinds.specs.declared.Status.{Status}
 use Rattle.kinds.specs.declared.Status.the-variants.{None, Pending, InProgress, Complete, Aborted, Canceled, Failed}
 use Rattle.kinds.specs.Statuses.{isComplete}
 use Rattle.rules.specs.ApplyRollback.{wasTried}
-use Rattle.machine.specs.State.{State, Part, Net, Log, entryOf, last, nodeOf}
+use Rattle.machine.specs.State.{State, Part, Ledger, inEach, Net, Log, entryOf, last, nodeOf}
 use Rattle.machine.proofs.Overlay.{look}
 use Rattle.history.specs.Ops.{Op, push, pop, none, pushed, popped, top, stack, newest, Rising, opAt, first, Sub, held}
 
@@ -27,15 +27,29 @@ says t p d = look (t .paths) (t .count) (t .values) p d
 abbrev pub returns : Transaction → ℕ → ℕ → ℕ
 returns t p d = look (t .paths) (t .count) (t .kept) p d
 
+-- whose path it is by change k, and by what it remembers (order 7)
+abbrev pub claims : ℕ → Transaction → ℕ → ℕ → ℕ
+claims k t p d = look (t .paths) (t .count) (inEach k) p d
+
+abbrev pub recalls : Transaction → ℕ → ℕ → ℕ
+recalls t p d = look (t .paths) (t .count) (t .owners) p d
+
 -- the value that the newest of these changes setting p gives it
 unfoldable pub val : Log → List ℕ → ℕ → ℕ
 val l [] p = 0
 val l (k ∷ ks) p = says (entryOf l k) p (val l ks p)
 
+-- the newest of these changes setting p
+unfoldable pub own : Log → List ℕ → ℕ → ℕ
+own l [] p = 0
+own l (k ∷ ks) p = claims k (entryOf l k) p (own l ks p)
+
 -- change k was committed over the changes ks: it returns to the newest of them, and its rollback puts back their values
+-- and their owners
 pub record Link (l : Log) (k : ℕ) (ks : List ℕ) : Type 0 where
   pub back : entryOf l k .index .0 ≡ top ks
   pub keeps : (p : ℕ) → p < 32 → returns (entryOf l k) p (says (entryOf l k) p (val l ks p)) ≡ val l ks p
+  pub owners : (p : ℕ) → p < 32 → recalls (entryOf l k) p (claims k (entryOf l k) p (own l ks p)) ≡ own l ks p
 
 unfoldable pub Linked : Log → List Op → Type 0
 Linked l [] = Unit {0}
@@ -111,6 +125,7 @@ pub record CommitView : Type 0 where
   pub values : List ℕ
   pub index : ℕ
   pub kept : List ℕ
+  pub owners : List ℕ
 
 abbrev pub commitView : Transaction → CommitView
 commitView t =
@@ -122,13 +137,15 @@ commitView t =
       values = t .values;
       index = t .index .0;
       kept = t .kept;
+      owners = t .owners;
     }
 
 -- change k in flight: begun at the revision, the target on it, its rollback ready
-pub record Flight (h : Head) (vs : List ℕ) (k : ℕ) (x : CommitView) : Type 0 where
+pub record Flight (h : Head) (vs ow : List ℕ) (k : ℕ) (x : CommitView) : Type 0 where
   pub origin : x .index ≡ h .revision .0
   pub target : h .target .0 ≡ k
   pub restores : (p : ℕ) → p < 32 → look (x .paths) (x .count) (x .kept) p (look (x .paths) (x .count) (x .values) p (getD vs p 0)) ≡ getD vs p 0
+  pub owners : (p : ℕ) → p < 32 → look (x .paths) (x .count) (x .owners) p (look (x .paths) (x .count) (inEach k) p (getD ow p 0)) ≡ getD ow p 0
 
 -- change k committed, its status yet to be stored; and the rollback of k
 pub record Closing (h : Head) (ops : List Op) (k : ℕ) : Type 0 where
@@ -143,10 +160,10 @@ pub record Returned (h : Head) (ops : List Op) (k : ℕ) : Type 0 where
   pub index : h .index .0 ≡ k
   pub below : h .revision .0 < k
 
--- entry k, with Committed's head h, change c and values vs
-pub record CommitEntry (h : Head) (c : ℕ) (vs : List ℕ) (ops : List Op) (k : ℕ) (x : CommitView) : Type 0 where
+-- entry k, with Committed's head h, change c, values vs and owners ow
+pub record CommitEntry (h : Head) (c : ℕ) (vs ow : List ℕ) (ops : List Op) (k : ℕ) (x : CommitView) : Type 0 where
   pub begun : x .change ≡ InProgress → k ≤ suc c
-  pub flight : x .change ≡ InProgress → k ≡ suc c → Flight h vs k x
+  pub flight : x .change ≡ InProgress → k ≡ suc c → Flight h vs ow k x
   pub closing : x .change ≡ InProgress → k ≤ c → Closing h ops k
   pub failed : x .change ≡ Failed → k ≤ suc c
   pub failing : x .change ≡ Failed → k ≡ suc c → h .target .0 ≡ k
@@ -155,8 +172,8 @@ pub record CommitEntry (h : Head) (c : ℕ) (vs : List ℕ) (ops : List Op) (k :
   pub done : pushed k ops ≡ complete (x .change) c k
   pub undone : popped k ops ≡ complete (x .rollback) (h .revision .0) (x .index)
 
-pub record Committed (l : Log) (c : ℕ) (part : Part) (ops : List Op) : Type 0 where
-  pub entries : (k : ℕ) → CommitEntry (part .head) c (part .values) ops k (commitView (entryOf l k))
+pub record Committed (l : Log) (c : ℕ) (part : Ledger) (ops : List Op) : Type 0 where
+  pub entries : (k : ℕ) → CommitEntry (part .head) c (part .values) (part .owners) ops k (commitView (entryOf l k))
   pub rising : Rising ops
   pub linked : Linked l ops
   pub count : length ops ≡ part .head .ordinal .0
@@ -164,6 +181,8 @@ pub record Committed (l : Log) (c : ℕ) (part : Part) (ops : List Op) : Type 0 
   pub tip : part .head .revision .0 ≡ top (stack ops)
   pub holds : (p : ℕ) → p < 32 → getD (part .values) p 0 ≡ val l (stack ops) p
   pub room : length (part .values) ≡ 32
+  pub owns : (p : ℕ) → p < 32 → getD (part .owners) p 0 ≡ own l (stack ops) p
+  pub ownRoom : length (part .owners) ≡ 32
   pub low : part .head .revision .0 ≤ part .head .index .0
   pub mid : part .head .index .0 ≤ c
   pub high : c ≤ last l

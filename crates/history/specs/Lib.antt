@@ -13,3 +13,4 @@ pub mod Guarantees
 pub mod Stages
 pub mod Explained
 pub mod Finished
+pub mod Owners

@@ -6,7 +6,7 @@ use mathlib.Core.Path.{_≡_, refl}
 use lib.Dec.{eqb}
 use Rattle.machine.specs.Stores.{after, afters}
 use Rattle.machine.specs.Rows.{overlay, rowsOf}
-use Rattle.machine.specs.WellFormed.{allFrom, pairsOk, entryOk, headOk, wellFormed}
+use Rattle.machine.specs.WellFormed.{allFrom, allAtMost, pairsOk, entryOk, headOk, wellFormed}
 use Rattle.machine.specs.Calls.{Call, append, rollback, start, connect, disconnect, master, sync, work, valuesOk, present, planOf, decide}
 use Rattle.machine.specs.Step.{outcome, step, run}
 use Rattle.machine.specs.Notes.{Note, nothing, wrote, half, full, notes}
@@ -44,11 +44,11 @@ each f [] = true
 each f (cs ∷ css) = f cs && each f css
 
 pub good-hold : each (λ cs. madeGood (notes cs)) good ≡ true
-unfolding each good notes cutSince pushedSince lastCut run step outcome decide planOf afters after overlay rowsOf allFrom pairsOk entryOk headOk wellFormed valuesOk present
+unfolding each good notes cutSince pushedSince lastCut run step outcome decide planOf afters after overlay rowsOf allFrom allAtMost pairsOk entryOk headOk wellFormed valuesOk present
 good-hold = refl
 
 pub bad-hold : each (λ cs. not (madeGood (notes cs))) bad ≡ true
-unfolding each bad notes cutSince pushedSince lastCut run step outcome decide planOf afters after overlay rowsOf allFrom pairsOk entryOk headOk wellFormed valuesOk present
+unfolding each bad notes cutSince pushedSince lastCut run step outcome decide planOf afters after overlay rowsOf allFrom allAtMost pairsOk entryOk headOk wellFormed valuesOk present
 bad-hold = refl
 
 -- ---- note lists: another's push makes nothing good, and a synchronise that wrote whatever came before it
