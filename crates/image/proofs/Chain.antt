@@ -23,18 +23,18 @@ use Rattle.fields.proofs.Runs.{table-at, length-fields, length-puts, puts-appen
 use Rattle.fields.proofs.Laws.{field-kept}
 use Rattle.machine.specs.State.{absent, never, nodeOf}
 use Rattle.machine.specs.Stores.{Table, ofApplied, targetValues}
-use Rattle.image.specs.Layout.{codeWidths, markWidths, valueSize, tableWidths, nodeWidths, placeOf, changeApplyIn, rollbackCommitIn, rollbackApplyIn, phaseIn, countIn, indexIn, changeOrdinalIn, rollbackOrdinalIn, pathsIn, valuesIn, keptIn, targetValuesAt, connectionsAt, valuesAt, nodeAt}
+use Rattle.image.specs.Layout.{codeWidths, markWidths, valueSize, tableWidths, nodeWidths, placeOf, changeApplyIn, rollbackCommitIn, rollbackApplyIn, phaseIn, countIn, indexIn, changeOrdinalIn, rollbackOrdinalIn, pathsIn, valuesIn, keptIn, ownersIn, targetValuesAt, connectionsAt, valuesAt, nodeAt}
 use Rattle.image.specs.Records.{toSide, toConnections, codes, marks, entryAt, putEntryAt, toNode, putNodeAt, connectionsOf, putConnections}
 use Rattle.image.specs.View.{tableOf, write}
 
 -- ---- an entry
-pub loaded : (l : List ℕ) (n at : ℕ) → at ≡ placeOf n → (x y : Side) (f g h : ℕ) (i : Number) (p v r : List ℕ)
+pub loaded : (l : List ℕ) (n at : ℕ) → at ≡ placeOf n → (x y : Side) (f g h : ℕ) (i : Number) (p v r w : List ℕ)
     → x ≡ toSide l at (at + changeOrdinalIn) → y ≡ toSide l (at + rollbackCommitIn) (at + rollbackOrdinalIn)
     → f ≡ field l (at + phaseIn) 1 → g ≡ field l (at + countIn) 1 → h ≡ field l (at + indexIn) 2 → i ≡ num h
-    → p ≡ fieldsAt l (at + pathsIn) ones → v ≡ fieldsAt l (at + valuesIn) twos → r ≡ fieldsAt l (at + keptIn) twos
-    → _≡_ {A = Transaction} (record { phase = f; count = g; paths = p; values = v; change = x; rollback = y; index = i; kept = r }) (entryAt l n)
+    → p ≡ fieldsAt l (at + pathsIn) ones → v ≡ fieldsAt l (at + valuesIn) twos → r ≡ fieldsAt l (at + keptIn) twos → w ≡ fieldsAt l (at + ownersIn) twos
+    → _≡_ {A = Transaction} (record { phase = f; count = g; paths = p; values = v; change = x; rollback = y; index = i; kept = r; owners = w }) (entryAt l n)
 unfolding entryAt fieldsAt
-loaded l n at e x y f g h i p v r q0 q1 q2 q3 q4 q5 q6 q7 q8 = simp (q0, q1, q2, q3, q5, q4, q6, q7, q8, e, add-assoc)
+loaded l n at e x y f g h i p v r w q0 q1 q2 q3 q4 q5 q6 q7 q8 q9 = simp (q0, q1, q2, q3, q5, q4, q6, q7, q8, q9, e, add-assoc)
 
 -- of which only the ordinals were read
 pub carried : (l : List ℕ) (n at : ℕ) → at ≡ placeOf n → (a x y : Ordinal) (p q r : Bool) (f g : ℕ) → f ≡ field l (at + changeOrdinalIn) 4 → x ≡ ord f
@@ -50,12 +50,12 @@ pub coded : (l l1 l2 l3 l4 l5 l6 : List ℕ) (at a b d e : ℕ) (t : Transaction
 unfolding putFields
 coded l l1 l2 l3 l4 l5 l6 at a b d e t p1 p2 p3 p4 q1 q2 q3 q4 q5 q6 = simp (q6, q5, q4, q3, q2, q1, p1, p2, p3, p4, add-assoc)
 
-pub stored : (l l1 l2 l3 l4 l5 : List ℕ) (n at : ℕ) → at ≡ placeOf n → (t : Transaction)
+pub stored : (l l1 l2 l3 l4 l5 l6 : List ℕ) (n at : ℕ) → at ≡ placeOf n → (t : Transaction)
     → l1 ≡ putFields l at codeWidths (codes t) → l2 ≡ putFields l1 (at + indexIn) markWidths (marks t)
     → l3 ≡ putFields l2 (at + pathsIn) ones (quad (t .paths)) → l4 ≡ putFields l3 (at + valuesIn) twos (quad (t .values))
-    → l5 ≡ putFields l4 (at + keptIn) twos (quad (t .kept)) → l5 ≡ putEntryAt l n t
+    → l5 ≡ putFields l4 (at + keptIn) twos (quad (t .kept)) → l6 ≡ putFields l5 (at + ownersIn) twos (quad (t .owners)) → l6 ≡ putEntryAt l n t
 unfolding putEntryAt putFields
-stored l l1 l2 l3 l4 l5 n at e t q1 q2 q3 q4 q5 = simp (q5, q4, q3, q2, q1, e, add-assoc)
+stored l l1 l2 l3 l4 l5 l6 n at e t q1 q2 q3 q4 q5 q6 = simp (q6, q5, q4, q3, q2, q1, e, add-assoc)
 
 -- ---- the eight connections
 pub nodes-loaded : (l : List ℕ) (a b d e f g h i : Connection)

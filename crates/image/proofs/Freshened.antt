@@ -13,12 +13,12 @@ use Rattle.kinds.specs.Statuses.{progressOf}
 use Rattle.fields.specs.Field.{field, putField, fieldsAt, total}
 use Rattle.fields.proofs.Laws.{Outside, put-outside, put-same, field-kept, length-put}
 use Rattle.fields.proofs.Runs.{fields-kept}
-use Rattle.machine.specs.State.{absent, unfolded, fresh, freshPart, freshNet}
-use Rattle.machine.specs.Stores.{Table, ofCommitted, ofApplied, ofTarget, ofBase}
-use Rattle.machine.specs.WellFormed.{allFrom, headOk, wellFormed}
+use Rattle.machine.specs.State.{absent, unfolded, fresh, freshPart, freshLedger, freshNet}
+use Rattle.machine.specs.Stores.{Table, ofCommitted, ofApplied, ofTarget, ofBase, ofOwners}
+use Rattle.machine.specs.WellFormed.{allFrom, allAtMost, headOk, wellFormed}
 use Rattle.image.specs.Layout.{headSize, runningIn, connectedAt, headWidths, tableWidths, mastershipWidths, targetWidths, connectionsWidths, lastAt, changeAt, committedAt, appliedAt, valuesAt, configurationAt, mastershipAt, targetAt, connectionsAt, foldedAt, imageLength}
 use Rattle.image.specs.Records.{lastOf, foldedOf, changeOf, toHead, headAt, configurationOf, toMastership, mastershipOf, toTarget, targetOf, toConnections, connectionsOf}
-use Rattle.image.specs.View.{upTo, tableOf, entriesOf, logOf, partOf, netOf, view}
+use Rattle.image.specs.View.{upTo, tableOf, entriesOf, logOf, partOf, ledgerOf, netOf, view}
 use Rattle.image.specs.Formed.{allUpTo, allKept, flagsOk, formed}
 use Rattle.image.proofs.Kept.{Apart, same-log}
 use Rattle.image.proofs.Shown.{same-view}
@@ -115,6 +115,7 @@ unfolding tableOf
 table ofCommitted = others tableWidths (valuesAt ofCommitted) (inl (omega arith))
 table ofApplied = others tableWidths (valuesAt ofApplied) (inl (omega arith))
 table ofTarget = others tableWidths (valuesAt ofTarget) (inl (omega arith))
+table ofOwners = others tableWidths (valuesAt ofOwners) (inl (omega arith))
 table ofBase = others tableWidths (valuesAt ofBase) (inr (omega arith))
 
 log : logOf freshImage ≡ unfolded []
@@ -122,6 +123,9 @@ log = same-log freshImage 0 absent [] no-fold (table ofBase) none
 
 part : (at : ℕ) (b : Table) → Apart configurationAt (configurationAt + 1) at headSize → partOf freshImage at b ≡ freshPart
 part at b h = rw (head at h, table b)
+
+ledger : ledgerOf freshImage ≡ freshLedger
+ledger = rw (head committedAt (inl (omega arith)), table ofCommitted, table ofOwners)
 
 configuration : configurationOf freshImage ≡ freshNet .configuration
 unfolding configurationOf fieldsAt progressOf
@@ -145,7 +149,7 @@ net = rw (configuration, mastership, target, connections, table ofTarget)
 -- a fresh image shows the fresh state
 pub shows-fresh : view freshImage ≡ fresh
 shows-fresh =
-    same-view freshImage (unfolded []) 0 freshPart freshPart freshNet log no-change (part committedAt ofCommitted (inl (omega arith)))
+    same-view freshImage (unfolded []) 0 freshLedger freshPart freshNet log no-change ledger
     (part appliedAt ofApplied (inl (omega arith))) net
 
 flags : flagsOk freshImage ≡ true
@@ -165,7 +169,7 @@ flags =
     )
 
 well-formed : wellFormed fresh ≡ true
-unfolding wellFormed allFrom headOk
+unfolding wellFormed allFrom allAtMost headOk
 well-formed = refl
 
 -- a fresh image is well-formed

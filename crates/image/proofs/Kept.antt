@@ -12,10 +12,10 @@ use Rattle.kinds.specs.Numbers.{num}
 use Rattle.fields.specs.Field.{putField}
 use Rattle.fields.proofs.Laws.{Outside, field-kept, put-outside, length-put}
 use Rattle.fields.proofs.Runs.{fields-kept}
-use Rattle.machine.specs.Stores.{Table, ofTarget, ofBase, value}
-use Rattle.image.specs.Layout.{entryWidths, headWidths, tableWidths, configurationWidths, mastershipWidths, targetWidths, connectionsWidths, placeOf, lastAt, changeAt, valuesAt, configurationAt, mastershipAt, targetAt, connectionsAt, foldedAt, highest, stride, headSize, tableSize, tableLength, valueSize, connectionsSize, connectedAt, runningIn}
+use Rattle.machine.specs.Stores.{Table, ofCommitted, ofTarget, ofBase, ofOwners, value}
+use Rattle.image.specs.Layout.{entryWidths, headWidths, tableWidths, configurationWidths, mastershipWidths, targetWidths, connectionsWidths, placeOf, lastAt, changeAt, committedAt, appliedAt, valuesAt, configurationAt, mastershipAt, targetAt, connectionsAt, foldedAt, highest, stride, headSize, tableSize, tableLength, valueSize, connectionsSize, connectedAt, runningIn}
 use Rattle.image.specs.Records.{toEntry, entryAt, lastOf, foldedOf, changeOf, toHead, headAt, toConfiguration, configurationOf, toMastership, mastershipOf, toTarget, targetOf, toConnections, connectionsOf}
-use Rattle.image.specs.View.{upFrom, tableOf, entriesOf, logOf, partOf, netOf, write}
+use Rattle.image.specs.View.{upFrom, tableOf, entriesOf, logOf, partOf, ledgerOf, netOf, write}
 use Rattle.image.specs.Formed.{statusesOk, flagsOk}
 use Rattle.image.proofs.UpTo.{upFrom-same}
 
@@ -67,6 +67,15 @@ module _ (l m : List ℕ) (a e : ℕ) (o : Outside l m a e) where
 
   pub part-kept : (at : ℕ) (b : Table) → Apart a e at headSize → Apart a e (valuesAt b) tableSize → partOf m at b ≡ partOf l at b
   part-kept at b h k = rw (head-kept at h, table-kept b k)
+
+  pub ledger-kept : Apart a e committedAt (appliedAt - committedAt) → ledgerOf m ≡ ledgerOf l
+  ledger-kept h =
+      let k : (at w : ℕ) → committedAt ≤ at → at + w ≤ appliedAt → Apart a e at w = λ at w p q. ⊎-elim (λ x. inl (omega arith)) (λ y. inr (omega arith)) h in
+      rw (
+        head-kept committedAt (k committedAt headSize (omega arith) (omega arith)),
+        table-kept ofCommitted (k (valuesAt ofCommitted) tableSize (omega arith) (omega arith)),
+        table-kept ofOwners (k (valuesAt ofOwners) tableSize (omega arith) (omega arith)),
+      )
 
   pub configuration-kept : Apart a e configurationAt 5 → configurationOf m ≡ configurationOf l
   unfolding configurationOf

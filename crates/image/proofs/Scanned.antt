@@ -1,21 +1,25 @@
 -- The scan's order of tests is that of the definition. Assumes nothing.
-use Prim.Native.Nat.{ℕ, _+_, _-_, _≤_, _<_}
+use Prim.Native.Nat.{ℕ, _+_, _-_, _*_, _≤_, _<_}
 use mathlib.Core.Path.{_≡_, refl, ap, ap₂, sym, _∙_}
 use mathlib.Core.Bool.{Bool, true, false, _&&_, _||_, and-true, and-false, and-assoc}
-use mathlib.Core.List.{List}
+use mathlib.Core.List.{List, [], _∷_, _++_}
 use native.Mathlib.Nat.{add-assoc}
 use native.Mathlib.Omega.{arith}
 use borrow.Author.Tests.{eq-eqb, ne-eqb, lt-leb, le-leb, lt-ltb, le-ltb, eqb-true, leb-true}
 use lib.Dec.{eqb, leb, ltb}
-use lib.ListN.{length}
+use lib.ListN.{length, take, getD}
+use lib.Seq.{take-suc, take-all}
+use native.Mathlib.Numerals.{add-one}
 use Rattle.kinds.specs.declared.Transaction.{Transaction}
-use Rattle.fields.specs.Field.{field, fieldsAt, ones}
+use Rattle.fields.specs.Field.{field, fieldsAt, ones, twos}
 use Rattle.machine.specs.State.{State, last, entryOf}
-use Rattle.machine.specs.WellFormed.{allEntries, pairsOk, logOk, entryOk, headsOk, sizesOk, wellFormed}
-use Rattle.image.specs.Layout.{slots, highest, highestOrdinal, changeApplyIn, rollbackCommitIn, rollbackApplyIn, phaseIn, countIn, indexIn, changeOrdinalIn, rollbackOrdinalIn, pathsIn, lastAt, foldedAt, imageLength}
+use Rattle.machine.specs.Stores.{ofOwners}
+use Rattle.machine.specs.WellFormed.{allEntries, pairsOk, recallsOk, allAtMost, logOk, entryOk, headsOk, sizesOk, wellFormed}
+use Rattle.image.specs.Layout.{slots, highest, highestOrdinal, changeApplyIn, rollbackCommitIn, rollbackApplyIn, phaseIn, countIn, indexIn, changeOrdinalIn, rollbackOrdinalIn, pathsIn, ownersIn, valueSize, valuesAt, lastAt, foldedAt, imageLength}
 use Rattle.image.specs.Records.{entryAt, lastOf, foldedOf, connectionsOf}
 use Rattle.image.specs.View.{upFrom, tableOf, view}
 use Rattle.image.specs.Formed.{allKept, statusesOk, entryStatusesOk, marksOk, flagsOk, entryFormed, codesOk, formed}
+use Rattle.image.proofs.Chain.{length-table, value-loaded}
 use Rattle.image.proofs.UpTo.{length-upTo, kept-same, kept-both, kept-entries, entry-upFrom, and-left, and-right}
 
 -- ---- an entry
@@ -210,7 +214,28 @@ pub last-status : (l : List ℕ) (at a b d e : ℕ) → a ≡ field l at 1 → b
 unfolding statusesOk
 last-status l at a b d e p q r s x y z = rw (← p, ← q, ← r, ← s, le-leb a 6 x, le-leb b 6 y, le-leb d 6 z)
 
-pub last-mark : (l : List ℕ) (at n a b d e : ℕ) → a ≡ field l (at + phaseIn) 1 → b ≡ field l (at + indexIn) 2 → d ≡ field l (at + changeOrdinalIn) 4 → e ≡ field l (at + rollbackOrdinalIn) 4
-    → 1 ≤ a → a ≤ 2 → b < n → d ≤ highestOrdinal → leb e highestOrdinal ≡ marksOk l at n
+pub last-mark : (l : List ℕ) (at n a b d e : ℕ) (w : Bool) → a ≡ field l (at + phaseIn) 1 → b ≡ field l (at + indexIn) 2 → d ≡ field l (at + changeOrdinalIn) 4 → e ≡ field l (at + rollbackOrdinalIn) 4
+    → w ≡ recallsOk n (fieldsAt l (at + ownersIn) twos) → 1 ≤ a → a ≤ 2 → b < n → w ≡ true → d ≤ highestOrdinal → leb e highestOrdinal ≡ marksOk l at n
 unfolding marksOk
-last-mark l at n a b d e p q r s w x y z = rw (← p, ← q, ← r, ← s, le-leb 1 a w, le-leb a 2 x, lt-ltb b n y, le-leb d highestOrdinal z)
+last-mark l at n a b d e w p q r s t x y z u v = rw (← p, ← q, ← r, ← s, ← t, le-leb 1 a x, le-leb a 2 y, lt-ltb b n z, u, le-leb d highestOrdinal v)
+
+-- ---- the owners, each at most n: one more of them, and all
+most-append : (n : ℕ) (l : List ℕ) (x : ℕ) → allAtMost n (l ++ (x ∷ [])) ≡ (allAtMost n l && leb x n)
+unfolding allAtMost
+most-append n [] x = and-true (leb x n)
+most-append n (y ∷ l) x = ap (λ (b : Bool). leb y n && b) (most-append n l x) ∙ sym (and-assoc (leb y n) (allAtMost n l) (leb x n))
+
+module _ (l : List ℕ) (n : ℕ) where
+  -- of the first k
+  abbrev pub mostOf : ℕ → Bool
+  mostOf k = allAtMost n (take k (tableOf l ofOwners))
+
+  pub most-more : (k x : ℕ) (b : Bool) → k < 32 → x ≡ field l (valuesAt ofOwners + valueSize * k) 2 → b ≡ mostOf k → (b && leb x n) ≡ mostOf (k + 1)
+  unfolding tableOf
+  most-more k x b h e q =
+      let vs : List ℕ = tableOf l ofOwners in
+      let t : take (k + 1) vs ≡ take k vs ++ (getD vs k 0 ∷ []) = ap (λ (j : ℕ). take j vs) (add-one k) ∙ take-suc vs k 0 (omega (arith, length-table l ofOwners)) in
+      ap₂ (λ (c : Bool) (y : ℕ). c && leb y n) q (value-loaded l (valuesAt ofOwners) k k x refl h e) ∙ sym (ap (allAtMost n) t ∙ most-append n (take k vs) (getD vs k 0))
+
+  pub most-all : (k : ℕ) (b : Bool) → 32 ≤ k → b ≡ mostOf k → b ≡ allAtMost n (tableOf l ofOwners)
+  most-all k b h q = q ∙ ap (allAtMost n) (take-all k (tableOf l ofOwners) (omega (arith, length-table l ofOwners)))

@@ -21,15 +21,15 @@ use Rattle.kinds.specs.Numbers.{num}
 use Rattle.fields.specs.Field.{putField, putFields}
 use Rattle.fields.proofs.Laws.{Outside, length-put, put-outside, put-same}
 use Rattle.fields.proofs.Runs.{Fit, length-puts, puts-outside, puts-same, table-set}
-use Rattle.machine.specs.State.{Part, Net, Log, State, blank, grown, putPlace}
-use Rattle.machine.specs.Stores.{Table, ofCommitted, ofApplied, ofTarget, ofBase, Store, grow, entry, fold, change, committedHead, appliedHead, value, targetValues, configuration, mastership, connections, target, withLog, withCommitted, withApplied, withNet, afterValue, after, afters}
+use Rattle.machine.specs.State.{Part, Ledger, Net, Log, State, blank, grown, putPlace}
+use Rattle.machine.specs.Stores.{Table, ofCommitted, ofApplied, ofTarget, ofBase, ofOwners, Store, grow, entry, fold, change, committedHead, appliedHead, value, targetValues, configuration, mastership, connections, target, withLog, withCommitted, withApplied, withNet, afterValue, after, afters}
 use Rattle.image.specs.Layout.{entryWidths, headWidths, tableWidths, configurationWidths, mastershipWidths, targetWidths, connectionsWidths, slotOf, placeOf, lastAt, changeAt, committedAt, appliedAt, valuesAt, configurationAt, mastershipAt, targetAt, connectionsAt, foldedAt, imageLength, slots, highest, stride, headSize, tableSize, connectionsSize}
 use Rattle.image.specs.Records.{toEntry, entryNumbers, entryAt, putEntryAt, lastOf, foldedOf, changeOf, toHead, headNumbers, headAt, putHeadAt, toConfiguration, configurationNumbers, configurationOf, putConfiguration, toMastership, mastershipNumbers, mastershipOf, putMastership, toTarget, targetNumbers, targetOf, putTarget, toConnections, connectionsNumbers, eight, connectionsOf, putConnections}
-use Rattle.image.specs.View.{upFrom, tableOf, entriesOf, logOf, partOf, netOf, view, write, written}
+use Rattle.image.specs.View.{upFrom, tableOf, entriesOf, logOf, partOf, ledgerOf, netOf, view, write, written}
 use Rattle.image.proofs.UpTo.{upFrom-same, upFrom-more, upFrom-drop, put-upFrom}
 use Rattle.image.proofs.Scanned.{Room}
 use Rattle.image.proofs.Chain.{length-table}
-use Rattle.image.proofs.Kept.{Apart, same-log, part-kept, net-kept, entry-kept, last-kept, folded-kept, entries-kept, ends-kept, log-kept, change-kept, head-kept, table-kept, configuration-kept, mastership-kept, target-kept, connections-kept}
+use Rattle.image.proofs.Kept.{Apart, same-log, part-kept, ledger-kept, net-kept, entry-kept, last-kept, folded-kept, entries-kept, ends-kept, log-kept, change-kept, head-kept, table-kept, configuration-kept, mastership-kept, target-kept, connections-kept}
 use Rattle.image.proofs.Sized.{SizedEntry, SizedHead, SizedMastership, SizedTable, SizedConnections, entry-room, head-room, configuration-room, mastership-room, target-room, connections-room, table-room, entry-back, configuration-back, target-back, connections-back, eight-all}
 
 -- ---- each number of a store has room, and a store of an entry is of a number kept: b the last fold, n the highest number
@@ -82,8 +82,8 @@ FitsAll b n [] = Unit {0}
 FitsAll b n (e ∷ es) = Fits b n e × FitsAll (foldedAfter b e) (lastAfter n e) es
 
 -- ---- the view, from its five parts
-pub same-view : (l : List ℕ) (log : Log) (n : ℕ) (c a : Part) (w : Net) → logOf l ≡ log → changeOf l ≡ n
-    → partOf l committedAt ofCommitted ≡ c → partOf l appliedAt ofApplied ≡ a → netOf l ≡ w
+pub same-view : (l : List ℕ) (log : Log) (n : ℕ) (c : Ledger) (a : Part) (w : Net) → logOf l ≡ log → changeOf l ≡ n
+    → ledgerOf l ≡ c → partOf l appliedAt ofApplied ≡ a → netOf l ≡ w
     → view l ≡ record { log = log; change = num n; committed = c; applied = a; net = w }
 unfolding view
 same-view l log n c a w p q r s t = cc
@@ -94,7 +94,7 @@ pub shown-log : (l m : List ℕ) (a e : ℕ) → Outside l m a e → e ≤ chang
 unfolding view
 shown-log l m a e o h ts q =
     same-view m _ _ _ _ _ (same-log m _ _ _ (folded-kept l m a e o (inr (omega arith))) (table-kept l m a e o ofBase (inr (omega arith))) q)
-    (change-kept l m a e o (inr (omega arith))) (part-kept l m a e o committedAt ofCommitted (inr (omega arith)) (inr (omega arith)))
+    (change-kept l m a e o (inr (omega arith))) (ledger-kept l m a e o (inr (omega arith)))
     (part-kept l m a e o appliedAt ofApplied (inr (omega arith)) (inr (omega arith))) (net-kept l m a e o (inr (omega arith)))
 
 -- a store past the nodes' side, of the last fold or the base, leaves all but the log
@@ -102,7 +102,7 @@ shown-base : (l m : List ℕ) (a e : ℕ) → Outside l m a e → foldedAt ≤ a
 unfolding view
 shown-base l m a e o h log q =
     same-view m _ _ _ _ _ q
-    (change-kept l m a e o (inl (omega arith))) (part-kept l m a e o committedAt ofCommitted (inl (omega arith)) (inl (omega arith)))
+    (change-kept l m a e o (inl (omega arith))) (ledger-kept l m a e o (inl (omega arith)))
     (part-kept l m a e o appliedAt ofApplied (inl (omega arith)) (inl (omega arith))) (net-kept l m a e o (inl (omega arith)))
 
 -- two numbers that the ring keeps at once lie apart
@@ -131,6 +131,10 @@ same-net g m xs t v g' m' xs' t' v' p q r s u = cc
 
 same-part : (h : Head) (v : List ℕ) (k : Head) (u : List ℕ) → h ≡ k → v ≡ u → _≡_ {A = Part} (record { head = h; values = v }) (record { head = k; values = u })
 same-part h v k u p q = cc
+
+same-ledger : (h : Head) (v o : List ℕ) (k : Head) (u p : List ℕ) → h ≡ k → v ≡ u → o ≡ p
+    → _≡_ {A = Ledger} (record { head = h; values = v; owners = o }) (record { head = k; values = u; owners = p })
+same-ledger h v o k u p q r s = cc
 
 module _ (l : List ℕ) (z : length l ≡ imageLength) (f : Room (foldedOf l) (lastOf l)) where
   -- ---- an entry
@@ -232,12 +236,12 @@ module _ (l : List ℕ) (z : length l ≡ imageLength) (f : Room (foldedOf l) (l
       let m = putField l changeAt 2 (n .0) in
       let o : Outside l m changeAt (changeAt + 2) = change-outside (n .0) in
       same-view m _ _ _ _ _ (log-kept l m _ _ o (omega arith) (omega arith)) (change-same (n .0) k)
-      (part-kept l m _ _ o committedAt ofCommitted (inr (omega arith)) (inr (omega arith)))
+      (ledger-kept l m _ _ o (inr (omega arith)))
       (part-kept l m _ _ o appliedAt ofApplied (inr (omega arith)) (inr (omega arith)))
       (net-kept l m _ _ o (inr (omega arith)))
 
-  -- ---- in Committed, from its head to the end of its values
-  module _ (m : List ℕ) (o : Outside l m committedAt appliedAt) (c : Part) (q : partOf m committedAt ofCommitted ≡ c) where
+  -- ---- in Committed, from its head to the end of its owners
+  module _ (m : List ℕ) (o : Outside l m committedAt appliedAt) (c : Ledger) (q : ledgerOf m ≡ c) where
     in-committed : view m ≡ withCommitted (view l) c
     unfolding view
     in-committed =
@@ -250,7 +254,7 @@ module _ (l : List ℕ) (z : length l ≡ imageLength) (f : Room (foldedOf l) (l
     unfolding view
     in-applied =
         same-view m _ _ _ _ _ (log-kept l m _ _ o (omega arith) (omega arith)) (change-kept l m _ _ o (inl (omega arith)))
-        (part-kept l m _ _ o committedAt ofCommitted (inl (omega arith)) (inl (omega arith))) q (net-kept l m _ _ o (inr (omega arith)))
+        (ledger-kept l m _ _ o (inl (omega arith))) q (net-kept l m _ _ o (inr (omega arith)))
 
   -- ---- on the nodes' side
   module _ (m : List ℕ) (o : Outside l m (valuesAt ofTarget) foldedAt) (w : Net) (q : netOf m ≡ w) where
@@ -258,7 +262,7 @@ module _ (l : List ℕ) (z : length l ≡ imageLength) (f : Room (foldedOf l) (l
     unfolding view
     in-net =
         same-view m _ _ _ _ _ (log-kept l m _ _ o (omega arith) (omega arith)) (change-kept l m _ _ o (inl (omega arith)))
-        (part-kept l m _ _ o committedAt ofCommitted (inl (omega arith)) (inl (omega arith)))
+        (ledger-kept l m _ _ o (inl (omega arith)))
         (part-kept l m _ _ o appliedAt ofApplied (inl (omega arith)) (inl (omega arith))) q
 
   -- ---- heads
@@ -276,7 +280,8 @@ module _ (l : List ℕ) (z : length l ≡ imageLength) (f : Room (foldedOf l) (l
       let m = putHeadAt l committedAt h in
       let o : Outside l m committedAt (committedAt + headSize) = head-outside committedAt h in
       in-committed m (wider l m _ _ _ _ o (omega arith) (omega arith)) _
-      (same-part (headAt m committedAt) (tableOf m ofCommitted) h (tableOf l ofCommitted) (head-same committedAt h k (omega arith)) (table-kept l m _ _ o ofCommitted (inr (omega arith))))
+      (same-ledger (headAt m committedAt) (tableOf m ofCommitted) (tableOf m ofOwners) h (tableOf l ofCommitted) (tableOf l ofOwners)
+      (head-same committedAt h k (omega arith)) (table-kept l m _ _ o ofCommitted (inr (omega arith))) (table-kept l m _ _ o ofOwners (inr (omega arith))))
 
   shown-applied : (h : Head) → SizedHead h → view (write l (appliedHead h)) ≡ after (view l) (appliedHead h)
   unfolding write after view
@@ -309,7 +314,14 @@ module _ (l : List ℕ) (z : length l ≡ imageLength) (f : Room (foldedOf l) (l
       let m = putField l (valuesAt ofCommitted + 2 * p) 2 v in
       let o : Outside l m (valuesAt ofCommitted) (valuesAt ofCommitted + tableSize) = value-outside ofCommitted p v h in
       in-committed m (wider l m _ _ _ _ o (omega arith) (omega arith)) _
-      (same-part (headAt m committedAt) (tableOf m ofCommitted) (headAt l committedAt) (set (tableOf l ofCommitted) p v) (head-kept l m _ _ o committedAt (inl (omega arith))) (value-same ofCommitted p v h k (omega arith)))
+      (same-ledger (headAt m committedAt) (tableOf m ofCommitted) (tableOf m ofOwners) (headAt l committedAt) (set (tableOf l ofCommitted) p v) (tableOf l ofOwners)
+      (head-kept l m _ _ o committedAt (inl (omega arith))) (value-same ofCommitted p v h k (omega arith)) (table-kept l m _ _ o ofOwners (inr (omega arith))))
+  value-in ofOwners p v k h =
+      let m = putField l (valuesAt ofOwners + 2 * p) 2 v in
+      let o : Outside l m (valuesAt ofOwners) (valuesAt ofOwners + tableSize) = value-outside ofOwners p v h in
+      in-committed m (wider l m _ _ _ _ o (omega arith) (omega arith)) _
+      (same-ledger (headAt m committedAt) (tableOf m ofCommitted) (tableOf m ofOwners) (headAt l committedAt) (tableOf l ofCommitted) (set (tableOf l ofOwners) p v)
+      (head-kept l m _ _ o committedAt (inl (omega arith))) (table-kept l m _ _ o ofCommitted (inl (omega arith))) (value-same ofOwners p v h k (omega arith)))
   value-in ofApplied p v k h =
       let m = putField l (valuesAt ofApplied + 2 * p) 2 v in
       let o : Outside l m (valuesAt ofApplied) (valuesAt ofApplied + tableSize) = value-outside ofApplied p v h in
@@ -330,7 +342,9 @@ module _ (l : List ℕ) (z : length l ≡ imageLength) (f : Room (foldedOf l) (l
   value-out : (b : Table) (p v : ℕ) → 32 ≤ p → view l ≡ afterValue (view l) b p v
   unfolding view
   value-out ofCommitted p v h = let e : tableOf l ofCommitted ≡ set (tableOf l ofCommitted) p v = sym (set-out (tableOf l ofCommitted) p v (omega (arith, length-table l ofCommitted))) in
-      ap (λ (x : List ℕ). withCommitted (view l) (record { head = headAt l committedAt; values = x })) e
+      ap (λ (x : List ℕ). withCommitted (view l) (record { head = headAt l committedAt; values = x; owners = tableOf l ofOwners })) e
+  value-out ofOwners p v h = let e : tableOf l ofOwners ≡ set (tableOf l ofOwners) p v = sym (set-out (tableOf l ofOwners) p v (omega (arith, length-table l ofOwners))) in
+      ap (λ (x : List ℕ). withCommitted (view l) (record { head = headAt l committedAt; values = tableOf l ofCommitted; owners = x })) e
   value-out ofApplied p v h = let e : tableOf l ofApplied ≡ set (tableOf l ofApplied) p v = sym (set-out (tableOf l ofApplied) p v (omega (arith, length-table l ofApplied))) in
       ap (λ (x : List ℕ). withApplied (view l) (record { head = headAt l appliedAt; values = x })) e
   value-out ofTarget p v h = let e : tableOf l ofTarget ≡ set (tableOf l ofTarget) p v = sym (set-out (tableOf l ofTarget) p v (omega (arith, length-table l ofTarget))) in
@@ -471,6 +485,8 @@ module _ (l : List ℕ) (z : length l ≡ imageLength) (f : Room (foldedOf l) (l
   ends-value b p v false e = (refl, refl)
   ends-value ofCommitted p v true e =
       ends-kept l (putField l (valuesAt ofCommitted + 2 * p) 2 v) _ _ (value-outside ofCommitted p v (ltb-true p 32 e)) (omega arith) (omega arith)
+  ends-value ofOwners p v true e =
+      ends-kept l (putField l (valuesAt ofOwners + 2 * p) 2 v) _ _ (value-outside ofOwners p v (ltb-true p 32 e)) (omega arith) (omega arith)
   ends-value ofApplied p v true e =
       ends-kept l (putField l (valuesAt ofApplied + 2 * p) 2 v) _ _ (value-outside ofApplied p v (ltb-true p 32 e)) (omega arith) (omega arith)
   ends-value ofTarget p v true e =

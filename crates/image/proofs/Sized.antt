@@ -79,6 +79,7 @@ pub record SizedEntry (t : Transaction) : Type 0 where
   pub paths : Four 256 (t .paths)
   pub values : Four 65536 (t .values)
   pub kept : Four 65536 (t .kept)
+  pub owners : Four 65536 (t .owners)
 
 pub record SizedHead (h : Head) : Type 0 where
   pub index : h .index .0 < 65536
@@ -136,7 +137,19 @@ entry-room t h =
                                     h .values .small 2,
                                     (
                                       h .values .small 3,
-                                      (h .kept .small 0, (h .kept .small 1, (h .kept .small 2, (h .kept .small 3, tt)))),
+                                      (
+                                        h .kept .small 0,
+                                        (
+                                          h .kept .small 1,
+                                          (
+                                            h .kept .small 2,
+                                            (
+                                              h .kept .small 3,
+                                              (h .owners .small 0, (h .owners .small 1, (h .owners .small 2, (h .owners .small 3, tt)))),
+                                            ),
+                                          ),
+                                        ),
+                                      ),
                                     ),
                                   ),
                                 ),
@@ -177,8 +190,8 @@ pub table-room : (vs : List ℕ) → SizedTable vs → Fit tableWidths vs
 table-room vs h = twos-room 32 vs (h .size) (h .small)
 
 -- ---- there and back
-make : Transaction → Status → Status → Status → Status → List ℕ → List ℕ → List ℕ → Transaction
-make t a b d e p v r =
+make : Transaction → Status → Status → Status → Status → List ℕ → List ℕ → List ℕ → List ℕ → Transaction
+make t a b d e p v r w =
     record {
       phase = t .phase;
       count = t .count;
@@ -188,19 +201,20 @@ make t a b d e p v r =
       rollback = record { commit = d; apply = e; ordinal = t .rollback .ordinal };
       index = t .index;
       kept = r;
+      owners = w;
     }
 
-made : (t : Transaction) (a b d e : Status) (p v r : List ℕ) → a ≡ t .change .commit → b ≡ t .change .apply → d ≡ t .rollback .commit
-    → e ≡ t .rollback .apply → t .paths ≡ p → t .values ≡ v → t .kept ≡ r → make t a b d e p v r ≡ t
+made : (t : Transaction) (a b d e : Status) (p v r w : List ℕ) → a ≡ t .change .commit → b ≡ t .change .apply → d ≡ t .rollback .commit
+    → e ≡ t .rollback .apply → t .paths ≡ p → t .values ≡ v → t .kept ≡ r → t .owners ≡ w → make t a b d e p v r w ≡ t
 unfolding make
-made t a b d e p v r q1 q2 q3 q4 q5 q6 q7 = simp (q1, q2, q3, q4, ← q5, ← q6, ← q7)
+made t a b d e p v r w q1 q2 q3 q4 q5 q6 q7 q8 = simp (q1, q2, q3, q4, ← q5, ← q6, ← q7, ← q8)
 
 pub entry-back : (t : Transaction) → SizedEntry t → toEntry (entryNumbers t) ≡ t
 unfolding make
 entry-back t h =
-    made t _ _ _ _ (quad (t .paths)) (quad (t .values)) (quad (t .kept)) (status-code (t .change .commit)) (status-code (t .change .apply))
+    made t _ _ _ _ (quad (t .paths)) (quad (t .values)) (quad (t .kept)) (quad (t .owners)) (status-code (t .change .commit)) (status-code (t .change .apply))
     (status-code (t .rollback .commit)) (status-code (t .rollback .apply)) (quad-all (t .paths) (h .paths .size)) (quad-all (t .values) (h .values .size))
-    (quad-all (t .kept) (h .kept .size))
+    (quad-all (t .kept) (h .kept .size)) (quad-all (t .owners) (h .owners .size))
 
 configured : (g : Configuration) (s : Progress) → s ≡ g .state → _≡_ {A = Configuration} (record { state = s; term = g .term }) g
 configured g s e = rw e

@@ -5,9 +5,9 @@ use mathlib.Core.List.{List}
 use mathlib.Core.Bool.{Bool, true, _&&_}
 use lib.Dec.{eqb, leb, ltb}
 use lib.ListN.{length}
-use Rattle.fields.specs.Field.{field, fieldsAt, ones}
-use Rattle.machine.specs.WellFormed.{pairsOk, wellFormed}
-use Rattle.image.specs.Layout.{highestOrdinal, placeOf, changeApplyIn, rollbackCommitIn, rollbackApplyIn, phaseIn, countIn, indexIn, changeOrdinalIn, rollbackOrdinalIn, pathsIn, configurationAt, targetAt, runningIn, connectedAt, imageLength}
+use Rattle.fields.specs.Field.{field, fieldsAt, ones, twos}
+use Rattle.machine.specs.WellFormed.{pairsOk, recallsOk, wellFormed}
+use Rattle.image.specs.Layout.{highestOrdinal, placeOf, changeApplyIn, rollbackCommitIn, rollbackApplyIn, phaseIn, countIn, indexIn, changeOrdinalIn, rollbackOrdinalIn, pathsIn, ownersIn, configurationAt, targetAt, runningIn, connectedAt, imageLength}
 use Rattle.image.specs.Records.{lastOf, foldedOf}
 use Rattle.image.specs.View.{view}
 
@@ -46,11 +46,12 @@ unfoldable pub formed : List ℕ → Bool
 formed l = eqb (length l) imageLength && (codesOk l && wellFormed (view l))
 
 -- ---- the same, in the order of the scan (that it is the same: proofs/Scanned)
--- the phase, r.index and the two ordinals of entry n at a place
+-- the phase, r.index, the owners remembered and the two ordinals of entry n at a place
 unfoldable pub marksOk : List ℕ → ℕ → ℕ → Bool
 marksOk l at n =
     (leb 1 (field l (at + phaseIn) 1) && leb (field l (at + phaseIn) 1) 2)
-    && (ltb (field l (at + indexIn) 2) n && (leb (field l (at + changeOrdinalIn) 4) highestOrdinal && leb (field l (at + rollbackOrdinalIn) 4) highestOrdinal))
+    && ((ltb (field l (at + indexIn) 2) n && recallsOk n (fieldsAt l (at + ownersIn) twos))
+    && (leb (field l (at + changeOrdinalIn) 4) highestOrdinal && leb (field l (at + rollbackOrdinalIn) 4) highestOrdinal))
 
 -- all that is asked of entry n
 unfoldable pub entryFormed : List ℕ → ℕ → Bool

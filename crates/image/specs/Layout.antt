@@ -5,7 +5,7 @@ use mathlib.Core.Bool.{cond}
 use lib.Dec.{eqb}
 use lib.ListN.{replicate}
 use Rattle.fields.specs.Field.{ones, twos, total}
-use Rattle.machine.specs.Stores.{Table, ofCommitted, ofApplied, ofTarget, ofBase}
+use Rattle.machine.specs.Stores.{Table, ofCommitted, ofApplied, ofTarget, ofBase, ofOwners}
 
 -- ---- the widths of each record's numbers
 -- c.commit, c.apply, r.commit, r.apply, phase, number of pairs
@@ -16,9 +16,9 @@ codeWidths = 1 ∷ 1 ∷ 1 ∷ 1 ∷ 1 ∷ 1 ∷ []
 abbrev pub markWidths : List ℕ
 markWidths = 2 ∷ 4 ∷ 4 ∷ []
 
--- the codes, the marks, four paths, four values, four r.values
+-- the codes, the marks, four paths, four values, four r.values, four owners remembered
 abbrev pub entryWidths : List ℕ
-entryWidths = codeWidths ++ (markWidths ++ (ones ++ (twos ++ twos)))
+entryWidths = codeWidths ++ (markWidths ++ (ones ++ (twos ++ (twos ++ twos))))
 
 -- index, target, revision, ordinal
 abbrev pub headWidths : List ℕ
@@ -117,6 +117,9 @@ valuesIn = pathsIn + total ones
 abbrev pub keptIn : ℕ
 keptIn = valuesIn + total twos
 
+abbrev pub ownersIn : ℕ
+ownersIn = keptIn + total twos
+
 -- ---- in a head, after its index; in a table of values; in a node's connection, after its id
 abbrev pub targetIn : ℕ
 targetIn = 2
@@ -161,9 +164,9 @@ changeAt = lastAt + numberSize
 abbrev pub committedAt : ℕ
 committedAt = changeAt + numberSize
 
--- a head, then its 32 values
+-- a head, then its 32 values; Committed's are followed by the 32 owners
 abbrev pub appliedAt : ℕ
-appliedAt = committedAt + headSize + tableSize
+appliedAt = committedAt + headSize + tableSize + tableSize
 
 abbrev pub targetValuesAt : ℕ
 targetValuesAt = appliedAt + headSize + tableSize
@@ -189,12 +192,13 @@ valuesAt ofCommitted = committedAt + headSize
 valuesAt ofApplied = appliedAt + headSize
 valuesAt ofTarget = targetValuesAt
 valuesAt ofBase = foldedAt + numberSize
+valuesAt ofOwners = committedAt + headSize + tableSize
 
 -- the same by a table's number, as it is read: 1 Committed's, 2 Applied's, 3 the target's, 4 the base
 unfoldable pub tablePlace : ℕ → ℕ
 tablePlace b = cond (eqb b 1) (valuesAt ofCommitted) (cond (eqb b 2) (valuesAt ofApplied) (cond (eqb b 3) (valuesAt ofTarget) (valuesAt ofBase)))
 
--- 4,949
+-- 6,037
 abbrev pub imageLength : ℕ
 imageLength = valuesAt ofBase + tableSize
 
@@ -212,7 +216,7 @@ limits = slots ∷ highest ∷ highestOrdinal ∷ []
 abbrev pub entryPlaces : List ℕ
 entryPlaces =
     applyIn ∷ changeApplyIn ∷ rollbackCommitIn ∷ rollbackApplyIn ∷ phaseIn ∷ countIn ∷ indexIn ∷ changeOrdinalIn ∷ rollbackOrdinalIn
-    ∷ pathsIn ∷ (pathsIn + 1) ∷ (pathsIn + 2) ∷ valuesIn ∷ keptIn ∷ stride ∷ []
+    ∷ pathsIn ∷ (pathsIn + 1) ∷ (pathsIn + 2) ∷ valuesIn ∷ keptIn ∷ ownersIn ∷ stride ∷ []
 
 abbrev pub headPlaces : List ℕ
 headPlaces =
@@ -220,8 +224,8 @@ headPlaces =
 
 abbrev pub places : List ℕ
 places =
-    numberSize ∷ lastAt ∷ changeAt ∷ committedAt ∷ (committedAt + revisionIn) ∷ valuesAt ofCommitted ∷ appliedAt ∷ (appliedAt + ordinalIn)
-    ∷ valuesAt ofApplied ∷ valuesAt ofTarget ∷ configurationAt ∷ (configurationAt + 1) ∷ mastershipAt ∷ (mastershipAt + 1) ∷ (mastershipAt + 5)
+    numberSize ∷ lastAt ∷ changeAt ∷ committedAt ∷ (committedAt + revisionIn) ∷ valuesAt ofCommitted ∷ valuesAt ofOwners ∷ appliedAt
+    ∷ (appliedAt + ordinalIn) ∷ valuesAt ofApplied ∷ valuesAt ofTarget ∷ configurationAt ∷ (configurationAt + 1) ∷ mastershipAt ∷ (mastershipAt + 1) ∷ (mastershipAt + 5)
     ∷ targetAt ∷ (targetAt + runningIn) ∷ connectionsAt ∷ foldedAt ∷ valuesAt ofBase ∷ imageLength ∷ []
 
 abbrev pub nodePlaces : List ℕ

@@ -33,7 +33,7 @@ abbrev pub marks : Transaction → List ℕ
 marks t = t .index .0 ∷ t .change .ordinal .0 ∷ t .rollback .ordinal .0 ∷ []
 
 abbrev pub entryNumbers : Transaction → List ℕ
-entryNumbers t = codes t ++ (marks t ++ (quad (t .paths) ++ (quad (t .values) ++ quad (t .kept))))
+entryNumbers t = codes t ++ (marks t ++ (quad (t .paths) ++ (quad (t .values) ++ (quad (t .kept) ++ quad (t .owners)))))
 
 abbrev pub toEntry : List ℕ → Transaction
 toEntry l =
@@ -46,6 +46,7 @@ toEntry l =
       rollback = record { commit = statusOf (getD l 2 0); apply = statusOf (getD l 3 0); ordinal = ord (getD l 8 0) };
       index = num (getD l 6 0);
       kept = take 4 (drop 17 l);
+      owners = take 4 (drop 21 l);
     }
 
 -- one side, its statuses at a place and its ordinal at another

@@ -6,8 +6,8 @@ use lib.Dec.{ltb}
 use Rattle.kinds.specs.declared.Transaction.{Transaction}
 use Rattle.kinds.specs.Numbers.{num}
 use Rattle.fields.specs.Field.{putField, fieldsAt, putFields}
-use Rattle.machine.specs.State.{Part, Net, Log, State}
-use Rattle.machine.specs.Stores.{Table, ofCommitted, ofApplied, ofTarget, ofBase, Store, grow, entry, fold, change, committedHead, appliedHead, value, targetValues, configuration, mastership, connections, target}
+use Rattle.machine.specs.State.{Part, Ledger, Net, Log, State}
+use Rattle.machine.specs.Stores.{Table, ofCommitted, ofApplied, ofTarget, ofBase, ofOwners, Store, grow, entry, fold, change, committedHead, appliedHead, value, targetValues, configuration, mastership, connections, target}
 use Rattle.image.specs.Layout.{tableLength, valueSize, tableWidths, lastAt, changeAt, committedAt, appliedAt, foldedAt, valuesAt, numberSize}
 use Rattle.image.specs.Records.{entryAt, putEntryAt, lastOf, foldedOf, changeOf, headAt, putHeadAt, configurationOf, putConfiguration, mastershipOf, putMastership, targetOf, putTarget, connectionsOf, putConnections}
 
@@ -20,12 +20,15 @@ upTo f (suc n) = upTo f n ++ (f (suc n) ∷ [])
 abbrev pub upFrom : {A : Type 0} → (ℕ → A) → ℕ → ℕ → List A
 upFrom f b n = upTo (λ j. f (b + j)) (n - b)
 
--- a table of 32 values
+-- a table of 32
 unfoldable pub tableOf : List ℕ → Table → List ℕ
 tableOf l b = fieldsAt l (valuesAt b) tableWidths
 
 abbrev pub partOf : List ℕ → ℕ → Table → Part
 partOf l at b = record { head = headAt l at; values = tableOf l b }
+
+abbrev pub ledgerOf : List ℕ → Ledger
+ledgerOf l = record { head = headAt l committedAt; values = tableOf l ofCommitted; owners = tableOf l ofOwners }
 
 abbrev pub netOf : List ℕ → Net
 netOf l =
@@ -49,7 +52,7 @@ view l =
     record {
       log = logOf l;
       change = num (changeOf l);
-      committed = partOf l committedAt ofCommitted;
+      committed = ledgerOf l;
       applied = partOf l appliedAt ofApplied;
       net = netOf l;
     }

@@ -14,6 +14,7 @@ use crate::layout::COUNT_IN;
 use crate::layout::INDEX_IN;
 use crate::layout::KEPT_IN;
 use crate::layout::LAST_AT;
+use crate::layout::OWNERS_IN;
 use crate::layout::PATHS_IN;
 use crate::layout::PHASE_IN;
 use crate::layout::RING;
@@ -81,6 +82,7 @@ pub fn load_entry(s: &[u8], n: u16) -> Transaction
     let paths = get_ones(s, at + PATHS_IN);
     let values = get_twos(s, at + VALUES_IN);
     let kept = get_twos(s, at + KEPT_IN);
+    let owners = get_twos(s, at + OWNERS_IN);
     Transaction {
         phase,
         count,
@@ -90,6 +92,7 @@ pub fn load_entry(s: &[u8], n: u16) -> Transaction
         rollback,
         index,
         kept,
+        owners,
     }
 }
 
@@ -147,11 +150,13 @@ pub fn store_entry(s: &mut [u8], n: u16, t: Transaction)
     let paths = t.paths;
     let values = t.values;
     let kept = t.kept;
+    let owners = t.owners;
     store_codes(s, at, t);
     store_marks(s, at, t);
     put_ones(s, at + PATHS_IN, paths);
     put_twos(s, at + VALUES_IN, values);
     put_twos(s, at + KEPT_IN, kept);
+    put_twos(s, at + OWNERS_IN, owners);
 }
 
 // One entry more, where the highest number given is n.

@@ -5,11 +5,12 @@ ghost use mathlib.Core.Bool.{_&&_};
 ghost use Prim.Native.Nat.{_+_, _-_, _%_, _≤_, _<_};
 ghost use lib.ListN.{length};
 ghost use lib.Dec.{ltb};
-ghost use Rattle.fields.specs.Field.{field, fieldsAt, ones};
-ghost use Rattle.machine.specs.WellFormed.{pairsOk, headOk, headsOk};
-ghost use Rattle.image.specs.Layout.{placeOf, slots, highest, stride, countIn, pathsIn, headSize, imageLength};
+ghost use Rattle.fields.specs.Field.{field, fieldsAt, ones, twos};
+ghost use Rattle.machine.specs.WellFormed.{pairsOk, recallsOk, allAtMost, headOk, headsOk};
+ghost use Rattle.machine.specs.Stores.{ofOwners};
+ghost use Rattle.image.specs.Layout.{placeOf, slots, highest, stride, countIn, pathsIn, ownersIn, headSize, imageLength};
 ghost use Rattle.image.specs.Records.{headAt};
-ghost use Rattle.image.specs.View.{view};
+ghost use Rattle.image.specs.View.{tableOf, view};
 ghost use Rattle.image.specs.Formed.{allKept, statusesOk, marksOk, flagsOk, entryFormed};
 ghost use Rattle.image.specs.Promises.{TellsFormed};
 use crate::entry::place_of;
@@ -36,6 +37,8 @@ use crate::layout::INDEX_IN;
 use crate::layout::LAST_AT;
 use crate::layout::MASTERSHIP_AT;
 use crate::layout::ORDINAL_IN;
+use crate::layout::OWNERS_AT;
+use crate::layout::OWNERS_IN;
 use crate::layout::PATHS_IN;
 use crate::layout::PHASE_IN;
 use crate::layout::REVISION_IN;
@@ -47,8 +50,11 @@ use crate::layout::RUNNING_AT;
 use crate::layout::SECOND_PATH_IN;
 use crate::layout::SLOTS;
 use crate::layout::STRIDE;
+use crate::layout::TABLE_LENGTH;
 use crate::layout::TARGET_IN;
 use crate::layout::THIRD_PATH_IN;
+use crate::layout::VALUE_SIZE;
+use fields::get_twos;
 use fields::get1;
 use fields::get2;
 use fields::get4;
@@ -70,9 +76,19 @@ fn statuses_formed(s: &[u8], at: usize) -> bool
     get1(s, at + ROLLBACK_APPLY_IN) <= 6
 }
 
-// The phase, r.index and the two ordinals of entry n at a place.
+// The owners that entry n at a place remembers.
+fn recalls_formed(s: &[u8], at: usize, n: usize) -> bool
+    requires { ⌜ (n ≤ highest) × (at + stride ≤ length (now s)) ⌝ }
+    ensures { λ r. ⌜ r ≡ recallsOk n (fieldsAt (now (s .entry)) (at + ownersIn) twos) ⌝ }
+{
+    let i = n as u16;
+    let o = get_twos(s, at + OWNERS_IN);
+    ((o[0] < i) & (o[1] < i)) & ((o[2] < i) & (o[3] < i))
+}
+
+// The phase, r.index, the owners remembered and the two ordinals of entry n at a place.
 fn marks_formed(s: &[u8], at: usize, n: usize) -> bool
-    requires { ⌜ at + stride ≤ length (now s) ⌝ }
+    requires { ⌜ (n ≤ highest) × (at + stride ≤ length (now s)) ⌝ }
     ensures { λ r. ⌜ r ≡ marksOk (now (s .entry)) at n ⌝ }
 {
     let phase = get1(s, at + PHASE_IN);
@@ -86,10 +102,13 @@ fn marks_formed(s: &[u8], at: usize, n: usize) -> bool
     if n <= index {
         return false;
     }
-    if HIGHEST_ORDINAL < get4(s, at + CHANGE_ORDINAL_IN) {
-        return false;
+    if recalls_formed(s, at, n) {
+        if HIGHEST_ORDINAL < get4(s, at + CHANGE_ORDINAL_IN) {
+            return false;
+        }
+        return get4(s, at + ROLLBACK_ORDINAL_IN) <= HIGHEST_ORDINAL;
     }
-    get4(s, at + ROLLBACK_ORDINAL_IN) <= HIGHEST_ORDINAL
+    false
 }
 
 // Whether the second of the two paths at a place is above the first and below 32.
@@ -140,7 +159,7 @@ fn pairs_formed(s: &[u8], at: usize) -> bool
 
 // Entry n, at its place.
 fn entry_formed(s: &[u8], at: usize, n: usize) -> bool
-    requires { ⌜ (at ≡ placeOf n) × (length (now s) ≡ imageLength) ⌝ }
+    requires { ⌜ (at ≡ placeOf n) × ((n ≤ highest) × (length (now s) ≡ imageLength)) ⌝ }
     ensures { λ r. ⌜ r ≡ entryFormed (now (s .entry)) n ⌝ }
 {
     if statuses_formed(s, at) {
@@ -196,7 +215,22 @@ fn head_formed(s: &[u8], at: usize, n: u16) -> bool
     ((i <= n) & ((t <= n) & (v <= n))) & (o <= HIGHEST_ORDINAL)
 }
 
-// The two heads, Committed's change and the master, where the highest number given is n.
+// Whether each owner is at most n. No test in the loop but its own, so that a machine makes many of them at once.
+fn owners_formed(s: &[u8], n: u16) -> bool
+    requires { ⌜ length (now s) ≡ imageLength ⌝ }
+    ensures { λ r. ⌜ r ≡ allAtMost n (tableOf (now (s .entry)) ofOwners) ⌝ }
+{
+    let mut ok = true;
+    let mut k: usize = 0;
+    while k < TABLE_LENGTH {
+        let owner = get2(s, OWNERS_AT + VALUE_SIZE * k);
+        ok = ok & (owner <= n);
+        k += 1;
+    }
+    ok
+}
+
+// The two heads, Committed's change, the owners and the master, where the highest number given is n.
 fn heads_formed(s: &[u8], n: u16) -> bool
     requires { ⌜ length (now s) ≡ imageLength ⌝ }
     ensures { λ r. ⌜ r ≡ headsOk (view (now (s .entry))) n ⌝ }
@@ -205,8 +239,9 @@ fn heads_formed(s: &[u8], n: u16) -> bool
     let applied = head_formed(s, APPLIED_AT, n);
     let change = get2(s, CHANGE_AT);
     let revision = get2(s, COMMITTED_REVISION_AT);
+    let owners = owners_formed(s, change);
     let master = get1(s, MASTERSHIP_AT);
-    (committed & applied) & (((change <= n) & (revision <= change)) & (master <= 8))
+    (committed & applied) & (((change <= n) & ((revision <= change) & owners)) & (master <= 8))
 }
 
 // The configuration's state, and the flags of the target and the nodes.

@@ -8,14 +8,14 @@ pub const SLOTS: u16 = 128;
 
 pub const RING: usize = SLOTS as usize;
 
-pub const STRIDE: usize = KEPT_IN + 8;
+pub const STRIDE: usize = OWNERS_IN + 8;
 
 pub const HIGHEST: u16 = 65535;
 
 pub const HIGHEST_ORDINAL: u32 = 131070;
 
 // ---- in an entry, after c.commit: the other statuses (apply next to commit), the phase, the number of pairs, r.index, the
-// ordinals, the pairs
+// ordinals, the pairs, r.values, the owners remembered
 pub const APPLY_IN: usize = 1;
 
 pub const CHANGE_APPLY_IN: usize = APPLY_IN;
@@ -43,6 +43,8 @@ pub const THIRD_PATH_IN: usize = PATHS_IN + 2;
 pub const VALUES_IN: usize = PATHS_IN + 4;
 
 pub const KEPT_IN: usize = VALUES_IN + 8;
+
+pub const OWNERS_IN: usize = KEPT_IN + 8;
 
 // ---- in a head, after its index; in a table of values; in a node's connection, after its id
 pub const TARGET_IN: usize = NUMBER_SIZE;
@@ -80,7 +82,9 @@ pub const COMMITTED_REVISION_AT: usize = COMMITTED_AT + REVISION_IN;
 
 pub const COMMITTED_VALUES_AT: usize = COMMITTED_AT + HEAD_SIZE;
 
-pub const APPLIED_AT: usize = COMMITTED_VALUES_AT + TABLE_SIZE;
+pub const OWNERS_AT: usize = COMMITTED_VALUES_AT + TABLE_SIZE;
+
+pub const APPLIED_AT: usize = OWNERS_AT + TABLE_SIZE;
 
 pub const APPLIED_ORDINAL_AT: usize = APPLIED_AT + ORDINAL_IN;
 
@@ -149,7 +153,7 @@ fn limits() -> [u32; 3]
     [SLOTS as u32, HIGHEST as u32, HIGHEST_ORDINAL]
 }
 
-fn entry_places() -> [usize; 15]
+fn entry_places() -> [usize; 16]
     ensures { λ r. ⌜ r ≡ entryPlaces ⌝ }
 {
     [
@@ -167,6 +171,7 @@ fn entry_places() -> [usize; 15]
         THIRD_PATH_IN,
         VALUES_IN,
         KEPT_IN,
+        OWNERS_IN,
         STRIDE,
     ]
 }
@@ -189,7 +194,7 @@ fn head_places() -> [usize; 11]
     ]
 }
 
-fn places() -> [usize; 21]
+fn places() -> [usize; 22]
     ensures { λ r. ⌜ r ≡ places ⌝ }
 {
     [
@@ -199,6 +204,7 @@ fn places() -> [usize; 21]
         COMMITTED_AT,
         COMMITTED_REVISION_AT,
         COMMITTED_VALUES_AT,
+        OWNERS_AT,
         APPLIED_AT,
         APPLIED_ORDINAL_AT,
         APPLIED_VALUES_AT,

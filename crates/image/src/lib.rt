@@ -21,6 +21,7 @@ pub use layout::COMMITTED_AT;
 pub use layout::COMMITTED_VALUES_AT;
 pub use layout::HIGHEST;
 pub use layout::IMAGE_LENGTH;
+pub use layout::OWNERS_AT;
 pub use layout::RING;
 pub use layout::SLOTS;
 pub use layout::TARGET_VALUES_AT;

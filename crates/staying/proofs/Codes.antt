@@ -19,7 +19,7 @@ use Rattle.fields.specs.Field.{field, putField, fieldsAt, putFields, total}
 use Rattle.fields.proofs.Laws.{Outside, put-outside}
 use Rattle.fields.proofs.Runs.{Fit, puts-outside, puts-same, fields-kept}
 use Rattle.machine.proofs.Entries.{and-both}
-use Rattle.machine.specs.Stores.{Table, ofCommitted, ofApplied, ofTarget, ofBase, Store, grow, entry, fold, change, committedHead, appliedHead, value, targetValues, configuration, mastership, connections, target}
+use Rattle.machine.specs.Stores.{Table, ofCommitted, ofApplied, ofTarget, ofBase, ofOwners, Store, grow, entry, fold, change, committedHead, appliedHead, value, targetValues, configuration, mastership, connections, target}
 use Rattle.image.specs.Layout.{entryWidths, headWidths, tableWidths, configurationWidths, mastershipWidths, targetWidths, connectionsWidths, placeOf, lastAt, changeAt, committedAt, appliedAt, valuesAt, configurationAt, mastershipAt, targetAt, connectionsAt, foldedAt, imageLength, slots, highest, stride, valueSize, tableLength, connectionsSize, numberSize}
 use Rattle.image.specs.Records.{flagCode, entryNumbers, putEntryAt, lastOf, foldedOf, headNumbers, putHeadAt, configurationNumbers, putConfiguration, mastershipNumbers, putMastership, targetNumbers, putTarget, connectionsNumbers, eight, putConnections}
 use Rattle.image.specs.View.{write, written}
@@ -202,6 +202,7 @@ module _ (l : List ℕ) (z : length l ≡ imageLength) (f : Room (foldedOf l) (l
 
   value-codes : (x : Bool) (b : Table) (p v : ℕ) → ltb p tableLength ≡ x → Codes (cond x (putField l (valuesAt b + valueSize * p) valueSize v) l)
   value-codes true ofCommitted p v e = put-codes _ v (omega arith) (omega (arith, ltb-true p tableLength e))
+  value-codes true ofOwners p v e = put-codes _ v (omega arith) (omega (arith, ltb-true p tableLength e))
   value-codes true ofApplied p v e = put-codes _ v (omega arith) (omega (arith, ltb-true p tableLength e))
   value-codes true ofTarget p v e = put-codes _ v (omega arith) (omega (arith, ltb-true p tableLength e))
   value-codes true ofBase p v e = base-codes p v (ltb-true p tableLength e)

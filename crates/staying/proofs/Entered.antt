@@ -7,7 +7,7 @@ use native.Mathlib.Omega.{arith}
 use Rattle.kinds.specs.Numbers.{num}
 use Rattle.rules.specs.declared.Lay.the-variants.{Values, Kept}
 use Rattle.machine.specs.State.{State, last}
-use Rattle.machine.specs.Stores.{Store, ofCommitted, entry, change, committedHead}
+use Rattle.machine.specs.Stores.{Store, entry, change, committedHead}
 use Rattle.machine.specs.Calls.{Pair, validChange, appended}
 use Rattle.machine.specs.Entered.{changedEntry, changedHead, changeStores, newestIn, undoneEntry, undoneHead, undoStores}
 use Rattle.fields.proofs.Laws.{Bytes}
@@ -18,7 +18,7 @@ use Rattle.image.proofs.Scanned.{view-last, view-folded, formed-room}
 use Rattle.image.proofs.Sized.{SizedEntry, SizedHead}
 use Rattle.image.proofs.Shown.{FitsAll}
 use Rattle.staying.proofs.Sizes.{Sizes, sizes}
-use Rattle.staying.proofs.Rooms.{more, stills-fit, laid-still, next-small, present-small, appended-sized}
+use Rattle.staying.proofs.Rooms.{more, stills-fit, laid-owned-still, next-small, present-small, appended-sized}
 
 module _ (s : State) (f : Sizes s) where
   module _ (ps : List Pair) (v : validChange ps ≡ true) where
@@ -34,6 +34,7 @@ module _ (s : State) (f : Sizes s) where
           paths = a .paths;
           values = a .values;
           kept = present-small (s .committed .values) (appended ps) (f .committedValues);
+          owners = present-small (s .committed .owners) (appended ps) (f .owners);
         }
 
     change-fits : s .log .folded .0 ≡ 0 → last (s .log) < 128 → FitsAll (s .log .folded .0) (last (s .log)) (changeStores s ps)
@@ -44,7 +45,7 @@ module _ (s : State) (f : Sizes s) where
           stills-fit (s .log .folded .0) (last (s .log) + 1)
               (more {e = change (num (suc (last (s .log))))} (record { fits = i; fold = refl; last = refl })
               (more {e = committedHead (changedHead s)} (record { fits = h; fold = refl; last = refl })
-              (laid-still (s .log .folded .0) (last (s .log) + 1) ofCommitted Values (appended ps) (appended-sized ps v)))),
+              (laid-owned-still (s .log .folded .0) (last (s .log) + 1) Values (appended ps) (suc (last (s .log))) i (appended-sized ps v)))),
         )
 
   module _ (a : s .log .folded .0 < s .committed .head .revision .0) (b : s .committed .head .revision .0 ≤ last (s .log)) where
@@ -63,6 +64,7 @@ module _ (s : State) (f : Sizes s) where
           paths = t .paths;
           values = t .values;
           kept = t .kept;
+          owners = t .owners;
         }
 
     undo-fits : FitsAll (s .log .folded .0) (last (s .log)) (undoStores s)
@@ -73,7 +75,7 @@ module _ (s : State) (f : Sizes s) where
         stills-fit (s .log .folded .0) (last (s .log))
         (more {e = entry (s .committed .head .revision .0) (undoneEntry s)} (record { fits = (undone-sized, (a, b)); fold = refl; last = refl })
         (more {e = committedHead (undoneHead s)} (record { fits = h; fold = refl; last = refl })
-        (laid-still (s .log .folded .0) (last (s .log)) ofCommitted Kept (newestIn s) t)))
+        (laid-owned-still (s .log .folded .0) (last (s .log)) Kept (newestIn s) (s .committed .head .revision .0) (f .committed .revision) t)))
 
 -- ---- of an image
 module _ (l : List ℕ) (y : Bytes l) (w : formed l ≡ true) where

@@ -23,6 +23,7 @@ use Rattle.kinds.specs.declared.Target.{Target}
 use Rattle.kinds.specs.Numbers.{num, isFull, isLast, ordinalUnless, nextOrdinal, termUnless, nextTerm}
 use Rattle.kinds.specs.Records.{withChange, withRollback}
 use Rattle.rules.specs.declared.Plan.{Plan}
+use Rattle.rules.specs.declared.Present.{Present}
 use Rattle.rules.specs.declared.Lay.{Lay}
 use Rattle.rules.specs.declared.Lay.the-variants.{Nothing, Values, Kept}
 use Rattle.rules.specs.declared.Order.{Order}
@@ -41,11 +42,11 @@ use Rattle.rules.specs.CommitRollback as job3
 use Rattle.rules.specs.ApplyChange as job2
 use Rattle.rules.specs.ApplyRollback as job4
 use Rattle.rules.specs.Outside as outside
-use Rattle.machine.specs.State.{Log, State, entryOf, last, inLog, isKept, isNode, nodeOf, putNode, never, isMaster, reachesTarget, lineOpenFor}
+use Rattle.machine.specs.State.{Log, State, inEach, entryOf, last, inLog, isKept, isNode, nodeOf, putNode, never, isMaster, reachesTarget, lineOpenFor}
 use Rattle.machine.specs.Settled.{settled}
-use Rattle.machine.specs.Stores.{Table, ofCommitted, ofApplied, ofTarget, ofBase, Store, grow, entry, fold, value, targetValues, configuration, mastership, connections, target}
+use Rattle.machine.specs.Stores.{Table, ofCommitted, ofApplied, ofTarget, ofBase, ofOwners, Store, grow, entry, fold, value, targetValues, configuration, mastership, connections, target}
 use Rattle.machine.specs.Stores as store
-use Rattle.machine.specs.Rows.{layOne, layAt, overlay, laid, entryRow, changeRow, headRow, thenRow, rowsBy, rowsOf}
+use Rattle.machine.specs.Rows.{layOne, layAt, overlay, laid, owned, entryRow, changeRow, headRow, thenRow, rowsBy, rowsOf}
 use Rattle.machine.specs.WellFormed.{pairsOk}
 use Rattle.machine.specs.Rest.{restOf}
 use Rattle.machine.specs.LiveList.{hops, live}
@@ -54,7 +55,7 @@ use Rattle.machine.proofs.Kept as kept
 use Rattle.machine.proofs.Entries.{set-all}
 use Rattle.machine.proofs.Cases.{and-left, and-right, or-cases}
 use Rattle.machine.specs.Calls as calls
-use Rattle.machine.specs.Calls.{Pair, Call, Outcome, append, start, stop, connect, disconnect, master, sync, work, foldTo, unless, validChange, valuesOk, pathOf, valueOf, appended, presentOne, present, planOf, commits, workOk, copyRow, decide}
+use Rattle.machine.specs.Calls.{Pair, Call, Outcome, append, start, stop, connect, disconnect, master, sync, work, foldTo, unless, validChange, valuesOk, pathOf, valueOf, appended, presentOne, present, presentOf, planOf, commits, workOk, copyRow, decide}
 use Rattle.image.specs.Layout.{slots, highest, highestOrdinal}
 use Rattle.image.proofs.Sized.{Four, SizedEntry, SizedHead, SizedMastership, SizedTable, SizedConnections}
 use Rattle.image.proofs.Shown.{Fits, FitsAll, lastAfter, foldedAfter}
@@ -107,6 +108,15 @@ module _ (d n : ℕ) where
   laid-still b Values t h = overlay-still b (t .paths) (t .values) (t .count) (h .values .small)
   laid-still b Kept t h = overlay-still b (t .paths) (t .kept) (t .count) (h .kept .small)
 
+  owned-still : (v : Lay) (t : Transaction) (i : ℕ) → i < 65536 → SizedEntry t → Stills d n (owned v t i)
+  owned-still Nothing t i g h = none
+  owned-still Values t i g h = overlay-still ofOwners (t .paths) (inEach i) (t .count) (four 65536 i i i i g g g g .small)
+  owned-still Kept t i g h = overlay-still ofOwners (t .paths) (t .owners) (t .count) (h .owners .small)
+
+  -- both of a commit's tables
+  pub laid-owned-still : (v : Lay) (t : Transaction) (i : ℕ) → i < 65536 → SizedEntry t → Stills d n (laid ofCommitted v t ++ owned v t i)
+  laid-owned-still v t i g h = join d n (laid-still ofCommitted v t h) (owned-still v t i g h)
+
   module _ (i : ℕ) (one : d < i) (last : i ≤ n) (few : n ≤ highest) where
     entry-still : (p : Plan) → Roomy p → Stills d n (entryRow p i)
     entry-still p r = more {e = entry i (p .entry)} (record { fits = (r .entry, (one, last)); fold = refl; last = refl }) none
@@ -117,7 +127,7 @@ module _ (d n : ℕ) where
 
     head-still : (c : Bool) (p : Plan) → Roomy p → Stills d n (headRow c p i)
     head-still true p r =
-        more (record { fits = r .head; fold = refl; last = refl }) (join d n (change-still (p .change)) (laid-still ofCommitted (p .lay) (p .entry) (r .entry)))
+        more (record { fits = r .head; fold = refl; last = refl }) (join d n (change-still (p .change)) (laid-owned-still (p .lay) (p .entry) i (omega arith) (r .entry)))
     head-still false p r = more (record { fits = r .head; fold = refl; last = refl }) (laid-still ofApplied (p .lay) (p .entry) (r .entry))
 
     then-still : (cut : Bool) {a b : List Store} → Stills d n a → Stills d n b → Stills d n (thenRow cut a b)
@@ -145,18 +155,22 @@ next-small o h = go (isFull (o .0)) refl
     go true e = h
     go false e = omega (arith, leb-false highestOrdinal (o .0) e)
 
+record SizedPresent (p : Present) : Type 0 where
+  pub values : Four 65536 (p .values)
+  pub owners : Four 65536 (p .owners)
+
 module _ (t : Transaction) (h : Head) (i : ℕ) (f : SizedEntry t) (g : SizedHead h) (k : i < 65536) where
   changed : (x : Side) → x .ordinal .0 < 4294967296 → SizedEntry (withChange t x)
   changed x o =
-      record { phase = f .phase; count = f .count; index = f .index; changeOrdinal = o; rollbackOrdinal = f .rollbackOrdinal; paths = f .paths; values = f .values; kept = f .kept }
+      record { phase = f .phase; count = f .count; index = f .index; changeOrdinal = o; rollbackOrdinal = f .rollbackOrdinal; paths = f .paths; values = f .values; kept = f .kept; owners = f .owners }
 
   returned : (x : Side) → x .ordinal .0 < 4294967296 → SizedEntry (withRollback t x)
   returned x o =
-      record { phase = f .phase; count = f .count; index = f .index; changeOrdinal = f .changeOrdinal; rollbackOrdinal = o; paths = f .paths; values = f .values; kept = f .kept }
+      record { phase = f .phase; count = f .count; index = f .index; changeOrdinal = f .changeOrdinal; rollbackOrdinal = o; paths = f .paths; values = f .values; kept = f .kept; owners = f .owners }
 
-  begins : (vs : List ℕ) → Four 65536 vs → SizedEntry (job1.beginning t (h .revision) vs)
+  begins : (vs : Present) → SizedPresent vs → SizedEntry (job1.beginning t (h .revision) vs)
   begins vs v =
-      record { phase = f .phase; count = f .count; index = g .revision; changeOrdinal = f .changeOrdinal; rollbackOrdinal = f .rollbackOrdinal; paths = f .paths; values = f .values; kept = v }
+      record { phase = f .phase; count = f .count; index = g .revision; changeOrdinal = f .changeOrdinal; rollbackOrdinal = f .rollbackOrdinal; paths = f .paths; values = f .values; kept = v .values; owners = v .owners }
 
   aims : (aim : Number) → aim .0 < 65536 → SizedHead (aimed h aim)
   aims aim a = record { index = g .index; target = a; revision = g .revision; ordinal = g .ordinal }
@@ -171,7 +185,7 @@ module _ (t : Transaction) (h : Head) (i : ℕ) (f : SizedEntry t) (g : SizedHea
   closes aim o a b = record { index = k; target = a; revision = g .revision; ordinal = b }
 
   module _ (o : Ordinal) (b : o .0 < 4294967296) where
-    commit-change : (vs : List ℕ) → Four 65536 vs → (r : CommitChangeRule) → Roomy (job1.plans r t h (num i) o vs)
+    commit-change : (vs : Present) → SizedPresent vs → (r : CommitChangeRule) → Roomy (job1.plans r t h (num i) o vs)
     commit-change vs v change.Begin = record { entry = begins vs v; head = g }
     commit-change vs v change.Aim = record { entry = begins vs v; head = aims (num i) k }
     commit-change vs v change.Land = record { entry = changed _ b; head = lands (num i) o k b }
@@ -211,7 +225,7 @@ module _ (t : Transaction) (h : Head) (i : ℕ) (f : SizedEntry t) (g : SizedHea
   apply-rollback return.Rejected = record { entry = f; head = g }
   apply-rollback return.Wait = record { entry = f; head = g }
 
--- the present values of a change's paths
+-- the present values of a change's paths, or their owners
 pub present-small : (vs : List ℕ) (t : Transaction) → SizedTable vs → Four 65536 (present vs t)
 unfolding present
 present-small vs t h = four 65536 _ _ _ _ (one (ltb 0 (t .count)) _) (one (ltb 1 (t .count)) _) (one (ltb 2 (t .count)) _) (one (ltb 3 (t .count)) _)
@@ -259,6 +273,7 @@ appended-sized ps e =
     let p : pairsOk (length ps) (map pathOf ps) ≡ true = and-left _ _ e in
     let v : valuesOk ps ≡ true = and-right (pairsOk (length ps) (map pathOf ps)) _ e in
     let m : length (map pathOf ps) ≡ length ps = length-map ps pathOf in
+    let zeros : Four 65536 (replicate 4 0) = four 65536 0 0 0 0 (omega arith) (omega arith) (omega arith) (omega arith) in
     record {
       phase = omega arith;
       count = omega (arith, few-pairs (length ps) (map pathOf ps) p);
@@ -267,7 +282,8 @@ appended-sized ps e =
       rollbackOrdinal = omega arith;
       paths = paths-small (map pathOf ps) (rw m p);
       values = four 65536 _ _ _ _ (values-small ps v 0) (values-small ps v 1) (values-small ps v 2) (values-small ps v 3);
-      kept = four 65536 0 0 0 0 (omega arith) (omega arith) (omega arith) (omega arith);
+      kept = zeros;
+      owners = zeros;
     }
 
 -- ---- the nodes' side
@@ -394,7 +410,7 @@ module _ (s : State) (f : Sizes s) where
         let t = entryOf (s .log) i in
         let h = s .committed .head in
         commit-change t h i (f .entries i p q) (f .committed) short (nextOrdinal (h .ordinal)) (next-small (h .ordinal) (f .committed .ordinal))
-        (present (s .committed .values) t) (present-small (s .committed .values) t (f .committedValues))
+        (presentOf s t) (record { values = present-small (s .committed .values) t (f .committedValues); owners = present-small (s .committed .owners) t (f .owners) })
         (job1.rule (t .change .commit) (job1.tests h (s .change) (restOf s) (num i) ok))
 
     job2-roomy : (n : ℕ) (ok : Bool) → Roomy (calls.job2 s n i ok)
@@ -439,7 +455,7 @@ module _ (s : State) (f : Sizes s) where
   rolled-back : (i : ℕ) → s .log .folded .0 < i → i ≤ last (s .log) → SizedEntry (outside.rolledBack (entryOf (s .log) i))
   rolled-back i p q =
       let e = f .entries i p q in
-      record { phase = omega arith; count = e .count; index = e .index; changeOrdinal = e .changeOrdinal; rollbackOrdinal = e .rollbackOrdinal; paths = e .paths; values = e .values; kept = e .kept }
+      record { phase = omega arith; count = e .count; index = e .index; changeOrdinal = e .changeOrdinal; rollbackOrdinal = e .rollbackOrdinal; paths = e .paths; values = e .values; kept = e .kept; owners = e .owners }
 
   -- every call but append and fold leaves the last fold and the highest number, and what it stores has room
   pub decide-still : (c : Call) → isPlain c ≡ true → Stills (s .log .folded .0) (last (s .log)) (decide s c .stores)

@@ -16,7 +16,7 @@ use Rattle.kinds.specs.declared.Connection.{Connection}
 use Rattle.fields.specs.Field.{field, putField, fieldsAt, putFields, total}
 use Rattle.fields.proofs.Laws.{Bytes, put-back}
 use Rattle.machine.specs.State.{Log, State, entryOf, last, isNode, nodeOf}
-use Rattle.machine.specs.Stores.{Table, ofCommitted, ofApplied, ofTarget, ofBase, connections, after}
+use Rattle.machine.specs.Stores.{Table, ofCommitted, ofApplied, ofTarget, ofBase, ofOwners, connections, after}
 use Rattle.image.specs.Layout.{entryWidths, headWidths, tableWidths, configurationWidths, mastershipWidths, targetWidths, nodeWidths, connectionsWidths, placeOf, lastAt, changeAt, committedAt, appliedAt, valuesAt, configurationAt, mastershipAt, targetAt, connectionsAt, nodeAt, foldedAt, imageLength, stride, headSize, tableSize, nodeSize, numberSize}
 use Rattle.image.specs.Records.{entryNumbers, entryAt, putEntryAt, lastOf, foldedOf, changeOf, headNumbers, headAt, putHeadAt, configurationNumbers, configurationOf, putConfiguration, mastershipNumbers, mastershipOf, putMastership, targetNumbers, targetOf, putTarget, nodeNumbers, toNode, putNodeAt, connectionsNumbers, eight, connectionsOf, putConnections}
 use Rattle.image.specs.View.{tableOf, view}
@@ -171,12 +171,13 @@ module _ (l m : List ℕ) (y : Bytes l) (x : Bytes m) (u : formed l ≡ true) (w
           split j changeAt (λ a. in-last h a)
           (λ b. split j committedAt (λ a. in-change b a)
           (λ b. split j (committedAt + headSize) (λ a. in-head committedAt (ap (λ (s : State). s .committed .head) e) b a)
-          (λ b. split j appliedAt (λ a. in-table ofCommitted (ap (λ (s : State). s .committed .values) e) b a)
+          (λ b. split j (valuesAt ofOwners) (λ a. in-table ofCommitted (ap (λ (s : State). s .committed .values) e) b a)
+          (λ b. split j appliedAt (λ a. in-table ofOwners (ap (λ (s : State). s .committed .owners) e) b a)
           (λ b. split j (appliedAt + headSize) (λ a. in-head appliedAt (ap (λ (s : State). s .applied .head) e) b a)
           (λ b. split j (valuesAt ofTarget) (λ a. in-table ofApplied (ap (λ (s : State). s .applied .values) e) b a)
           (λ b. split j configurationAt (λ a. in-table ofTarget (ap (λ (s : State). s .net .values) e) b a)
           (λ b. split j mastershipAt (λ a. in-configuration b a)
-          (λ b. split j targetAt (λ a. in-mastership b a) (λ b. in-target b o)))))))))
+          (λ b. split j targetAt (λ a. in-mastership b a) (λ b. in-target b o))))))))))
 
       behind : foldedAt ≤ j → Same
       unfolding view after

@@ -9,7 +9,7 @@ use Rattle.fields.specs.Field.{field, fieldsAt}
 use Rattle.fields.proofs.Laws.{Bytes, field-lt}
 use Rattle.fields.proofs.Runs.{Fit, fields-fit, length-fields}
 use Rattle.machine.specs.State.{State, entryOf, last, never}
-use Rattle.machine.specs.Stores.{Table, ofCommitted, ofApplied}
+use Rattle.machine.specs.Stores.{Table, ofCommitted, ofApplied, ofOwners}
 use Rattle.image.specs.Layout.{tableWidths, nodeWidths, connectionsWidths, valuesAt, connectionsAt, committedAt, appliedAt}
 use Rattle.image.specs.Records.{entryAt, headAt, configurationOf, mastershipOf, targetOf, toConnections, connectionsOf}
 use Rattle.image.specs.View.{tableOf, view}
@@ -23,6 +23,7 @@ pub record Sizes (s : State) : Type 0 where
   pub entries : (i : ℕ) → s .log .folded .0 < i → i ≤ last (s .log) → SizedEntry (entryOf (s .log) i)
   pub committed : SizedHead (s .committed .head)
   pub committedValues : SizedTable (s .committed .values)
+  pub owners : SizedTable (s .committed .owners)
   pub applied : SizedHead (s .applied .head)
   pub appliedValues : SizedTable (s .applied .values)
   pub configuration : s .net .configuration .term .0 < 4294967296
@@ -80,6 +81,7 @@ module _ (l : List ℕ) (y : Bytes l) where
         paths = four 256 _ _ _ _ (one _) (one _) (one _) (one _);
         values = four 65536 _ _ _ _ (two _) (two _) (two _) (two _);
         kept = four 65536 _ _ _ _ (two _) (two _) (two _) (two _);
+        owners = four 65536 _ _ _ _ (two _) (two _) (two _) (two _);
       }
 
   sized-head : (at : ℕ) → SizedHead (headAt l at)
@@ -130,6 +132,7 @@ module _ (l : List ℕ) (y : Bytes l) where
         entries = view-entries w;
         committed = sized-head committedAt;
         committedValues = sized-table ofCommitted;
+        owners = sized-table ofOwners;
         applied = sized-head appliedAt;
         appliedValues = sized-table ofApplied;
         configuration = sized-term;

@@ -12,7 +12,7 @@ use Rattle.kinds.specs.declared.Transaction.{Transaction}
 use Rattle.fields.specs.Field.{putField, putFields}
 use Rattle.fields.proofs.Laws.{put-outside}
 use Rattle.fields.proofs.Runs.{puts-outside}
-use Rattle.machine.specs.Stores.{Table, ofCommitted, ofApplied, ofTarget, ofBase, Store, grow, entry, fold, change, committedHead, appliedHead, value, targetValues, configuration, mastership, connections, target}
+use Rattle.machine.specs.Stores.{Table, ofCommitted, ofApplied, ofTarget, ofBase, ofOwners, Store, grow, entry, fold, change, committedHead, appliedHead, value, targetValues, configuration, mastership, connections, target}
 use Rattle.image.specs.Layout.{entryWidths, headWidths, tableWidths, configurationWidths, mastershipWidths, targetWidths, connectionsWidths, placeOf, lastAt, changeAt, committedAt, appliedAt, valuesAt, configurationAt, mastershipAt, targetAt, connectionsAt, foldedAt, imageLength, stride, valueSize, tableLength, numberSize}
 use Rattle.image.specs.Records.{entryNumbers, putEntryAt, lastOf, foldedOf, headNumbers, putHeadAt, configurationNumbers, putConfiguration, mastershipNumbers, putMastership, targetNumbers, putTarget, connectionsNumbers, eight, putConnections}
 use Rattle.image.specs.View.{write, written}
@@ -69,6 +69,7 @@ module _ (j : ℕ) (q : j < lastAt) where
   table-past ofApplied p = omega arith
   table-past ofTarget p = omega arith
   table-past ofBase p = omega arith
+  table-past ofOwners p = omega arith
 
   module _ (b n : ℕ) (free : Free b n j) where
     write-unused : (l : List ℕ) (e : Store) → Still b n e → getD (write l e) j 0 ≡ getD l j 0

@@ -61,8 +61,14 @@ add-get-twos-2 c = search needs
 get-twos-requires-2 : tie.Need-get-twos-requires-2
 get-twos-requires-2 c κs = search needs
 
+add-get-twos-3 : tie.Need-add-get-twos-3
+add-get-twos-3 c = search needs
+
+get-twos-requires-3 : tie.Need-get-twos-requires-3
+get-twos-requires-3 c κs = search needs
+
 returns : tie.Need-returns
-returns c = loaded _ _ _ (c .before .before .before .before .before .before .before .before .before .place-of .ensures) _ _ _ _ _ _ _ _ _ (c .before .before .before .before .before .before .before .before .load-side .ensures) (c .before .before .before .before .before .before .before .load-side2 .ensures) (c .before .before .before .before .before .before .get1 .ensures) (c .before .before .before .before .before .get12 .ensures) (c .before .before .before .before .get2 .ensures) (c .before .before .before .of .ensures) (c .before .before .get-ones .ensures) (c .before .get-twos .ensures) (c .get-twos2 .ensures)
+returns c = loaded _ _ _ (c .before .before .before .before .before .before .before .before .before .before .place-of .ensures) _ _ _ _ _ _ _ _ _ _ (c .before .before .before .before .before .before .before .before .before .load-side .ensures) (c .before .before .before .before .before .before .before .before .load-side2 .ensures) (c .before .before .before .before .before .before .before .get1 .ensures) (c .before .before .before .before .before .before .get12 .ensures) (c .before .before .before .before .before .get2 .ensures) (c .before .before .before .before .of .ensures) (c .before .before .before .get-ones .ensures) (c .before .before .get-twos .ensures) (c .before .get-twos2 .ensures) (c .get-twos3 .ensures)
 
 pub load-entry-spec : {M : Type 1} → statement M
 load-entry-spec =
@@ -87,4 +93,6 @@ load-entry-spec =
     get-twos-requires
     add-get-twos-2
     get-twos-requires-2
+    add-get-twos-3
+    get-twos-requires-3
     returns)

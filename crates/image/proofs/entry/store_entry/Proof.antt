@@ -31,11 +31,17 @@ add-put-twos-2 c = search needs
 put-twos-requires-2 : tie.Need-put-twos-requires-2
 put-twos-requires-2 c κs = search needs
 
+add-put-twos-3 : tie.Need-add-put-twos-3
+add-put-twos-3 c = search needs
+
+put-twos-requires-3 : tie.Need-put-twos-requires-3
+put-twos-requires-3 c κs = search needs
+
 same-length : tie.Need-same-length
 same-length c = search needs
 
 returns : tie.Need-returns
-returns c = stored _ _ _ _ _ _ _ _ (c .before .before .before .before .before .before .before .before .before .before .before .before .before .before .before .before .before .before .before .before .before .before .before .place-of .ensures) _ (c .before .before .before .before .before .before .before .before .before .before .before .before .before .before .before .before .before .before .store-codes .ensures) (c .before .before .before .before .before .before .before .before .before .before .before .before .before .before .store-marks .ensures) (c .before .before .before .before .before .before .before .before .before .before .put-ones .ensures) (c .before .before .before .before .before .before .put-twos .ensures) (c .before .before .put-twos2 .ensures)
+returns c = stored _ _ _ _ _ _ _ _ _ (c .before .before .before .before .before .before .before .before .before .before .before .before .before .before .before .before .before .before .before .before .before .before .before .before .before .before .before .before .place-of .ensures) _ (c .before .before .before .before .before .before .before .before .before .before .before .before .before .before .before .before .before .before .before .before .before .before .store-codes .ensures) (c .before .before .before .before .before .before .before .before .before .before .before .before .before .before .before .before .before .before .store-marks .ensures) (c .before .before .before .before .before .before .before .before .before .before .before .before .before .before .put-ones .ensures) (c .before .before .before .before .before .before .before .before .before .before .put-twos .ensures) (c .before .before .before .before .before .before .put-twos2 .ensures) (c .before .before .put-twos3 .ensures)
 
 pub store-entry-spec : {M : Type 1} → statement M
 store-entry-spec =
@@ -50,5 +56,7 @@ store-entry-spec =
     put-twos-requires
     add-put-twos-2
     put-twos-requires-2
+    add-put-twos-3
+    put-twos-requires-3
     same-length
     returns)

@@ -30,7 +30,7 @@ add-entry-formed : tie.Need-add-entry-formed Inv-loop μ-loop
 add-entry-formed c = search needs
 
 entry-formed-requires : tie.Need-entry-formed-requires Inv-loop μ-loop
-entry-formed-requires c κs = (omega (arith, c .before .loop .inv .0, c .before .loop .inv .1 .0, c .loop-test .taken, c .before .before .before .before .pre .1 .0), c .before .before .before .before .pre .1 .1 .1)
+entry-formed-requires c κs = (omega (arith, c .before .loop .inv .0, c .before .loop .inv .1 .0, c .loop-test .taken, c .before .before .before .before .pre .1 .0), (omega (arith, c .loop-test .taken, c .before .before .before .before .pre .1 .1 .0), c .before .before .before .before .pre .1 .1 .1))
 
 returns : tie.Need-returns Inv-loop μ-loop
 returns c = sym (kept-not _ _ _ _ (omega (arith, c .before .before .before .loop .inv .1 .0)) (omega (arith, c .before .before .loop-test .taken)) (sym (c .before .entry-formed .ensures) ∙ not-true _ (c .if1 .taken)))
