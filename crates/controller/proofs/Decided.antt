@@ -19,6 +19,7 @@ use Rattle.kinds.specs.declared.Status.the-variants.{None, Pending, InProgress,
 use Rattle.kinds.specs.Numbers.{num, follows, isFull, nextOrdinal}
 use Rattle.kinds.specs.Statuses.{isComplete, isPending}
 use Rattle.rules.specs.declared.Plan.{Plan}
+use Rattle.rules.specs.declared.Present.{Present}
 use Rattle.rules.specs.declared.CommitTests.{CommitTests}
 use Rattle.rules.specs.declared.ApplyChangeTests.{ApplyChangeTests}
 use Rattle.rules.specs.declared.ApplyRollbackTests.{ApplyRollbackTests}
@@ -31,20 +32,21 @@ use Rattle.rules.specs.ApplyChange as change
 use Rattle.rules.specs.ApplyRollback.{applyRollback}
 use Rattle.rules.specs.ApplyRollback as rollback
 use Rattle.rules.specs.Outside.{lineOpen}
-use Rattle.machine.specs.State.{State, entryOf, last, four, nodeOf, lineOpenFor}
-use Rattle.machine.specs.Stores.{ofCommitted}
+use Rattle.machine.specs.State.{State, entryOf, last, nodeOf, lineOpenFor}
+use Rattle.machine.specs.Stores.{ofCommitted, ofOwners}
 use Rattle.machine.specs.WellFormed.{allEntries}
 use Rattle.machine.specs.Settled.{entrySettled, settled}
 use Rattle.machine.specs.Rest.{restOf}
-use Rattle.machine.specs.Calls.{presentOne, present, job1, job2, job3, job4, planOf}
+use Rattle.machine.specs.Calls.{presentOne, present, presentOf, job1, job2, job3, job4, planOf}
 use Rattle.machine.proofs.Kept as kept
-use Rattle.image.specs.Layout.{committedAt, appliedAt, imageLength}
+use Rattle.fields.specs.Field.{fieldsAt}
+use Rattle.image.specs.Layout.{tableWidths, committedAt, appliedAt, valuesAt, imageLength}
 use Rattle.image.specs.Records.{entryAt, lastOf, foldedOf, changeOf, headAt, configurationOf, mastershipOf, targetOf, connectionsOf}
 use Rattle.image.specs.View.{tableOf, view}
 use Rattle.image.specs.Formed.{formed}
 use Rattle.image.proofs.Scanned.{Room, view-last, view-entry, formed-length, formed-room, formed-state}
 use Rattle.controller.specs.Claims.{Entry, settledFor}
-use Rattle.controller.specs.Nights.{isNext, settledAt, presentAt}
+use Rattle.controller.specs.Nights.{isNext, settledAt, noPresent, presentAt}
 
 -- ---- a well-formed image
 module _ (l : List ℕ) (w : formed l ≡ true) where
@@ -213,18 +215,18 @@ module _ (t : Transaction) (h : Head) (s : State) (i : Number) (line ok : Bool) 
       go true Canceled f false q = refl
       go true Failed f false q = refl
 
--- ---- the present values are kept only where a change begins
-module _ (t : Transaction) (h : Head) (k : Number) (q : Bool) (i : Number) (ok : Bool) (vs : List ℕ) where
+-- ---- what is present is kept only where a change begins
+module _ (t : Transaction) (h : Head) (k : Number) (q : Bool) (i : Number) (ok : Bool) (s : State) where
   abbrev commit-tests : (ready accepted full landed : Bool) → CommitTests
   commit-tests f y z u = record { ready = f; aimed = eqb (h .target .0) (i .0); rest = q; accepted = y; full = z; landed = u }
 
-  pub begin-present : commitChange t h k q i ok (presentAt (k .0) (i .0) vs t) ≡ commitChange t h k q i ok (present vs t)
+  pub begin-present : commitChange t h k q i ok (presentAt (k .0) (i .0) t s) ≡ commitChange t h k q i ok (presentOf s t)
   unfolding presentAt
   begin-present = go (t .change .commit) (follows (k .0) (i .0)) ok (isFull (h .ordinal .0)) (eqb (k .0) (i .0))
     where
       go : (x : Status) (f y z u : Bool)
-          → commit.plans (commit.rule x (commit-tests f y z u)) t h i (nextOrdinal (h .ordinal)) (cond (isPending x && f) (present vs t) four)
-          ≡ commit.plans (commit.rule x (commit-tests f y z u)) t h i (nextOrdinal (h .ordinal)) (present vs t)
+          → commit.plans (commit.rule x (commit-tests f y z u)) t h i (nextOrdinal (h .ordinal)) (cond (isPending x && f) (presentOf s t) noPresent)
+          ≡ commit.plans (commit.rule x (commit-tests f y z u)) t h i (nextOrdinal (h .ordinal)) (presentOf s t)
       go Pending true y z u = refl
       go Pending false y z u = refl
       go InProgress true true true u = refl
@@ -245,7 +247,7 @@ pub line-shown : (l : List ℕ) (n : ℕ) (x : Connection) (m : Mastership) (t :
 unfolding view
 line-shown l n x m t g r p q u v w = w ∙ rw (p, q, u, v)
 
--- ---- present values
+-- ---- what is present, of a table and of both
 pub present-all : (l : List ℕ) (t : Transaction) (a b d e : ℕ)
     → a ≡ presentOne (ltb 0 (t .count)) l (getD (t .paths) 0 0) → b ≡ presentOne (ltb 1 (t .count)) l (getD (t .paths) 1 0)
     → d ≡ presentOne (ltb 2 (t .count)) l (getD (t .paths) 2 0) → e ≡ presentOne (ltb 3 (t .count)) l (getD (t .paths) 3 0)
@@ -253,19 +255,24 @@ pub present-all : (l : List ℕ) (t : Transaction) (a b d e : ℕ)
 unfolding present
 present-all l t a b d e p q r s = rw (p, q, r, s)
 
+pub present-shown : (l : List ℕ) (t : Transaction) (vs os : List ℕ) → vs ≡ present (fieldsAt l (valuesAt ofCommitted) tableWidths) t
+    → os ≡ present (fieldsAt l (valuesAt ofOwners) tableWidths) t → _≡_ {A = Present} (record { values = vs; owners = os }) (presentOf (view l) t)
+unfolding view tableOf
+present-shown l t vs os p q = rw (p, q)
+
 -- ---- the jobs
 module _ (l : List ℕ) (i : ℕ) (w : Entry l i) (t : Transaction) (e : t ≡ entryAt l i) (h : Head) (k : Number) (f : k ≡ num i) (p : Plan) where
   z : t ≡ entryOf (view l .log) i
   z = this-entry l i w t e
 
-  pub job1-shown : (c : Number) (q ok : Bool) (vs : List ℕ) → h ≡ headAt l committedAt → c ≡ num (changeOf l) → q ≡ restOf (view l)
-      → vs ≡ present (tableOf l ofCommitted) t → p ≡ commitChange t h c q k ok vs → p ≡ job1 (view l) i ok
-  unfolding view tableOf
+  pub job1-shown : (c : Number) (q ok : Bool) (vs : Present) → h ≡ headAt l committedAt → c ≡ num (changeOf l) → q ≡ restOf (view l)
+      → vs ≡ presentOf (view l) t → p ≡ commitChange t h c q k ok vs → p ≡ job1 (view l) i ok
+  unfolding view
   job1-shown c q ok vs eh ec eq ev ep =
       ep ∙ ap₂ (λ (x : Head) (y : Number). commitChange t x y q k ok vs) eh ec
       ∙ ap₂ (λ (x : Number) (y : Bool). commitChange t (headAt l committedAt) (num (changeOf l)) y x ok vs) f eq
-      ∙ ap₂ (λ (x : Transaction) (y : List ℕ). commitChange x (headAt l committedAt) (num (changeOf l)) (restOf (view l)) (num i) ok y) z
-      (ev ∙ ap (present (tableOf l ofCommitted)) z)
+      ∙ ap₂ (λ (x : Transaction) (y : Present). commitChange x (headAt l committedAt) (num (changeOf l)) (restOf (view l)) (num i) ok y) z
+      (ev ∙ ap (presentOf (view l)) z)
 
   pub job3-shown : (q : Bool) → h ≡ headAt l committedAt → q ≡ restOf (view l) → p ≡ commitRollback t h q k → p ≡ job3 (view l) i
   unfolding view

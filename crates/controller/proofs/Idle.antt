@@ -4,7 +4,6 @@ use Prim.Native.Nat.{ℕ, _+_, _≤_}
 use native.Mathlib.Omega.{arith}
 use mathlib.Core.Path.{_≡_, refl, ap, sym, _∙_, subst}
 use mathlib.Core.Bool.{Bool, true, false, _&&_, cond, true≢false}
-use mathlib.Core.List.{List}
 use lib.Dec.{eqb, leb}
 use borrow.Author.Tests.{eqb-true, eqb-false, ne-eqb, le-leb, leb-true}
 use Rattle.kinds.specs.declared.Transaction.{Transaction}
@@ -13,6 +12,7 @@ use Rattle.kinds.specs.declared.Status.the-variants.{None, Pending, InProgress,
 use Rattle.kinds.specs.Numbers.{num, follows, nextOrdinal}
 use Rattle.kinds.specs.Statuses.{isComplete}
 use Rattle.rules.specs.declared.Plan.{Plan}
+use Rattle.rules.specs.declared.Present.{Present}
 use Rattle.rules.specs.declared.Order.{Order}
 use Rattle.rules.specs.declared.Order.the-variants.{Neither, EntryOnly, HeadOnly, EntryThenHead, HeadThenEntry, TargetThenHeadThenEntry}
 use Rattle.rules.specs.declared.ApplyChangeRule.the-variants as apply
@@ -24,7 +24,7 @@ use Rattle.rules.specs.ApplyRollback as job4
 use Rattle.machine.specs.State.{State, Log, entryOf, putEntry, lineOpenFor}
 use Rattle.machine.specs.Settled.{settled}
 use Rattle.machine.specs.Rest.{restOf}
-use Rattle.machine.specs.Calls.{work, planOf, present, commits}
+use Rattle.machine.specs.Calls.{work, planOf, presentOf, commits}
 use Rattle.machine.specs.Step.{step}
 use Rattle.machine.proofs.Next.{performed, performedBy}
 use Rattle.machine.proofs.Entries.{and-both, put-all}
@@ -85,7 +85,7 @@ module _ (s : State) (n i : ℕ) (x : Idle (s .change .0) (s .applied .head .ord
   abbrev t : Transaction
   t = entryOf (s .log) i
 
-  waits-1 : (ok : Bool) (vs : List ℕ)
+  waits-1 : (ok : Bool) (vs : Present)
       → job1.commitChange t (s .committed .head) (s .change) (restOf s) (num i) ok vs .answer ≡ 11
   waits-1 ok vs = go (t .change .commit) (x .commit)
     where
@@ -145,10 +145,10 @@ module _ (s : State) (n i : ℕ) (x : Idle (s .change .0) (s .applied .head .ord
   idle-waits j ok = go (eqb j 1) (eqb j 2) (eqb j 3)
     where
       go : (a b d : Bool)
-          → cond a (job1.commitChange t (s .committed .head) (s .change) (restOf s) (num i) ok (present (s .committed .values) t))
+          → cond a (job1.commitChange t (s .committed .head) (s .change) (restOf s) (num i) ok (presentOf s t))
           (cond b (job2.applyChange t (s .applied .head) (settled s) (num i) (lineOpenFor (s .net) n) ok)
           (cond d (job3.commitRollback t (s .committed .head) (restOf s) (num i)) (job4.applyRollback t (s .applied .head) (settled s) (num i) (lineOpenFor (s .net) n) ok))) .answer ≡ 11
-      go true b d = waits-1 ok (present (s .committed .values) t)
+      go true b d = waits-1 ok (presentOf s t)
       go false true d = waits-2 (settled s) (lineOpenFor (s .net) n) ok
       go false false true = waits-3
       go false false false = waits-4 (settled s) (lineOpenFor (s .net) n) ok

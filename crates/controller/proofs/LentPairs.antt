@@ -181,6 +181,7 @@ pub entry-made : (b : List ℕ) (n p0 p1 p2 p3 v0 v1 v2 v3 : ℕ) (o o' : Ordina
       rollback = record { commit = None; apply = None; ordinal = o' };
       index = i;
       kept = 0 ∷ 0 ∷ 0 ∷ 0 ∷ [];
+      owners = 0 ∷ 0 ∷ 0 ∷ 0 ∷ [];
     })
     (appended (pairsOf b))
 entry-made b n p0 p1 p2 p3 v0 v1 v2 v3 o o' i v en a0 a1 a2 a3 c0 c1 c2 c3 eo eo' ei =

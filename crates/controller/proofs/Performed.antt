@@ -18,7 +18,7 @@ use Rattle.rules.specs.declared.Lay.the-variants.{Nothing}
 use Rattle.rules.specs.declared.Order.{Order}
 use Rattle.rules.specs.declared.Order.the-variants.{Neither}
 use Rattle.machine.specs.Stores.{Table, ofCommitted, ofApplied, ofTarget, Store, change, committedHead, appliedHead}
-use Rattle.machine.specs.Rows.{overlay, laid, changeRow, headRow, thenRow, rowsBy, rowsOf}
+use Rattle.machine.specs.Rows.{overlay, laid, owned, changeRow, headRow, thenRow, rowsBy, rowsOf}
 use Rattle.image.specs.Layout.{valuesAt, committedAt, appliedAt}
 use Rattle.image.specs.Promises.{valuePut}
 use Rattle.image.specs.Records.{putHeadAt}
@@ -79,6 +79,18 @@ pub laid-none : (l : List ℕ) (at : ℕ) (x : Lay) (t : Transaction) → x ≡ 
 unfolding written
 laid-none l at x t e = laid-by l l at x Nothing t e (λ b z. refl)
 
+-- the owners, likewise, and both of a commit's tables
+pub owned-by : (l m : List ℕ) (x y : Lay) (t : Transaction) (i : ℕ) → x ≡ y → m ≡ written l (owned y t i) → m ≡ written l (owned x t i)
+owned-by l m x y t i e q = q ∙ ap (λ (w : Lay). written l (owned w t i)) (sym e)
+
+pub owned-none : (l : List ℕ) (x : Lay) (t : Transaction) (i : ℕ) → x ≡ Nothing → l ≡ written l (owned x t i)
+unfolding written
+owned-none l x t i e = owned-by l l x Nothing t i e refl
+
+pub laid-owned : (l l1 l2 : List ℕ) (x : Lay) (t : Transaction) (i : ℕ) → ((b : Table) → valuesAt b ≡ valuesAt ofCommitted → l1 ≡ written l (laid b x t))
+    → l2 ≡ written l1 (owned x t i) → l2 ≡ written l (laid ofCommitted x t ++ owned x t i)
+laid-owned l l1 l2 x t i q1 q2 = rows-on l l1 l2 (laid ofCommitted x t) (owned x t i) (q1 ofCommitted refl) q2
+
 -- ---- Committed's change
 pub change-moved : (l m : List ℕ) (i : ℕ) (n : Number) (b : Bool) → b ≡ true → n ≡ num i → m ≡ write l (change n) → m ≡ written l (changeRow b i)
 unfolding written
@@ -90,11 +102,11 @@ change-still l i b t = rw t
 
 -- ---- the head's store
 pub commit-row : (l l1 l2 l3 : List ℕ) (i : ℕ) (p : Plan) → l1 ≡ putHeadAt l committedAt (p .head) → l2 ≡ written l1 (changeRow (p .change) i)
-    → ((b : Table) → valuesAt b ≡ valuesAt ofCommitted → l3 ≡ written l2 (laid b (p .lay) (p .entry))) → l3 ≡ written l (headRow true p i)
+    → l3 ≡ written l2 (laid ofCommitted (p .lay) (p .entry) ++ owned (p .lay) (p .entry) i) → l3 ≡ written l (headRow true p i)
 unfolding written write
 commit-row l l1 l2 l3 i p q1 q2 q3 =
-    rows-on l l1 l3 (committedHead (p .head) ∷ []) (changeRow (p .change) i ++ laid ofCommitted (p .lay) (p .entry)) q1
-    (rows-on l1 l2 l3 (changeRow (p .change) i) (laid ofCommitted (p .lay) (p .entry)) q2 (q3 ofCommitted refl))
+    let both : List Store = laid ofCommitted (p .lay) (p .entry) ++ owned (p .lay) (p .entry) i in
+    rows-on l l1 l3 (committedHead (p .head) ∷ []) (changeRow (p .change) i ++ both) q1 (rows-on l1 l2 l3 (changeRow (p .change) i) both q2 q3)
 
 pub apply-row : (l l1 l2 : List ℕ) (i : ℕ) (p : Plan) → l1 ≡ putHeadAt l appliedAt (p .head)
     → ((b : Table) → valuesAt b ≡ valuesAt ofApplied → l2 ≡ written l1 (laid b (p .lay) (p .entry))) → l2 ≡ written l (headRow false p i)

@@ -1,9 +1,9 @@
 -- What the code reads is what the machine reads from what the image shows. Assumes nothing.
 use Prim.Native.Nat.{ℕ, _-_, _≤_, _<_}
 use mathlib.Core.Path.{_≡_, refl, ap, ap₂, sym, _∙_}
-use mathlib.Core.Bool.{Bool, true, false, _&&_}
+use mathlib.Core.Bool.{Bool, true, false, _&&_, cond}
 use mathlib.Core.List.{List, [], _∷_}
-use borrow.Author.Tests.{leb-true, ltb-true, lt-ltb, le-ltb}
+use borrow.Author.Tests.{leb-true, ltb-true, le-leb, lt-leb, lt-ltb, le-ltb}
 use lib.Dec.{leb, ltb}
 use lib.ListN.{getD}
 use Rattle.kinds.specs.declared.Transaction.{Transaction}
@@ -16,11 +16,13 @@ use Rattle.kinds.specs.declared.Target.{Target}
 use Rattle.kinds.specs.Numbers.{num}
 use Rattle.kinds.specs.Statuses.{progressCode}
 use Rattle.machine.specs.State.{State, entryOf, last, inLog, isKept, isNode, nodeOf}
+use Rattle.machine.specs.Owner.{ownerOf}
+use Rattle.machine.specs.Stores.{ofOwners}
 use Rattle.machine.specs.Reads as reads
-use Rattle.machine.specs.Reads.{Query, ofTable, ofEntry, ofState, ofNode, Answer, shows, refuses, isField, fieldOf, flag, entryNumbers, stateNumbers, nodeNumbers, tableNumbers, read}
-use Rattle.image.specs.Layout.{committedAt, appliedAt}
+use Rattle.machine.specs.Reads.{Query, ofTable, ofEntry, ofState, ofNode, ofOwner, Answer, shows, refuses, isField, fieldOf, flag, entryNumbers, stateNumbers, nodeNumbers, tableNumbers, read}
+use Rattle.image.specs.Layout.{committedAt, appliedAt, valuesAt}
 use Rattle.image.specs.Records.{entryAt, lastOf, foldedOf, changeOf, headNumbers, headAt, configurationOf, mastershipOf, targetOf, connectionsOf}
-use Rattle.image.specs.View.{netOf, view}
+use Rattle.image.specs.View.{tableOf, netOf, view}
 use Rattle.image.specs.Formed.{formed}
 use Rattle.image.specs.Promises.{PlacesTable, LoadsValue}
 use Rattle.image.proofs.UpTo.{and-left, and-right}
@@ -70,6 +72,26 @@ module _ (b p : ℕ) (k : Bool) (ek : k ≡ (isField 4 b && ltb p 32)) where
       let z : (isField 4 b && ltb p 32) ≡ true = sym ek ∙ t in
       ap (λ (x : Bool). reads.unless 2 x (shows (getD (tableNumbers (view l) b) p 0))) z
       ∙ ap shows (sym (ew ∙ table-shows l b at p v ea ev))
+
+-- ---- who set a path
+module _ (l : List ℕ) (p : ℕ) where
+  pub no-owner : 32 ≤ p → read (view l) (ofOwner p) ≡ refuses 2
+  unfolding read
+  no-owner h = ap (λ (x : Bool). reads.unless 2 x (shows (ownerOf (view l) p))) (le-ltb p 32 h)
+
+  module _ (h : p < 32) (k b : ℕ) (ek : LoadsValue l (valuesAt ofOwners) p k) (eb : b ≡ foldedOf l) where
+    owner-by : (x : Bool) → leb k b ≡ x → read (view l) (ofOwner p) ≡ shows (cond x 0 k)
+    unfolding read view tableOf
+    owner-by x e =
+        ap (λ (y : Bool). reads.unless 2 y (shows (ownerOf (view l) p))) (lt-ltb p 32 h)
+        ∙ ap₂ (λ (j d : ℕ). shows (cond (leb j d) 0 j)) (sym ek) (sym eb)
+        ∙ ap (λ (y : Bool). shows (cond y 0 k)) e
+
+    pub owner-is : b < k → (w : ℕ) → w ≡ k → read (view l) (ofOwner p) ≡ shows w
+    owner-is q w e = owner-by false (lt-leb k b q) ∙ ap shows (sym e)
+
+    pub owner-folded : k ≤ b → read (view l) (ofOwner p) ≡ shows 0
+    owner-folded q = owner-by true (le-leb k b q)
 
 -- ---- a transaction
 pub entry-numbers : (t : Transaction) (m p v k : List ℕ) → m ≡ marks t → p ≡ four (t .paths) → v ≡ four (t .values) → k ≡ four (t .kept)

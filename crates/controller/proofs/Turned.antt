@@ -19,6 +19,7 @@ use Rattle.kinds.specs.declared.Reply.{Reply}
 use Rattle.kinds.specs.Numbers.{num, follows, nextOrdinal}
 use Rattle.kinds.specs.Statuses.{codeOf, isPending}
 use Rattle.rules.specs.declared.Plan.{Plan}
+use Rattle.rules.specs.declared.Present.{Present}
 use Rattle.rules.specs.declared.CommitChangeRule.{CommitChangeRule}
 use Rattle.rules.specs.declared.CommitRollbackRule.{CommitRollbackRule}
 use Rattle.rules.specs.declared.CommitChangeRule.the-variants as change
@@ -27,13 +28,12 @@ use Rattle.rules.specs.CommitChange as job1
 use Rattle.rules.specs.CommitRollback as job3
 use Rattle.rules.specs.ApplyChange.{applyChange}
 use Rattle.rules.specs.ApplyRollback.{applyRollback}
-use Rattle.machine.specs.State.{State, entryOf, last, four, inLog, isKept, isNode, isMaster, lineOpenFor}
+use Rattle.machine.specs.State.{State, entryOf, last, inLog, isKept, isNode, isMaster, lineOpenFor}
 use Rattle.machine.specs.Settled.{settled}
 use Rattle.machine.specs.Rest.{restOf}
-use Rattle.machine.specs.Stores.{ofCommitted}
 use Rattle.machine.specs.Rows.{rowsOf, eventOf}
 use Rattle.machine.proofs.Next.{eventOf-whole}
-use Rattle.machine.specs.Calls.{Call, Outcome, work, unless, workOk, planOf, planned, commits, present, decide}
+use Rattle.machine.specs.Calls.{Call, Outcome, work, unless, workOk, planOf, planned, commits, presentOf, decide}
 use Rattle.machine.specs.Step.{outcome, step, stateFrom, eventsFrom}
 use Rattle.machine.specs.Night as machine
 use Rattle.machine.specs.Night.{bits, tableOk, trial, turn, all, turns, needsLine, stoppedBy, whyStopped, nightOk}
@@ -44,7 +44,7 @@ use Rattle.fields.proofs.Laws.{Bytes}
 use Rattle.fields.proofs.Runs.{length-puts}
 use Rattle.image.specs.Layout.{committedAt, appliedAt, imageLength}
 use Rattle.image.specs.Records.{entryAt, lastOf, foldedOf, changeOf, headAt, mastershipOf}
-use Rattle.image.specs.View.{view, tableOf, written}
+use Rattle.image.specs.View.{view, written}
 use Rattle.image.specs.Formed.{formed}
 use Rattle.image.proofs.Scanned.{formed-length, formed-state}
 use Rattle.image.proofs.UpTo.{and-left, and-right}
@@ -54,7 +54,7 @@ use Rattle.controller.specs.declared.nights.Scene.{Scene}
 use Rattle.controller.specs.declared.nights.Tried.{Tried}
 use Rattle.controller.specs.declared.nights.Found.{Found}
 use Rattle.controller.specs.Claims.{outcomeOf, Does}
-use Rattle.controller.specs.Nights.{lentFrom, putEvent, roomAfter, eventSize, fours, eventNumbers, fitting, given, Leaves, Nights, nightIn, refuses, Awake, sceneOf, isNext, settledAt, presentAt, stands, idle, idleIn, Quiet, firstOf, tries, plansBy, outcomeIn, Finds, stoppedAt, Through, Nighted}
+use Rattle.controller.specs.Nights.{lentFrom, putEvent, roomAfter, eventSize, fours, eventNumbers, fitting, given, Leaves, Nights, nightIn, refuses, Awake, sceneOf, isNext, settledAt, noPresent, presentAt, stands, idle, idleIn, Quiet, firstOf, tries, plansBy, outcomeIn, Finds, stoppedAt, Through, Nighted}
 use Rattle.controller.proofs.Decided.{size, entry-of, room, last-is, next-change, next-rollback, begin-present}
 use Rattle.controller.proofs.Idle.{told-idle, idle-waits, folds-nothing, idle-stays}
 
@@ -159,20 +159,25 @@ module _ (a : ℕ) (t : Transaction) (s : State) (x y : Bool) (ex : x ≡ isNext
   unfolding settledAt
   asked-not e = sym (ap (λ (z : Bool). cond z (settled s) true) (next-is false e))
 
--- ---- the present values, loaded where a change may begin
-module _ (c i : ℕ) (vs : List ℕ) (t : Transaction) (x y : Bool) (ex : x ≡ isPending (t .change .commit)) (ey : y ≡ follows c i) where
+-- ---- what is present, loaded where a change may begin
+module _ (c i : ℕ) (s : State) (t : Transaction) (x y : Bool) (ex : x ≡ isPending (t .change .commit)) (ey : y ≡ follows c i) where
   begins-is : (z : Bool) → (x && y) ≡ z → (isPending (t .change .commit) && follows c i) ≡ z
   begins-is z e = sym (ap₂ (λ (u v : Bool). u && v) ex ey) ∙ e
 
-  pub loaded-present : (r : List ℕ) → (x && y) ≡ true → r ≡ present vs t → r ≡ presentAt c i vs t
+  pub loaded-present : (r : Present) → (x && y) ≡ true → r ≡ presentOf s t → r ≡ presentAt c i t s
   unfolding presentAt
-  loaded-present r e q = q ∙ sym (ap (λ (z : Bool). cond z (present vs t) four) (begins-is true e))
+  loaded-present r e q = q ∙ sym (ap (λ (z : Bool). cond z (presentOf s t) noPresent) (begins-is true e))
 
-  pub loaded-none : (x && y) ≡ false → four ≡ presentAt c i vs t
+  pub loaded-none : (r : Present) → (x && y) ≡ false → r ≡ noPresent → r ≡ presentAt c i t s
   unfolding presentAt
-  loaded-none e = sym (ap (λ (z : Bool). cond z (present vs t) four) (begins-is false e))
+  loaded-none r e q = q ∙ sym (ap (λ (z : Bool). cond z (presentOf s t) noPresent) (begins-is false e))
 
 -- ---- the first of four answers
+-- what job 1 answers where nothing is present: its answer is asked, not its plan
+pub asked-1 : (t : Transaction) (x : Scene) (i : Number) (v : Bool) (vs : Present) (p : Plan) → vs ≡ noPresent
+    → p ≡ job1.commitChange t (x .committed) (x .change) (x .rest) i v vs → p .answer ≡ job1.commitChange t (x .committed) (x .change) (x .rest) i v noPresent .answer
+asked-1 t x i v vs p e q = ap (λ (y : Plan). y .answer) (q ∙ ap (job1.commitChange t (x .committed) (x .change) (x .rest) i v) e)
+
 module _ (a b c d : ℕ) where
   pub first-1 : (p : ℕ) → p ≡ a → p ≡ 0 → _≡_ {A = Tried} (record { job = 1; lacks = false }) (firstOf a b c d)
   unfolding firstOf
@@ -204,8 +209,8 @@ module _ (a b c d : ℕ) where
         first-0 s ed nd = rw (x, y, ne-eqb c 0 (λ z. nc (ec ∙ z)), ne-eqb d 0 (λ z. nd (ed ∙ z)), eb, ed)
 
 -- ---- the plan of one of four jobs
-module _ (j : ℕ) (t : Transaction) (i : Number) (x : Scene) (q v u : Bool) (vs : List ℕ) (p : Plan) where
-  pub by-1 : (ws : List ℕ) → j ≡ 1 → ws ≡ vs → p ≡ job1.commitChange t (x .committed) (x .change) (x .rest) i v ws → p ≡ plansBy j t i x q v u vs
+module _ (j : ℕ) (t : Transaction) (i : Number) (x : Scene) (q v u : Bool) (vs : Present) (p : Plan) where
+  pub by-1 : (ws : Present) → j ≡ 1 → ws ≡ vs → p ≡ job1.commitChange t (x .committed) (x .change) (x .rest) i v ws → p ≡ plansBy j t i x q v u vs
   unfolding plansBy
   by-1 ws e ew ep = ep ∙ ap (job1.commitChange t (x .committed) (x .change) (x .rest) i v) ew ∙ rw (eq-eqb j 1 e)
 
@@ -224,7 +229,7 @@ module _ (j : ℕ) (t : Transaction) (i : Number) (x : Scene) (q v u : Bool) (vs
 -- ---- what the rules answer
 -- what job 1 would keep does not change its answer
 module _ (t : Transaction) (h : Head) (i : Number) (o : Ordinal) where
-  answer-same : (r : CommitChangeRule) (vs ws : List ℕ) → job1.plans r t h i o vs .answer ≡ job1.plans r t h i o ws .answer
+  answer-same : (r : CommitChangeRule) (vs ws : Present) → job1.plans r t h i o vs .answer ≡ job1.plans r t h i o ws .answer
   answer-same change.Begin vs ws = refl
   answer-same change.Aim vs ws = refl
   answer-same change.Land vs ws = refl
@@ -235,7 +240,7 @@ module _ (t : Transaction) (h : Head) (i : Number) (o : Ordinal) where
   answer-same change.Wait vs ws = refl
 
   -- and the commit jobs never answer 12
-  open-1 : (r : CommitChangeRule) (vs : List ℕ) → eqb (job1.plans r t h i o vs .answer) 12 ≡ false
+  open-1 : (r : CommitChangeRule) (vs : Present) → eqb (job1.plans r t h i o vs .answer) 12 ≡ false
   open-1 change.Begin vs = refl
   open-1 change.Aim vs = refl
   open-1 change.Land vs = refl
@@ -274,12 +279,12 @@ module _ (s : State) (n i : ℕ) where
       let q = settledAt (h .ordinal .0) t s in
       let line = lineOpenFor (s .net) n in
       ap (λ (a : ℕ). firstOf a (applyChange t h q (num i) line u .answer) (planOf s n 3 i true .answer) (applyRollback t h q (num i) line true .answer))
-      (answer-same t (s .committed .head) (num i) o (rule1 v) four (present (s .committed .values) t))
+      (answer-same t (s .committed .head) (num i) o (rule1 v) noPresent (presentOf s t))
       ∙ ap₂ (λ (a b : Plan). firstOf (planOf s n 1 i v .answer) (a .answer) (planOf s n 3 i true .answer) (b .answer)) (next-change t h s (num i) line u)
       (next-rollback t h s (num i) line true)
 
   -- the plan of a job, by the two outcomes of its number
-  plans-by : (j v u : ℕ) → plansBy j t (num i) (sceneOf s n) (settledAt (s .applied .head .ordinal .0) t s) (eqb v 0) (eqb u 0) (presentAt (s .change .0) i (s .committed .values) t)
+  plans-by : (j v u : ℕ) → plansBy j t (num i) (sceneOf s n) (settledAt (s .applied .head .ordinal .0) t s) (eqb v 0) (eqb u 0) (presentAt (s .change .0) i t s)
       ≡ planOf s n j i (eqb (cond (eqb j 1) v (cond (eqb j 2) u 0)) 0)
   unfolding planOf plansBy
   plans-by j v u = go (eqb j 1) (eqb j 2) (eqb j 3)
@@ -289,20 +294,20 @@ module _ (s : State) (n i : ℕ) where
           let q = settledAt (h .ordinal .0) t s in
           let line = lineOpenFor (s .net) n in
           let ok = eqb (cond a v (cond b u 0)) 0 in
-          cond a (job1.commitChange t (s .committed .head) (s .change) (restOf s) (num i) (eqb v 0) (presentAt (s .change .0) i (s .committed .values) t))
+          cond a (job1.commitChange t (s .committed .head) (s .change) (restOf s) (num i) (eqb v 0) (presentAt (s .change .0) i t s))
           (cond b (applyChange t h q (num i) line (eqb u 0))
           (cond d (job3.commitRollback t (s .committed .head) (restOf s) (num i)) (applyRollback t h q (num i) line true)))
-          ≡ cond a (job1.commitChange t (s .committed .head) (s .change) (restOf s) (num i) ok (present (s .committed .values) t))
+          ≡ cond a (job1.commitChange t (s .committed .head) (s .change) (restOf s) (num i) ok (presentOf s t))
           (cond b (applyChange t h (settled s) (num i) line ok)
           (cond d (job3.commitRollback t (s .committed .head) (restOf s) (num i)) (applyRollback t h (settled s) (num i) line ok))))
-      go true b d = begin-present t (s .committed .head) (s .change) (restOf s) (num i) (eqb v 0) (s .committed .values)
+      go true b d = begin-present t (s .committed .head) (s .change) (restOf s) (num i) (eqb v 0) s
       go false true d = next-change t (s .applied .head) s (num i) (lineOpenFor (s .net) n) (eqb u 0)
       go false false true = refl
       go false false false = next-rollback t (s .applied .head) s (num i) (lineOpenFor (s .net) n) true
 
   never-12-1 : (v : Bool) → eqb (planOf s n 1 i v .answer) 12 ≡ false
   unfolding planOf
-  never-12-1 v = open-1 t (s .committed .head) (num i) o (rule1 v) (present (s .committed .values) t)
+  never-12-1 v = open-1 t (s .committed .head) (num i) o (rule1 v) (presentOf s t)
 
   never-12-3 : (v : Bool) → eqb (planOf s n 3 i v .answer) 12 ≡ false
   unfolding planOf
@@ -469,16 +474,14 @@ module _ (l : List ℕ) (n : ℕ) (os : List ℕ) (w : Awake l n os) (b h : ℕ)
 
     pub plan-is : (j : ℕ) (t : Transaction) (c : Number) (y : Scene) (q : Bool) (g : Plan) → t ≡ entryAt l (i + 1) → c ≡ num (i + 1) → y ≡ sceneOf s n
         → q ≡ settledAt (y .applied .ordinal .0) t s
-        → g ≡ plansBy j t c y q (eqb valid 0) (eqb taken 0) (presentAt (y .change .0) (c .0) (tableOf l ofCommitted) t)
+        → g ≡ plansBy j t c y q (eqb valid 0) (eqb taken 0) (presentAt (y .change .0) (c .0) t s)
         → g ≡ planOf s n j (i + 1) (eqb (outcomeIn s os j (i + 1)) 0)
-    unfolding view tableOf
     plan-is j t c y q g et ec ey eq ep =
-        let ws = s .committed .values in
         let r : t ≡ entryOf (s .log) (i + 1) = et ∙ sym (entry-of l (i + 1) (omega (arith, v .0)) (omega arith)) in
-        ep ∙ ap (λ (d : Bool). plansBy j t c y d (eqb valid 0) (eqb taken 0) (presentAt (y .change .0) (c .0) ws t)) eq
-        ∙ ap₂ (λ (a : Transaction) (d : Number). plansBy j a d y (settledAt (y .applied .ordinal .0) a s) (eqb valid 0) (eqb taken 0) (presentAt (y .change .0) (d .0) ws a)) r ec
+        ep ∙ ap (λ (d : Bool). plansBy j t c y d (eqb valid 0) (eqb taken 0) (presentAt (y .change .0) (c .0) t s)) eq
+        ∙ ap₂ (λ (a : Transaction) (d : Number). plansBy j a d y (settledAt (y .applied .ordinal .0) a s) (eqb valid 0) (eqb taken 0) (presentAt (y .change .0) (d .0) a s)) r ec
         ∙ ap (λ (d : Scene). plansBy j (entryOf (s .log) (i + 1)) (num (i + 1)) d (settledAt (d .applied .ordinal .0) (entryOf (s .log) (i + 1)) s) (eqb valid 0) (eqb taken 0)
-        (presentAt (d .change .0) (i + 1) ws (entryOf (s .log) (i + 1)))) ey
+        (presentAt (d .change .0) (i + 1) (entryOf (s .log) (i + 1)) s)) ey
         ∙ plans-by s n (i + 1) j valid taken
         ∙ ap (λ (d : ℕ). planOf s n j (i + 1) (eqb (machine.outcomeAt os j d) 0)) place-is
 

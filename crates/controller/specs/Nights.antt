@@ -15,6 +15,7 @@ use Rattle.kinds.specs.declared.Status.the-variants.{None, Pending, InProgress,
 use Rattle.kinds.specs.Numbers.{follows}
 use Rattle.kinds.specs.Statuses.{codeOf, isComplete, isPending}
 use Rattle.rules.specs.declared.Plan.{Plan}
+use Rattle.rules.specs.declared.Present.{Present}
 use Rattle.rules.specs.CommitChange.{commitChange}
 use Rattle.rules.specs.CommitRollback.{commitRollback}
 use Rattle.rules.specs.ApplyChange.{applyChange}
@@ -22,7 +23,7 @@ use Rattle.rules.specs.ApplyRollback.{applyRollback}
 use Rattle.machine.specs.State.{State, entryOf, four, isNode, isMaster, lineOpenFor}
 use Rattle.machine.specs.Settled.{settled}
 use Rattle.machine.specs.Rest.{restOf}
-use Rattle.machine.specs.Calls.{Call, work, present, planOf}
+use Rattle.machine.specs.Calls.{Call, work, presentOf, planOf}
 use Rattle.machine.specs.Night as machine
 use Rattle.machine.specs.Night.{outcomeAt, tableOk, turn, all, needsLine, nightNot, through}
 use Rattle.fields.specs.Field.{putFields}
@@ -108,10 +109,13 @@ isNext a x = isComplete (x .commit) && (isPending (x .apply) && follows a (x .or
 unfoldable pub settledAt : (ordinal : ℕ) → Transaction → State → Bool
 settledAt a t s = cond (isNext a (t .change) || isNext a (t .rollback)) (settled s) true
 
--- ---- the present values, as a turn loads them
+-- ---- the present values and owners, as a turn loads them
+abbrev pub noPresent : Present
+noPresent = record { values = four; owners = four }
+
 -- where a change may begin: Pending to be committed, and its number straight after Committed's change
-unfoldable pub presentAt : (change number : ℕ) → List ℕ → Transaction → List ℕ
-presentAt c i vs t = cond (isPending (t .change .commit) && follows c i) (present vs t) four
+unfoldable pub presentAt : (change number : ℕ) → Transaction → State → Present
+presentAt c i t s = cond (isPending (t .change .commit) && follows c i) (presentOf s t) noPresent
 
 -- ---- numbers that need not be tried: an entry of which nothing is left
 -- neither Pending nor InProgress
@@ -151,11 +155,11 @@ firstOf a b c d =
 -- the answers of the four jobs; what job 1 would keep does not change its answer
 abbrev pub tries : Transaction → Number → Scene → (settled valid taken : Bool) → Tried
 tries t i x q v u =
-    firstOf (commitChange t (x .committed) (x .change) (x .rest) i v four .answer) (applyChange t (x .applied) q i (x .line) u .answer)
+    firstOf (commitChange t (x .committed) (x .change) (x .rest) i v noPresent .answer) (applyChange t (x .applied) q i (x .line) u .answer)
     (commitRollback t (x .committed) (x .rest) i .answer) (applyRollback t (x .applied) q i (x .line) true .answer)
 
 -- the plan of one of them
-unfoldable pub plansBy : (job : ℕ) → Transaction → Number → Scene → (settled valid taken : Bool) → (values : List ℕ) → Plan
+unfoldable pub plansBy : (job : ℕ) → Transaction → Number → Scene → (settled valid taken : Bool) → Present → Plan
 plansBy j t i x q v u vs =
     cond (eqb j 1) (commitChange t (x .committed) (x .change) (x .rest) i v vs)
     (cond (eqb j 2) (applyChange t (x .applied) q i (x .line) u)

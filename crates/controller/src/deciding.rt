@@ -1,20 +1,21 @@
 // What a job plans: the records that its rules read are loaded from the image, and the rules decide.
 ghost use mathlib.Core.Path.{_≡_};
 ghost use mathlib.Core.Bool.{true};
-ghost use Prim.Native.Nat.{_≤_};
+ghost use Prim.Native.Nat.{_+_, _≤_};
 ghost use lib.ListN.{length};
 ghost use Rattle.machine.specs.State.{lineOpenFor};
 ghost use Rattle.machine.specs.Settled.{settled};
 ghost use Rattle.machine.specs.Rest.{restOf};
-ghost use Rattle.machine.specs.Calls.{presentOne, present, job1, job2, job3, job4, planOf};
-ghost use Rattle.machine.specs.Stores.{ofCommitted};
-ghost use Rattle.image.specs.Layout.{imageLength};
-ghost use Rattle.image.specs.View.{view, tableOf};
+ghost use Rattle.machine.specs.Calls.{presentOne, present, presentOf, job1, job2, job3, job4, planOf};
+ghost use Rattle.fields.specs.Field.{fieldsAt};
+ghost use Rattle.image.specs.Layout.{tableSize, tableWidths, imageLength};
+ghost use Rattle.image.specs.View.{view};
 ghost use Rattle.image.specs.Formed.{formed};
 ghost use Rattle.controller.specs.Claims.{Entry, settledFor};
 use image::APPLIED_AT;
 use image::COMMITTED_AT;
 use image::COMMITTED_VALUES_AT;
+use image::OWNERS_AT;
 use image::all_settled;
 use image::last_fold;
 use image::load_change;
@@ -29,6 +30,7 @@ use kinds::Number;
 use kinds::Status;
 use kinds::Transaction;
 use rules::Plan;
+use rules::Present;
 use rules::apply_change;
 use rules::apply_rollback;
 use rules::at_rest;
@@ -55,29 +57,39 @@ pub fn rest(s: &[u8]) -> bool
     at_rest(h, c, r)
 }
 
-// The committed value of a pair's path, where the pair is used.
-fn present_one(s: &[u8], used: bool, p: u8) -> u16
-    requires { ⌜ imageLength ≤ length (now s) ⌝ }
-    ensures { λ r. ⌜ r ≡ presentOne used (tableOf (now (s .entry)) ofCommitted) p ⌝ }
+// What the table at a place has for a pair's path, where the pair is used.
+fn present_one(s: &[u8], at: usize, used: bool, p: u8) -> u16
+    requires { ⌜ at + tableSize ≤ length (now s) ⌝ }
+    ensures { λ r. ⌜ r ≡ presentOne used (fieldsAt (now (s .entry)) at tableWidths) p ⌝ }
 {
     if used {
-        return load_value(s, COMMITTED_VALUES_AT, p);
+        return load_value(s, at, p);
     }
     0
 }
 
-// The committed values of a change's paths.
-pub fn present(s: &[u8], t: Transaction) -> [u16; 4]
-    requires { ⌜ imageLength ≤ length (now s) ⌝ }
-    ensures { λ r. ⌜ r ≡ present (tableOf (now (s .entry)) ofCommitted) t ⌝ }
+// What the table at a place has for a change's paths.
+fn present_in(s: &[u8], at: usize, t: Transaction) -> [u16; 4]
+    requires { ⌜ at + tableSize ≤ length (now s) ⌝ }
+    ensures { λ r. ⌜ r ≡ present (fieldsAt (now (s .entry)) at tableWidths) t ⌝ }
 {
     let n = t.count;
     let p = t.paths;
-    let a = present_one(s, 0 < n, p[0]);
-    let b = present_one(s, 1 < n, p[1]);
-    let c = present_one(s, 2 < n, p[2]);
-    let d = present_one(s, 3 < n, p[3]);
+    let a = present_one(s, at, 0 < n, p[0]);
+    let b = present_one(s, at, 1 < n, p[1]);
+    let c = present_one(s, at, 2 < n, p[2]);
+    let d = present_one(s, at, 3 < n, p[3]);
     [a, b, c, d]
+}
+
+// The committed values and the owners of a change's paths.
+pub fn present(s: &[u8], t: Transaction) -> Present
+    requires { ⌜ imageLength ≤ length (now s) ⌝ }
+    ensures { λ r. ⌜ r ≡ presentOf (view (now (s .entry))) t ⌝ }
+{
+    let values = present_in(s, COMMITTED_VALUES_AT, t);
+    let owners = present_in(s, OWNERS_AT, t);
+    Present { values, owners }
 }
 
 // Whether the applied side is settled.
@@ -130,8 +142,8 @@ pub fn job1(s: &[u8], number: u16, accepted: bool) -> Plan
     let h = load_head(s, COMMITTED_AT);
     let change = load_change(s);
     let quiet = rest(s);
-    let values = present(s, t);
-    commit_change(t, h, change, quiet, Number::of(number), accepted, values)
+    let now = present(s, t);
+    commit_change(t, h, change, quiet, Number::of(number), accepted, now)
 }
 
 fn job2(s: &[u8], node: u8, number: u16, accepted: bool) -> Plan

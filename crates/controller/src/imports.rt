@@ -4,13 +4,12 @@ ghost use mathlib.Core.Path.{_≡_};
 ghost use Prim.Native.Nat.{_+_, _≤_};
 ghost use lib.ListN.{length};
 ghost use Rattle.kinds.specs.Numbers.{nextOrdinal};
-ghost use Rattle.machine.specs.Stores.{ofCommitted};
-ghost use Rattle.machine.specs.Calls.{validChange, present};
+ghost use Rattle.machine.specs.Calls.{validChange, presentOf};
 ghost use Rattle.machine.specs.Import.{adds, two, pairsAt, entryIn, entriesOf, opening, importCalls};
 ghost use Rattle.machine.specs.Entered.{committedAs, undoneAs, changeStores, undoStores};
 ghost use Rattle.image.specs.Layout.{imageLength, committedAt};
 ghost use Rattle.image.specs.Records.{headAt, putHeadAt};
-ghost use Rattle.image.specs.View.{view, tableOf, written};
+ghost use Rattle.image.specs.View.{view, written};
 ghost use Rattle.image.specs.Fresh.{freshImage};
 ghost use Rattle.controller.specs.Nights.{lentFrom};
 ghost use Rattle.controller.specs.Imports.{Imports, refuses, Listed, Placed, judgedOne, Judges, Accepts, entryStores, Changes, Undoes, Enters};
@@ -21,9 +20,8 @@ use crate::deciding::present;
 use crate::pairs::entered;
 use crate::pairs::two_at;
 use crate::pairs::valid;
-use crate::perform::lay;
+use crate::perform::lay_committed;
 use image::COMMITTED_AT;
-use image::COMMITTED_VALUES_AT;
 use image::grow;
 use image::last_number;
 use image::load_entry;
@@ -38,6 +36,8 @@ use kinds::Ordinal;
 use kinds::Side;
 use kinds::Status;
 use kinds::Transaction;
+use rules::Lay;
+use rules::Present;
 
 // The refusal, and the place in the list of the first bad entry, from 1; 0 and 0 where it is accepted.
 pub struct Imported {
@@ -169,10 +169,12 @@ fn begin(s: &mut [u8])
     master(s, 1);
 }
 
-// An entry's change, committed and not applied: it returns to `index` and to the values kept.
-fn committed(t: Transaction, index: Number, ordinal: Ordinal, kept: [u16; 4]) -> Transaction
-    ensures { λ r. ⌜ r ≡ committedAs t index ordinal kept ⌝ }
+// An entry's change, committed and not applied: it returns to `index`, and to what is present.
+fn committed(t: Transaction, index: Number, ordinal: Ordinal, present: Present) -> Transaction
+    ensures { λ r. ⌜ r ≡ committedAs t index ordinal present ⌝ }
 {
+    let kept = present.values;
+    let owners = present.owners;
     let count = t.count;
     let paths = t.paths;
     let values = t.values;
@@ -195,6 +197,7 @@ fn committed(t: Transaction, index: Number, ordinal: Ordinal, kept: [u16; 4]) ->
         rollback,
         index,
         kept,
+        owners,
     }
 }
 
@@ -208,6 +211,7 @@ fn undone(t: Transaction, ordinal: Ordinal) -> Transaction
     let change = t.change;
     let index = t.index;
     let kept = t.kept;
+    let owners = t.owners;
     let rollback = Side {
         commit: Status::Complete,
         apply: Status::Pending,
@@ -222,19 +226,20 @@ fn undone(t: Transaction, ordinal: Ordinal) -> Transaction
         rollback,
         index,
         kept,
+        owners,
     }
 }
 
 // The entry that the commit of a new change leaves.
 fn commits(s: &[u8], t: Transaction) -> Transaction
     requires { ⌜ imageLength ≤ length (now s) ⌝ }
-    ensures { λ r. ⌜ r ≡ committedAs t (headAt (now (s .entry)) committedAt .revision) (nextOrdinal (headAt (now (s .entry)) committedAt .ordinal)) (present (tableOf (now (s .entry)) ofCommitted) t) ⌝ }
+    ensures { λ r. ⌜ r ≡ committedAs t (headAt (now (s .entry)) committedAt .revision) (nextOrdinal (headAt (now (s .entry)) committedAt .ordinal)) (presentOf (view (now (s .entry))) t) ⌝ }
 {
     let h = load_head(s, COMMITTED_AT);
-    let kept = present(s, t);
+    let now = present(s, t);
     let revision = h.revision;
     let last = h.ordinal;
-    committed(t, revision, last.next(), kept)
+    committed(t, revision, last.next(), now)
 }
 
 // Committed's head at rest on `aim`, behind the entry of number `index`.
@@ -262,15 +267,14 @@ fn enter_change(s: &mut [u8], list: &[u8], at: usize)
     let t = entered(&list[from..to]);
     let u = commits(s, t);
     let n = last_number(s);
-    let i = Number::of(n + 1);
+    let number = n + 1;
+    let i = Number::of(number);
     let x = u.change;
     let ordinal = x.ordinal;
-    let paths = u.paths;
-    let values = u.values;
     grow(s, n, u);
     store_change(s, i);
     rests(s, i, i, ordinal);
-    lay(s, COMMITTED_VALUES_AT, paths, values, u.count);
+    lay_committed(s, Lay::Values, t, number);
 }
 
 // The rollback of the revision, as its request and its commit leave it.
@@ -285,11 +289,9 @@ fn enter_rollback(s: &mut [u8])
     let last = h.ordinal;
     let ordinal = last.next();
     let aim = t.index;
-    let paths = t.paths;
-    let kept = t.kept;
     store_entry(s, number, undone(t, ordinal));
     rests(s, revision, aim, ordinal);
-    lay(s, COMMITTED_VALUES_AT, paths, kept, t.count);
+    lay_committed(s, Lay::Kept, t, number);
 }
 
 // The entry at a place.

@@ -32,6 +32,7 @@ pub use reads::Heads;
 pub use reads::Read;
 pub use reads::both_heads;
 pub use reads::connection;
+pub use reads::owner;
 pub use reads::record;
 pub use reads::transaction;
 pub use reads::value;

@@ -5,12 +5,11 @@ ghost use Prim.Native.Nat.{_≤_};
 ghost use lib.ListN.{length};
 ghost use Rattle.rules.specs.Plans.{refuse};
 ghost use Rattle.machine.specs.State.{blank};
-ghost use Rattle.machine.specs.Stores.{ofCommitted};
 ghost use Rattle.machine.specs.Night.{bits, tableOk, nightOk};
 ghost use Rattle.image.specs.Layout.{imageLength};
-ghost use Rattle.image.specs.View.{view, tableOf};
+ghost use Rattle.image.specs.View.{view};
 ghost use Rattle.image.specs.Formed.{formed};
-ghost use Rattle.controller.specs.Nights.{putEvent, fitting, refuses, Awake, sceneOf, isNext, settledAt, presentAt, stands, idle, Quiet, tries, plansBy, Finds, stoppedAt, Through, Nighted};
+ghost use Rattle.controller.specs.Nights.{putEvent, fitting, refuses, Awake, sceneOf, isNext, settledAt, noPresent, presentAt, stands, idle, Quiet, tries, plansBy, Finds, stoppedAt, Through, Nighted};
 use crate::calls::is_node;
 use crate::calls::of_commit;
 use crate::deciding::line;
@@ -37,6 +36,7 @@ use kinds::Transaction;
 use rules::Lay;
 use rules::Order;
 use rules::Plan;
+use rules::Present;
 use rules::apply_change;
 use rules::apply_rollback;
 use rules::commit_change;
@@ -173,10 +173,19 @@ fn settled_at(s: &[u8], t: Transaction, x: Scene) -> bool
     true
 }
 
-// The committed values of the paths of a change, where it may begin: they are kept at no other, and then none is loaded.
-fn present_at(s: &[u8], t: Transaction, i: Number, x: Scene) -> [u16; 4]
+fn no_present() -> Present
+    ensures { λ r. ⌜ r ≡ noPresent ⌝ }
+{
+    let values = [0u16, 0, 0, 0];
+    let owners = [0u16, 0, 0, 0];
+    Present { values, owners }
+}
+
+// The committed values and the owners of a change's paths, where it may begin: they are kept at no other, and then none is
+// loaded.
+fn present_at(s: &[u8], t: Transaction, i: Number, x: Scene) -> Present
     requires { ⌜ imageLength ≤ length (now s) ⌝ }
-    ensures { λ r. ⌜ r ≡ presentAt (x .change .0) (i .0) (tableOf (now (s .entry)) ofCommitted) t ⌝ }
+    ensures { λ r. ⌜ r ≡ presentAt (x .change .0) (i .0) t (view (now (s .entry))) ⌝ }
 {
     let c = t.change;
     let commit = c.commit;
@@ -186,7 +195,7 @@ fn present_at(s: &[u8], t: Transaction, i: Number, x: Scene) -> [u16; 4]
     if pending & ready {
         return present(s, t);
     }
-    [0u16, 0, 0, 0]
+    no_present()
 }
 
 // Whether a stage neither waits nor goes.
@@ -251,7 +260,7 @@ fn try_jobs(t: Transaction, i: Number, x: Scene, settled: bool, valid: bool, tak
     let committed = x.committed;
     let applied = x.applied;
     let change = x.change;
-    let a = commit_change(t, committed, change, x.rest, i, valid, [0u16, 0, 0, 0]);
+    let a = commit_change(t, committed, change, x.rest, i, valid, no_present());
     if a.answer == 0 {
         return Tried {
             job: 1,
@@ -297,14 +306,14 @@ fn plan_at(
     taken: bool,
 ) -> Plan
     requires { ⌜ imageLength ≤ length (now s) ⌝ }
-    ensures { λ r. ⌜ r ≡ plansBy job t i x settled valid taken (presentAt (x .change .0) (i .0) (tableOf (now (s .entry)) ofCommitted) t) ⌝ }
+    ensures { λ r. ⌜ r ≡ plansBy job t i x settled valid taken (presentAt (x .change .0) (i .0) t (view (now (s .entry)))) ⌝ }
 {
     let committed = x.committed;
     let applied = x.applied;
     let change = x.change;
     if job == 1 {
-        let values = present_at(s, t, i, x);
-        return commit_change(t, committed, change, x.rest, i, valid, values);
+        let now = present_at(s, t, i, x);
+        return commit_change(t, committed, change, x.rest, i, valid, now);
     }
     if job == 2 {
         return apply_change(t, applied, settled, i, x.line, taken);
@@ -334,6 +343,7 @@ fn no_plan(h: Head) -> Plan
         rollback: change,
         index: Number::of(0),
         kept: [0u16, 0, 0, 0],
+        owners: [0u16, 0, 0, 0],
     };
     Plan {
         answer: 11,

@@ -90,6 +90,7 @@ pub fn entered(b: &[u8]) -> Transaction
     let paths = [path_at(b, 0), path_at(b, 4), path_at(b, 8), path_at(b, 12)];
     let values = [two_at(b, 2), two_at(b, 6), two_at(b, 10), two_at(b, 14)];
     let kept = [0u16, 0, 0, 0];
+    let owners = [0u16, 0, 0, 0];
     let change = Side {
         commit: Status::Pending,
         apply: Status::Pending,
@@ -110,5 +111,6 @@ pub fn entered(b: &[u8]) -> Transaction
         rollback,
         index,
         kept,
+        owners,
     }
 }

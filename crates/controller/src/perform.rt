@@ -1,17 +1,19 @@
 // A plan's stores, carried out in the image in the paper's order; a cut leaves out what follows "then".
 ghost use mathlib.Core.Path.{_≡_};
 ghost use mathlib.Core.Bool.{true, false};
+ghost use mathlib.Core.List.{_++_};
 ghost use Prim.Native.Nat.{_+_, _≤_};
 ghost use lib.ListN.{length};
 ghost use Rattle.machine.specs.Stores.{Table, ofCommitted, ofApplied, ofTarget};
 ghost use Rattle.rules.specs.declared.Order.the-variants.{TargetThenHeadThenEntry};
-ghost use Rattle.machine.specs.Rows.{overlay, laid, entryRow, changeRow, headRow, targetRow, rowsBy, rowsOf, eventOf};
+ghost use Rattle.machine.specs.Rows.{overlay, laid, owned, entryRow, changeRow, headRow, targetRow, rowsBy, rowsOf, eventOf};
 ghost use Rattle.image.specs.Layout.{valuesAt, tableSize, imageLength};
 ghost use Rattle.image.specs.View.{written};
 use image::APPLIED_AT;
 use image::APPLIED_VALUES_AT;
 use image::COMMITTED_AT;
 use image::COMMITTED_VALUES_AT;
+use image::OWNERS_AT;
 use image::TARGET_VALUES_AT;
 use image::store_change;
 use image::store_entry;
@@ -69,6 +71,38 @@ fn lay_by(s: &mut [u8], at: usize, l: Lay, t: Transaction)
     }
 }
 
+// The owners of a change's paths: its number i, or those that it remembers.
+fn lay_owners(s: &mut [u8], l: Lay, t: Transaction, i: u16)
+    requires { ⌜ imageLength ≤ length (now s) ⌝ }
+    ensures { λ _. ⌜ now (s .exit) ≡ written (now (s .entry)) (owned l t i) ⌝ }
+{
+    let p = t.paths;
+    match l {
+        Lay::Nothing => {
+            return;
+        }
+        Lay::Values => {
+            let o = [i; 4];
+            lay(s, OWNERS_AT, p, o, t.count);
+            return;
+        }
+        Lay::Kept => {
+            let o = t.owners;
+            lay(s, OWNERS_AT, p, o, t.count);
+            return;
+        }
+    }
+}
+
+// Both of a commit's tables: Committed's values, and their owners.
+pub fn lay_committed(s: &mut [u8], l: Lay, t: Transaction, i: u16)
+    requires { ⌜ imageLength ≤ length (now s) ⌝ }
+    ensures { λ _. ⌜ now (s .exit) ≡ written (now (s .entry)) (laid ofCommitted l t ++ owned l t i) ⌝ }
+{
+    lay_by(s, COMMITTED_VALUES_AT, l, t);
+    lay_owners(s, l, t, i);
+}
+
 fn store_change_if(s: &mut [u8], moves: bool, i: u16)
     requires { ⌜ imageLength ≤ length (now s) ⌝ }
     ensures { λ _. ⌜ now (s .exit) ≡ written (now (s .entry)) (changeRow moves i) ⌝ }
@@ -89,7 +123,7 @@ fn commit_row(s: &mut [u8], i: u16, p: Plan)
     let t = p.entry;
     store_head(s, COMMITTED_AT, h);
     store_change_if(s, p.change, i);
-    lay_by(s, COMMITTED_VALUES_AT, l, t);
+    lay_committed(s, l, t, i);
 }
 
 // The head's store of jobs 2 and 4: Applied.

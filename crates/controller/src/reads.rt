@@ -5,7 +5,7 @@ ghost use Prim.Native.Nat.{_<_, _≤_};
 ghost use lib.Dec.{ltb};
 ghost use lib.ListN.{length};
 ghost use Rattle.machine.specs.State.{isNode};
-ghost use Rattle.machine.specs.Reads.{Query, ofTable, ofEntry, ofState, ofNode, shows, refuses, isField, flag, entryNumbers, stateNumbers, nodeNumbers};
+ghost use Rattle.machine.specs.Reads.{Query, ofTable, ofEntry, ofState, ofNode, ofOwner, shows, refuses, isField, flag, entryNumbers, stateNumbers, nodeNumbers};
 ghost use Rattle.image.specs.Layout.{imageLength};
 ghost use Rattle.image.specs.Records.{headNumbers};
 ghost use Rattle.image.specs.View.{view, netOf};
@@ -16,6 +16,7 @@ use crate::calls::in_log;
 use crate::calls::is_node;
 use image::APPLIED_AT;
 use image::COMMITTED_AT;
+use image::OWNERS_AT;
 use image::last_fold;
 use image::last_number;
 use image::load_change;
@@ -87,7 +88,7 @@ fn is_field(f: u16, n: u16) -> bool
     (1 <= f) & (f <= n)
 }
 
-// ---- values
+// ---- values and owners
 
 fn is_value(table: u16, path: u16) -> bool
     ensures { λ r. ⌜ r ≡ (isField 4 table && ltb path 32) ⌝ }
@@ -105,6 +106,24 @@ pub fn value(s: &[u8], table: u16, path: u16) -> Read
             let at = table_place(table);
             let v = load_value(s, at, path as u8);
             return Read::shows(wide16(v));
+        }
+        return Read::refuses(2);
+    }
+    Read::refuses(1)
+}
+
+// Who set a path: the number of the newest live change that set it; 0 if none did, or if it is folded away. Refuses 1, 2.
+pub fn owner(s: &[u8], path: u16) -> Read
+    ensures { λ r. ⌜ Shows (now (s .entry)) (ofOwner path) r ⌝ }
+{
+    if well_formed(s) {
+        if path < 32 {
+            let k = load_value(s, OWNERS_AT, path as u8);
+            let b = last_fold(s);
+            if b < k {
+                return Read::shows(wide16(k));
+            }
+            return Read::shows(0);
         }
         return Read::refuses(2);
     }

@@ -22,7 +22,7 @@ use Rattle.machine.specs.WellFormed.{allEntries, entryOk, headsOk, sizesOk, log
 use Rattle.machine.specs.Settled.{settled}
 use Rattle.machine.specs.Rest.{restOf}
 use Rattle.rules.specs.Plans.{isPush}
-use Rattle.machine.specs.Calls.{Call, work, unless, present, job1, job2, job3, job4, planOf, planned, workOk, decide}
+use Rattle.machine.specs.Calls.{Call, work, unless, presentOf, job1, job2, job3, job4, planOf, planned, workOk, decide}
 use Rattle.machine.specs.Step.{outcome, step, stateFrom, eventsFrom}
 use Rattle.machine.specs.Night as machine
 use Rattle.machine.specs.Night.{nightNot}
@@ -100,7 +100,7 @@ module _ (i : ℕ) (low : i ≤ 65535) where
 
       go : (a b c : Bool) → Fits (cond a (job1 s i y) (cond b (job2 s n i y) (cond c (job3 s i) (job4 s n i y))))
       go true b c =
-          commit-change (entryOf (s .log) i) (s .committed .head) i Fits (s .change) (restOf s) (present (s .committed .values) (entryOf (s .log) i)) y
+          commit-change (entryOf (s .log) i) (s .committed .head) i Fits (s .change) (restOf s) (presentOf s (entryOf (s .log) i)) y
           (record {
             wait = no-event;
             full = λ a b c. no-event;

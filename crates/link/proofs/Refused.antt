@@ -11,6 +11,7 @@ use Rattle.kinds.specs.declared.Number.{Number}
 use Rattle.kinds.specs.declared.Ordinal.{Ordinal}
 use Rattle.kinds.specs.Numbers.{num, nextOrdinal}
 use Rattle.rules.specs.declared.Plan.{Plan}
+use Rattle.rules.specs.declared.Present.{Present}
 use Rattle.rules.specs.declared.Order.{Order}
 use Rattle.rules.specs.declared.Order.the-variants.{Neither}
 use Rattle.rules.specs.declared.CommitChangeRule.{CommitChangeRule}
@@ -32,7 +33,7 @@ use Rattle.machine.specs.Rest.{restOf}
 use Rattle.machine.specs.Folding.{mayFold}
 use Rattle.machine.specs.Rows.{rowsBy, rowsOf}
 use Rattle.machine.specs.Calls as calls
-use Rattle.machine.specs.Calls.{Call, Outcome, append, start, stop, connect, disconnect, master, sync, work, foldTo, unless, validChange, present, planOf, commits, planned, workOk, decide}
+use Rattle.machine.specs.Calls.{Call, Outcome, append, start, stop, connect, disconnect, master, sync, work, foldTo, unless, validChange, presentOf, planOf, commits, planned, workOk, decide}
 use Rattle.image.specs.Layout.{slots, highest}
 use Rattle.image.specs.View.{view}
 use Rattle.image.specs.Formed.{formed}
@@ -51,7 +52,7 @@ abbrev QuietPlan : Plan → Type 0
 QuietPlan p = (p .answer ≡ 0 → ⊥) → p .order ≡ Neither
 
 module _ (t : Transaction) (h : Head) (i : Number) where
-  commit-change : (o : Ordinal) (vs : List ℕ) (r : CommitChangeRule) → QuietPlan (job1.plans r t h i o vs)
+  commit-change : (o : Ordinal) (vs : Present) (r : CommitChangeRule) → QuietPlan (job1.plans r t h i o vs)
   commit-change o vs change.Begin x = absurd (x refl)
   commit-change o vs change.Aim x = absurd (x refl)
   commit-change o vs change.Land x = absurd (x refl)
@@ -98,7 +99,7 @@ module _ (s : State) where
     where
       go : (a b c : Bool) → QuietPlan (cond a (calls.job1 s i ok) (cond b (calls.job2 s n i ok) (cond c (calls.job3 s i) (calls.job4 s n i ok))))
       go true b c =
-          commit-change (entryOf (s .log) i) (s .committed .head) (num i) (nextOrdinal (s .committed .head .ordinal)) (present (s .committed .values) (entryOf (s .log) i))
+          commit-change (entryOf (s .log) i) (s .committed .head) (num i) (nextOrdinal (s .committed .head .ordinal)) (presentOf s (entryOf (s .log) i))
           (job1.rule (entryOf (s .log) i .change .commit) (job1.tests (s .committed .head) (s .change) (restOf s) (num i) ok))
       go false true c =
           apply-change (entryOf (s .log) i) (s .applied .head) (num i)

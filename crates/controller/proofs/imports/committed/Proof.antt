@@ -8,7 +8,7 @@ of-requires : tie.Need-of-requires
 of-requires c κs = search needs
 
 returns : tie.Need-returns
-returns c = committed-made (c .before .before .before .args .t) _ _ _ _ (c .of .ensures)
+returns c = committed-made (c .before .before .before .before .before .args .t) _ _ (c .before .before .before .before .before .args .present) _ (c .of .ensures)
 
 pub committed-spec : {M : Type 1} → statement M
 committed-spec = tie.close (tie.spec of-requires returns)

@@ -22,19 +22,19 @@ undone-requires : tie.Need-undone-requires
 undone-requires c κs = search needs
 
 store-entry-requires : tie.Need-store-entry-requires
-store-entry-requires c κs = undo-here _ (c .before .before .before .before .before .before .before .before .before .before .before .before .before .before .pre) _ (c .before .before .before .before .before .before .before .before .before .before .before .load-head .ensures) _ (c .before .before .before .before .before .before .before .before .before .get .ensures)
+store-entry-requires c κs = undo-here _ (c .before .before .before .before .before .before .before .before .before .before .before .before .pre) _ (c .before .before .before .before .before .before .before .before .before .load-head .ensures) _ (c .before .before .before .before .before .before .before .get .ensures)
 
 rests-requires : tie.Need-rests-requires
-rests-requires c κs = omega (arith, size _ (c .before .before .before .before .before .before .before .before .before .before .before .before .before .before .before .before .before .before .pre .formed))
+rests-requires c κs = omega (arith, size _ (c .before .before .before .before .before .before .before .before .before .before .before .before .before .before .before .before .pre .formed))
 
-lay-requires : tie.Need-lay-requires
-lay-requires c κs = omega (arith, size _ (c .before .before .before .before .before .before .before .before .before .before .before .before .before .before .before .before .before .before .before .before .before .before .pre .formed))
+lay-committed-requires : tie.Need-lay-committed-requires
+lay-committed-requires c κs = omega (arith, size _ (c .before .before .before .before .before .before .before .before .before .before .before .before .before .before .before .before .before .before .before .before .pre .formed))
 
 same-length : tie.Need-same-length
 same-length c = search needs
 
 returns : tie.Need-returns
-returns c = undo-row (c .before .before .before .before .before .before .before .before .before .before .before .before .before .before .before .before .before .before .before .before .before .before .before .before .before .args .s .now) (c .before .before .before .before .before .before .before .before .before .before .before .before .before .before .before .before .before .before .before .before .before .before .before .before .before .pre) _ (c .before .before .before .before .before .before .before .before .before .before .before .before .before .before .before .before .before .before .before .before .before .before .load-head .ensures) _ (c .before .before .before .before .before .before .before .before .before .before .before .before .before .before .before .before .before .before .before .before .get .ensures) _ (c .before .before .before .before .before .before .before .before .before .before .before .before .before .before .before .before .before .before .load-entry .ensures) _ (c .before .before .before .before .before .before .before .before .before .before .before .before .before .before .before .before .next .ensures) _ (c .before .before .before .before .before .before .before .before .before .before .before .undone .ensures) _ _ _ (c .before .before .before .before .before .before .before .before .before .before .store-entry .ensures) (c .before .before .before .before .before .before .rests .ensures) (c .before .before .lay .ensures)
+returns c = undo-row (c .before .before .before .before .before .before .before .before .before .before .before .before .before .before .before .before .before .before .before .before .before .before .before .args .s .now) (c .before .before .before .before .before .before .before .before .before .before .before .before .before .before .before .before .before .before .before .before .before .before .before .pre) _ (c .before .before .before .before .before .before .before .before .before .before .before .before .before .before .before .before .before .before .before .before .load-head .ensures) _ (c .before .before .before .before .before .before .before .before .before .before .before .before .before .before .before .before .before .before .get .ensures) _ (c .before .before .before .before .before .before .before .before .before .before .before .before .before .before .before .before .load-entry .ensures) _ (c .before .before .before .before .before .before .before .before .before .before .before .before .before .before .next .ensures) _ (c .before .before .before .before .before .before .before .before .before .before .before .undone .ensures) _ _ _ (c .before .before .before .before .before .before .before .before .before .before .store-entry .ensures) (c .before .before .before .before .before .before .rests .ensures) (c .before .before .lay-committed .ensures)
 
 pub enter-rollback-spec : {M : Type 1} → statement M
 enter-rollback-spec =
@@ -47,6 +47,6 @@ enter-rollback-spec =
     undone-requires
     store-entry-requires
     rests-requires
-    lay-requires
+    lay-committed-requires
     same-length
     returns)

@@ -16,8 +16,11 @@ present-requires c κs = search needs
 returns : tie.Need-returns
 returns c = loaded-present _ _ _ (c .before .before .before .before .before .before .before .args .t) _ _ (c .before .before .before .pending .ensures) (c .before .before .follows .ensures) _ (c .before .if1 .taken) (c .present .ensures)
 
+no-present-requires : tie.Need-no-present-requires
+no-present-requires c κs = search needs
+
 returns-2 : tie.Need-returns-2
-returns-2 c = loaded-none _ _ _ (c .before .before .before .before .before .before .args .t) _ _ (c .before .before .pending .ensures) (c .before .follows .ensures) (c .if1 .left)
+returns-2 c = loaded-none _ _ _ (c .before .before .before .before .before .before .before .args .t) _ _ (c .before .before .before .pending .ensures) (c .before .before .follows .ensures) _ (c .before .if1 .left) (c .no-present .ensures)
 
 pub present-at-spec : {M : Type 1} → statement M
 present-at-spec =
@@ -27,4 +30,5 @@ present-at-spec =
     follows-requires
     present-requires
     returns
+    no-present-requires
     returns-2)

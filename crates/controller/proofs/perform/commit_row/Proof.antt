@@ -10,16 +10,16 @@ store-head-requires c κs = search needs
 store-change-if-requires : tie.Need-store-change-if-requires
 store-change-if-requires c κs = search needs
 
-lay-by-requires : tie.Need-lay-by-requires
-lay-by-requires c κs = search needs
+lay-committed-requires : tie.Need-lay-committed-requires
+lay-committed-requires c κs = search needs
 
 same-length : tie.Need-same-length
 same-length c = search needs
 
 returns : tie.Need-returns
-returns c = commit-row _ _ _ _ (c .before .before .before .before .before .before .before .before .before .before .before .before .before .before .before .args .i) (c .before .before .before .before .before .before .before .before .before .before .before .before .before .before .before .args .p) (c .before .before .before .before .before .before .before .before .before .before .store-head .ensures) (c .before .before .before .before .before .before .store-change-if .ensures) (c .before .before .lay-by .ensures)
+returns c = commit-row _ _ _ _ (c .before .before .before .before .before .before .before .before .before .before .before .before .before .before .before .args .i) (c .before .before .before .before .before .before .before .before .before .before .before .before .before .before .before .args .p) (c .before .before .before .before .before .before .before .before .before .before .store-head .ensures) (c .before .before .before .before .before .before .store-change-if .ensures) (c .before .before .lay-committed .ensures)
 
 pub commit-row-spec : {M : Type 1} → statement M
 commit-row-spec =
     tie.close
-    (tie.spec store-head-requires store-change-if-requires lay-by-requires same-length returns)
+    (tie.spec store-head-requires store-change-if-requires lay-committed-requires same-length returns)
