@@ -11,7 +11,7 @@ use Rattle.kinds.specs.declared.Reply.{Reply}
 use Rattle.machine.specs.State.{last, inLog, isKept, isNode}
 use Rattle.machine.specs.WellFormed.{allEntries, entryOk, sizesOk, headsOk, logOk, wellFormed}
 use Rattle.machine.specs.Calls.{Call, Outcome, rollback, connect, disconnect, master, sync, work, foldTo, unless, refused, workOk, decide}
-use Rattle.machine.specs.Reads.{Query, Answer, ofTable, ofEntry, ofState, ofNode, isField, read}
+use Rattle.machine.specs.Reads.{Query, Answer, ofTable, ofEntry, ofState, ofNode, ofOwner, isField, read}
 use Rattle.machine.specs.Reads as reads
 use Rattle.machine.proofs.Cases.{and-left, and-right}
 use Rattle.image.specs.View.{view, written}
@@ -229,6 +229,10 @@ module _ (l : List ℕ) where
   unfolding readOf read
   far-path b p h =
       sym (ap shown.given (refuse-read (isField 4 b && ltb p 32) _ (ap (λ q. isField 4 b && q) (le-ltb p 32 (omega arith)) ∙ and-none (isField 4 b))))
+
+  pub wide-owner : (p : ℕ) → readOf l (ofOwner (narrowed outside p)) ≡ readOf l (ofOwner p)
+  unfolding readOf read
+  wide-owner p = either (λ x. readOf l (ofOwner x)) outside p (λ h. ap shown.given (refuse-read (ltb p 32) _ (le-ltb p 32 (omega arith))))
 
   pub wide-entry : (i f : ℕ) → readOf l (ofEntry (narrowed none i) f) ≡ readOf l (ofEntry i f)
   unfolding readOf read

@@ -3,7 +3,7 @@
 ghost use mathlib.Core.Path.{_≡_};
 ghost use mathlib.Core.Bool.{cond};
 ghost use Rattle.machine.specs.Calls.{rollback, start, stop, connect, disconnect, master, sync, work, foldTo};
-ghost use Rattle.machine.specs.Reads.{ofTable, ofEntry, ofState, ofNode};
+ghost use Rattle.machine.specs.Reads.{ofTable, ofEntry, ofState, ofNode, ofOwner};
 ghost use Rattle.image.specs.Formed.{formed};
 ghost use Rattle.controller.specs.Bytes.{appendOf};
 ghost use Rattle.northbound.specs.Packing.{Packs, PacksRead, PacksListed, PacksWhy, PacksNight, PacksImport};
@@ -127,7 +127,7 @@ fn refused(image: &[u8]) -> u64
 
 // ---- the calls
 
-// Makes a fresh image; 1 where the length is not 4,949.
+// Makes a fresh image; 1 where the length is not 6,037.
 #[no_mangle]
 pub extern "C" fn makowist_fresh(image: &mut [u8]) -> u64
     ensures { λ r. ⌜ Freshens (now (image .entry)) r (now (image .exit)) ⌝ }
@@ -286,6 +286,15 @@ pub extern "C" fn makowist_value(image: &[u8], table: u64, path: u64) -> u64
     }
     let b = narrow(table, OUTSIDE);
     pack_read(controller::value(image, b, path as u16))
+}
+
+// Who set a path: the number of the newest live change that set it, 0 where none did.
+#[no_mangle]
+pub extern "C" fn makowist_owner(image: &[u8], path: u64) -> u64
+    ensures { λ r. ⌜ Shows (now (image .entry)) (ofOwner path) r ⌝ }
+{
+    let p = narrow(path, OUTSIDE);
+    pack_read(controller::owner(image, p))
 }
 
 // A field of a transaction.

@@ -36,7 +36,7 @@ use Rattle.controller.specs.Nights.{lentFrom, nightIn, Nights}
 use Rattle.controller.specs.Imports.{Imports, importIn, told, imageAfter, Listed}
 use Rattle.controller.proofs.Freshened.{freshened}
 use Rattle.controller.proofs.Imported.{list-length}
-use Rattle.northbound.specs.Packing.{unpacked, unpackedImport, unpackedNight, unpackedWhy}
+use Rattle.northbound.specs.Packing.{unpacked, unpackedRead, unpackedImport, unpackedNight, unpackedWhy}
 use Rattle.northbound.specs.Exports as north
 use Rattle.link.specs.Runs.{Calling, none, next, repliesFrom}
 use Rattle.link.proofs.Link.{Shows, shows-run, state-run, events-run, eventOf}
@@ -48,10 +48,12 @@ use Rattle.promise.specs.Demands.{Demand3C}
 use Rattle.promise.specs.Reasons.{Explained}
 use Rattle.promise.specs.Nights.{Accepted, Acting, call, nightly, ActingC, AreCalls, Suffices}
 use Rattle.promise.specs.Nights as acting
+use Rattle.promise.specs.Owners.{Owned}
 use Rattle.promise.specs.Imports.{Answers, image, list, entries, AnyImport, ImportCalls, callsWith, eventsWith, BehindC}
 use Rattle.promise.proofs.Promise.{reached-3, reached-3-c}
 use Rattle.promise.proofs.Nights.{Reached, acted, acting-calls, six-enough, acting-in-c, night-in-c}
 use Rattle.promise.proofs.Explained.{why-in-c, why-explained}
+use Rattle.promise.proofs.Owned.{owner-in-c, owner-listed}
 
 -- ---- what is answered
 answers-so : (l b : List ℕ) → Answers l b (told (importIn l b))
@@ -296,4 +298,7 @@ module _ (l b : List ℕ) (p : ℕ) (m : List ℕ) (q : north.Imports l b p m) w
           explained = λ n j k w z e.
               subst (λ (fs : List Event). Explained fs m′ j k (unpackedWhy w)) (x .events)
               (why-explained freshImage freshImage (refusal 0) length-fresh f (x .calls) n j k (unpackedWhy w) (why-in-c m′ n j k w z) e);
+          owned = λ k w z e.
+              subst (λ (fs : List Event). Owned fs m′ k (unpackedRead w)) (x .events)
+              (owner-listed freshImage freshImage (refusal 0) length-fresh f (x .calls) k (unpackedRead w) z (owner-in-c m′ k w e));
         }

@@ -4,4 +4,5 @@ pub mod Retried
 pub mod Explained
 pub mod EventRoom
 pub mod Nights
+pub mod Owned
 pub mod Imports

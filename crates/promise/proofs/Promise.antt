@@ -95,7 +95,7 @@ events [] = refl
 events (x ∷ xs) = ap (λ es. unpacked x .event ∷ es) (events xs)
 
 -- a table's value as it is read
-value : (m : List ℕ) (b p : ℕ) → formed m ≡ true → (reads.isField 4 b && ltb p 32) ≡ true → readOf m (ofTable b p) ≡ found (getD (tableNumbers (view m) b) p 0)
+pub value : (m : List ℕ) (b p : ℕ) → formed m ≡ true → (reads.isField 4 b && ltb p 32) ≡ true → readOf m (ofTable b p) ≡ found (getD (tableNumbers (view m) b) p 0)
 unfolding readOf read
 value m b p w h = rw (w, h)
 

@@ -11,7 +11,7 @@ use Rattle.machine.specs.State.{State, isNode, nodeOf}
 use Rattle.machine.specs.Stores.{connections, after, afters}
 use Rattle.machine.specs.Rows.{overlay, rowsOf}
 use Rattle.machine.specs.Calls.{Call, append, rollback, start, stop, connect, disconnect, master, sync, work, foldTo, valuesOk, present, planOf, decide}
-use Rattle.machine.specs.WellFormed.{allFrom, pairsOk, entryOk, headOk, wellFormed}
+use Rattle.machine.specs.WellFormed.{allFrom, allAtMost, pairsOk, entryOk, headOk, wellFormed}
 use Rattle.machine.specs.Step.{outcome, step, run, stateFrom}
 use Rattle.machine.specs.Retry as states
 use Rattle.machine.specs.Retry.{elsewhere, allElsewhere, Cut, mayRetry, OneIs}
@@ -177,9 +177,9 @@ pub record May (cs : List Call) (j x q c : ℕ) : Type 0 where
   pub may : mayRetry (planOf (run cs .state) 1 j 1 true .order) x 0 q c ≡ true
 
 pub met : May led 1 1 1 1
-unfolding run step outcome decide planOf wellFormed allFrom entryOk headOk pairsOk valuesOk present after afters
+unfolding run step outcome decide planOf wellFormed allFrom allAtMost entryOk headOk pairsOk valuesOk present after afters
 met = record { cut = record { args = refl; number = refl; kept = refl; master = refl }; may = refl }
 
 pub push-met : May begun 2 1 0 0
-unfolding run step outcome decide planOf wellFormed allFrom entryOk headOk pairsOk valuesOk present after afters rowsOf overlay
+unfolding run step outcome decide planOf wellFormed allFrom allAtMost entryOk headOk pairsOk valuesOk present after afters rowsOf overlay
 push-met = record { cut = record { args = refl; number = refl; kept = refl; master = refl }; may = refl }

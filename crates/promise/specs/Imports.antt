@@ -1,6 +1,6 @@
 -- AN IMPORT, on bytes (order 6; of lists: machine's Import and Imports). No proof in it; each holds of every import by Imports, in
 -- the controller and as C sees it. Assumes nothing.
-use Prim.Native.Nat.{ℕ}
+use Prim.Native.Nat.{ℕ, _<_}
 use mathlib.Core.Path.{_≡_}
 use mathlib.Core.Bool.{true}
 use mathlib.Core.List.{List, _++_}
@@ -9,6 +9,7 @@ use Rattle.kinds.specs.declared.Reply.{Reply}
 use Rattle.kinds.specs.declared.Event.{Event}
 use Rattle.machine.specs.Calls.{Call}
 use Rattle.machine.specs.Step.{run}
+use Rattle.machine.specs.Reads.{ofOwner}
 use Rattle.machine.specs.Import.{Verdict, entriesOf, importCalls}
 use Rattle.machine.specs.Imports.{Verdicts}
 use Rattle.machine.specs.Imports as machine
@@ -19,12 +20,13 @@ use Rattle.image.specs.Fresh.{freshImage}
 use Rattle.controller.specs.declared.imports.Imported.{Imported}
 use Rattle.controller.specs.Fresh.{Freshens}
 use Rattle.controller.specs.Imports.{Listed}
-use Rattle.northbound.specs.Packing.{unpackedNight, unpackedWhy}
+use Rattle.northbound.specs.Packing.{unpackedRead, unpackedNight, unpackedWhy}
 use Rattle.northbound.specs.Exports as north
 use Rattle.link.specs.Runs.{Calling}
 use Rattle.promise.specs.Demands.{Demand3C}
 use Rattle.promise.specs.Reasons.{Explained}
 use Rattle.promise.specs.Nights.{Accepted, AreCalls, Suffices}
+use Rattle.promise.specs.Owners.{Owned}
 
 -- ---- any bytes: an import of the list b on the image l was answered r, and left m
 -- 1 where the image has another length; else 2 where the bytes are no list of at most 256 entries; else the verdict on its entries
@@ -69,3 +71,5 @@ pub record BehindC (b : List ℕ) (cs : List Call) (es : List Event) (m : List �
   pub enough : (n c : ℕ) (os x : List ℕ) (p : ℕ) (m′ y : List ℕ) → north.Nights m n c os x p m′ y → Suffices 6 m n c (unpackedNight p) m′
   -- and what makowist_why tells of a transaction is so (order 4)
   pub explained : (n j i x : ℕ) → north.Explains m n j i x → unpackedWhy x .answer ≡ 0 → Explained (eventsWith b es) m j i (unpackedWhy x)
+  -- who makowist_owner names is who set the path (order 7)
+  pub owned : (p x : ℕ) → p < 32 → north.Shows m (ofOwner p) x → Owned (eventsWith b es) m p (unpackedRead x)

@@ -3,4 +3,5 @@ pub mod Demands
 pub mod Retry
 pub mod Reasons
 pub mod Nights
+pub mod Owners
 pub mod Imports
