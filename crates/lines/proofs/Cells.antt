@@ -35,13 +35,18 @@ in-row p k c e h f =
     f ∙ ap (λ (i : ℕ). getD (rowText forms i) (p % 64) 0) (sym e)
     ∙ sym (eqb-true (letterAt p) (getD (rowText forms (p / 64)) (p % 64) 0) (all-at size cellAt cells-all p (omega arith)))
 
--- a row past those counted so far
-pub above : {n x : ℕ} → n ≤ x → (x ≡ n → ⊥) → n + 1 ≤ x
-above {n} {x} h g = by (ltb n x) refl
+-- a row that is none of the first n
+abbrev NoneOf : ℕ → ℕ → Type 0
+NoneOf zero x = Unit {0}
+NoneOf (suc n) x = NoneOf n x × (x ≡ n → ⊥)
+
+pub beyond : (n x : ℕ) → NoneOf n x → n ≤ x
+beyond zero x h = omega arith
+beyond (suc n) x h = by (ltb n x) refl (beyond n x (h .0))
   where
-    by : (t : Bool) → ltb n x ≡ t → n + 1 ≤ x
-    by true e = omega (arith, ltb-true n x e)
-    by false e = absurd (g (omega (arith, ltb-false n x e)))
+    by : (t : Bool) → ltb n x ≡ t → n ≤ x → suc n ≤ x
+    by true e g = omega (arith, ltb-true n x e)
+    by false e g = absurd (h .1 (omega (arith, ltb-false n x e)))
 
 pub past-table : (p : ℕ) → size ≤ p → letterAt p ≡ 0
 unfolding size letterAt

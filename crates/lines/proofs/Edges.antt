@@ -10,7 +10,7 @@ use borrow.Author.Tests.{ltb-true, ltb-false, le-leb}
 use lib.Dec.{ltb}
 use lib.ListN.{length, getD, take, replicate, length-append}
 use Rattle.lines.specs.declared.reading.Call.{Call}
-use Rattle.lines.specs.declared.reading.Call.the-variants.{Unreadable, Append, Rollback, Start, Stop, Connect, Disconnect, Master, Sync, Work, Import}
+use Rattle.lines.specs.declared.reading.Call.the-variants.{Unreadable, Append, Rollback, Start, Stop, Connect, Disconnect, Master, Sync, Work, Import, Owner}
 use Rattle.lines.specs.Text.{text}
 use Rattle.lines.specs.Decimal.{isDigit, spelled, decimal}
 use Rattle.machine.specs.Import.{adds, undoes}
@@ -126,6 +126,14 @@ entries = (
   refl,
   refl,
 )
+
+-- ---- an owner (order 7): any number is a path that can be read, and 32 is refused later
+owners :
+    (asks (text "call=owner path=3") ≡ Owner 3) × (asks (text "call=owner path=0032") ≡ Owner 32) × (asks (text "call=owner path=65535") ≡ Owner 65535)
+    × (gives (text "call=owner path=3") ≡ []) × (asks (text "call=owner path=65536") ≡ Unreadable) × (asks (text "call=owner path=") ≡ Unreadable)
+    × (asks (text "call=owner") ≡ Unreadable) × (asks (text "call=owner node=3") ≡ Unreadable) × (asks (text "call=owner path=3:7") ≡ Unreadable)
+unfolding asks gives size letterAt like seekIn pushed callOf
+owners = (refl, refl, refl, refl, refl, refl, refl, refl, refl)
 
 -- ---- numbers
 -- d are the digits of n, and the first is no 0 unless n is 0

@@ -1,17 +1,18 @@
--- The paper's nine lines, the fold's, why's, the night's and the import's, each written out, are what the table says, and nothing
--- else is. Assumes nothing.
+-- The paper's nine lines, the fold's, why's, the night's, the import's and the owner's, each written out, are what the table says,
+-- and nothing else is. Assumes nothing.
 use Prim.Native.Nat.{ℕ, _≤_}
 use mathlib.Core.Path.{_≡_, refl, ap, sym, subst, _∙_}
 use mathlib.Core.List.{List, [], _∷_, _++_, append-assoc, append-nil}
-use mathlib.Core.Bool.{Bool, true, _&&_}
-use lib.ListN.{length}
+use mathlib.Core.Bool.{Bool, true, false, cond, _&&_, _||_}
+use lib.Dec.{eqb}
+use lib.ListN.{length, getD}
 use Rattle.machine.specs.Calls as machine
 use Rattle.machine.specs.Calls.{Pair}
 use Rattle.machine.specs.Import.{Entry}
 use Rattle.lines.specs.Text.{text}
-use Rattle.lines.specs.Forms.{Asked, calls, why, night, imports, Token, letter, number, pairs, digits, entries, Asks, Form, forms}
+use Rattle.lines.specs.Forms.{Asked, calls, why, night, imports, owner, Token, letter, number, pairs, digits, entries, Asks, Form, forms}
 use Rattle.lines.specs.Grammar.{allDigits, flat, worths, isWord, Number, Row, Entries, Item, plain, asItems, items, Fits, fits-end, fits-letter, fits-number, fits-none, fits-pairs, fits-digits, fits-no-entry, fits-entries, Among, here, there, Says}
-use Rattle.lines.proofs.Classes.{and-left, and-right}
+use Rattle.lines.proofs.Classes.{differ, and-left, and-right}
 use Rattle.lines.proofs.Each.{_&_, Each, each-among}
 
 pub data Line : List ℕ → Asked → Type 0 where
@@ -36,6 +37,7 @@ pub data Line : List ℕ → Asked → Type 0 where
       Line (text "call=night node=" ++ a ++ text " budget=" ++ b ++ text " outcomes=" ++ d) (night n k (worths d))
   line-no-entries : Line (text "call=import entries=") (imports [])
   line-import : {d : List ℕ} {es : List Entry} → 1 ≤ length d → Entries d es → Line (text "call=import entries=" ++ d) (imports es)
+  line-owner : {d : List ℕ} {p : ℕ} → Number d p → Line (text "call=owner path=" ++ d) (owner p)
 
 -- ---- a text of letters at the front of a form
 abbrev letters : List ℕ → List Token → List Token
@@ -79,8 +81,25 @@ last a (fits-number {d} {n} k fits-end) = record { n = n; number = subst (λ (z 
 at-end : {d : List ℕ} {n : ℕ} {a : ℕ → Asked} → Number d n → Fits (number ∷ []) a d (plain n ∷ []) (a n)
 at-end {d} {n} {a} k = subst (λ (z : List ℕ). Fits (number ∷ []) a z (plain n ∷ []) (a n)) (append-nil d) (fits-number k fits-end)
 
-says-by : {l : List ℕ} {ns : List Item} {x : Asked} {f : Form} → Among f forms → Fits (f .form) (f .asks) l ns x → Says l x
-says-by {ns = ns} {f = f} a y = record { of = f; among = a; tells = ns; fits = y }
+-- the row with a tag: none is counted
+abbrev tagged : List ℕ → List Form → Form
+tagged t [] = record { form = []; tag = 0; asks = calls machine.stop }
+tagged t (f ∷ fs) = cond (eqb (getD t 0 0) (f .tag)) f (tagged t fs)
+
+abbrev has : List ℕ → List Form → Bool
+has t [] = false
+has t (f ∷ fs) = eqb (getD t 0 0) (f .tag) || has t fs
+
+tagged-among : (t : List ℕ) (fs : List Form) → has t fs ≡ true → Among (tagged t fs) fs
+tagged-among t [] h = differ (sym h)
+tagged-among t (f ∷ fs) h = by (eqb (getD t 0 0) (f .tag)) h (λ g. tagged-among t fs g)
+  where
+    by : (b : Bool) → b || has t fs ≡ true → (has t fs ≡ true → Among (tagged t fs) fs) → Among (cond b f (tagged t fs)) (f ∷ fs)
+    by true h k = here
+    by false h k = there (k h)
+
+says-by : (t : List ℕ) → has t forms ≡ true → {l : List ℕ} {ns : List Item} {x : Asked} → Fits (tagged t forms .form) (tagged t forms .asks) l ns x → Says l x
+says-by t h {ns = ns} y = record { of = tagged t forms; among = tagged-among t forms h; tells = ns; fits = y }
 
 work-fits :
     {a b d e f : List ℕ} {n j i o c : ℕ} → Number a n → Number b j → Number d i → Number e o → Number f c →
@@ -121,23 +140,22 @@ night-fits x y d h =
 -- ---- each line of the paper is said
 pub line-says : {l : List ℕ} {x : Asked} → Line l x → Says l x
 unfolding flat
-line-says line-no-pairs = says-by (there (there (there here))) (fits-text (text "call=append pairs=") refl (fits-none fits-end))
+line-says line-no-pairs = says-by (text "A") refl (fits-text (text "call=append pairs=") refl (fits-none fits-end))
 line-says (line-append {l} {ps} r) =
-    says-by (there (there (there here))) (fits-text (text "call=append pairs=") refl
+    says-by (text "A") refl (fits-text (text "call=append pairs=") refl
     (subst (λ (z : List ℕ). Fits (pairs ∷ []) (λ qs. calls (machine.append qs)) z (asItems plain (flat ps) ++ []) (calls (machine.append ps))) (append-nil l)
     (fits-pairs r fits-end)))
-line-says (line-connect x) = says-by (there (there (there (there here)))) (fits-text (text "call=connect node=") refl (at-end x))
-line-says (line-disconnect x) = says-by (there (there (there (there (there here))))) (fits-text (text "call=disconnect node=") refl (at-end x))
-line-says (line-master x) = says-by (there (there (there (there (there (there here)))))) (fits-text (text "call=master node=") refl (at-end x))
-line-says (line-rollback x) = says-by (there (there (there (there (there (there (there here))))))) (fits-text (text "call=rollback number=") refl (at-end x))
-line-says (line-sync x) = says-by (there (there here)) (fits-text (text "call=sync node=") refl (at-end x))
-line-says (line-fold x) = says-by (there (there (there (there (there (there (there (there (there here)))))))))
-    (fits-text (text "call=fold number=") refl (at-end x))
-line-says line-start = says-by (there here) (fits-text (text "call=start") refl fits-end)
-line-says line-stop = says-by here (fits-text (text "call=stop") refl fits-end)
+line-says (line-connect x) = says-by (text "C") refl (fits-text (text "call=connect node=") refl (at-end x))
+line-says (line-disconnect x) = says-by (text "D") refl (fits-text (text "call=disconnect node=") refl (at-end x))
+line-says (line-master x) = says-by (text "M") refl (fits-text (text "call=master node=") refl (at-end x))
+line-says (line-rollback x) = says-by (text "R") refl (fits-text (text "call=rollback number=") refl (at-end x))
+line-says (line-sync x) = says-by (text "Y") refl (fits-text (text "call=sync node=") refl (at-end x))
+line-says (line-fold x) = says-by (text "F") refl (fits-text (text "call=fold number=") refl (at-end x))
+line-says line-start = says-by (text "S") refl (fits-text (text "call=start") refl fits-end)
+line-says line-stop = says-by (text "T") refl (fits-text (text "call=stop") refl fits-end)
 line-says (line-work {a} {b} {d} {e} {f} {n} {j} {i} {o} {c} x y z u w) =
     subst (λ (k : List ℕ). Says k (calls (machine.work n j i o c))) (regroup a b d e f)
-    (says-by (there (there (there (there (there (there (there (there here)))))))) (work-fits x y z u w))
+    (says-by (text "W") refl (work-fits x y z u w))
   where
     regroup :
         (a b d e f : List ℕ) →
@@ -146,7 +164,7 @@ line-says (line-work {a} {b} {d} {e} {f} {n} {j} {i} {o} {c} x y z u w) =
     regroup a b d e f = simp append-assoc
 line-says (line-why {a} {b} {d} {n} {j} {i} x y z) =
     subst (λ (k : List ℕ). Says k (why n j i)) (regroup a b d)
-    (says-by (there (there (there (there (there (there (there (there (there (there here)))))))))) (why-fits x y z))
+    (says-by (text "Q") refl (why-fits x y z))
   where
     regroup :
         (a b d : List ℕ) →
@@ -155,20 +173,18 @@ line-says (line-why {a} {b} {d} {n} {j} {i} x y z) =
     regroup a b d = simp append-assoc
 line-says (line-night {a} {b} {n} {k} x y d h) =
     subst (λ (z : List ℕ). Says z (night n k (worths d))) (regroup a b d)
-    (says-by (there (there (there (there (there (there (there (there (there (there (there here))))))))))) (night-fits x y d h))
+    (says-by (text "N") refl (night-fits x y d h))
   where
     regroup :
         (a b d : List ℕ) →
         text "call=night node=" ++ (a ++ (text " budget=" ++ (b ++ (text " outcomes=" ++ d))))
         ≡ text "call=night node=" ++ a ++ text " budget=" ++ b ++ text " outcomes=" ++ d
     regroup a b d = simp append-assoc
-line-says line-no-entries =
-    says-by (there (there (there (there (there (there (there (there (there (there (there (there here))))))))))))
-    (fits-text (text "call=import entries=") refl (fits-no-entry fits-end))
+line-says line-no-entries = says-by (text "I") refl (fits-text (text "call=import entries=") refl (fits-no-entry fits-end))
 line-says (line-import {d} {es} o r) =
-    says-by (there (there (there (there (there (there (there (there (there (there (there (there here))))))))))))
-    (fits-text (text "call=import entries=") refl
+    says-by (text "I") refl (fits-text (text "call=import entries=") refl
     (subst (λ (z : List ℕ). Fits (entries ∷ []) imports z (items es ++ []) (imports es)) (append-nil d) (fits-entries o r fits-end)))
+line-says (line-owner x) = says-by (text "O") refl (fits-text (text "call=owner path=") refl (at-end x))
 
 -- ---- and what a row says is one of those lines
 pub record Lined (l : List ℕ) (x : Asked) : Type 0 where
@@ -366,6 +382,7 @@ each =
     & (λ l ns x y. asked-why y)
     & (λ l ns x y. asked-night y)
     & (λ l ns x y. imported y)
+    & (λ l ns x y. single (text "call=owner path=") owner (λ d p k. line-owner k) y)
     & tt
 
 pub says-line : {l : List ℕ} {x : Asked} → Says l x → Lined l x

@@ -129,13 +129,12 @@ short-at c n = by (eqb c 35)
     by false = omega arith
 
 pub filled-short : (f ns : List ℕ) (k : ℕ) → length (filledFrom f ns k) ≤ roomOf f
-unfolding filledFrom roomOf
+unfolding filledFrom
 filled-short [] ns k = omega arith
 filled-short (c ∷ f) ns k =
     omega (arith, length-append (filledAt c (getD ns k 0)) (filledFrom f ns (nextAt c k)), short-at c (getD ns k 0), filled-short f ns (nextAt c k))
 
 pub room-long : (f : List ℕ) → length f ≤ roomOf f
-unfolding roomOf
 room-long [] = omega arith
 room-long (c ∷ f) = omega (arith, room-long f, by (eqb c 35))
   where

@@ -18,6 +18,7 @@ pub data Asked : Type 0 where
   why : (node job number : ℕ) → Asked
   night : (node budget : ℕ) → List ℕ → Asked
   imports : List Entry → Asked
+  owner : (path : ℕ) → Asked
 
 -- what stands at a place of a form
 pub data Token : Type 0 where
@@ -77,6 +78,7 @@ forms =
     ∷ row "call=why node=# job=# number=#" "Q" (λ n j i. why n j i)
     ∷ row "call=night node=# budget=# outcomes=&" "N" (λ n b os. night n b os)
     ∷ row "call=import entries=$" "I" (λ es. imports es)
+    ∷ row "call=owner path=#" "O" (λ p. owner p)
     ∷ []
 
 -- ---- the table as the code has it: for each row 64 letters, a newline, its text, its tag and dots

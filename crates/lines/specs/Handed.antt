@@ -11,8 +11,8 @@ use Rattle.machine.specs.Calls.{Pair}
 use Rattle.machine.specs.Import.{Entry, adds, undoes, neither}
 use Rattle.lines.specs.declared.reading.Line.{Line}
 use Rattle.lines.specs.declared.reading.Call.{Call}
-use Rattle.lines.specs.declared.reading.Call.the-variants.{Append, Rollback, Start, Stop, Connect, Disconnect, Master, Sync, Work, Fold, Why, Night, Import}
-use Rattle.lines.specs.Forms.{Asked, calls, why, night, imports}
+use Rattle.lines.specs.declared.reading.Call.the-variants.{Append, Rollback, Start, Stop, Connect, Disconnect, Master, Sync, Work, Fold, Why, Night, Import, Owner}
+use Rattle.lines.specs.Forms.{Asked, calls, why, night, imports, owner}
 use Rattle.lines.specs.Grammar.{flat}
 use Rattle.lines.specs.Reading.{atMost, twoBytes}
 
@@ -30,6 +30,7 @@ callFor (calls (machine.foldTo n)) = Fold n
 callFor (why n j i) = Why n j i
 callFor (night n b os) = Night n b
 callFor (imports es) = Import
+callFor (owner p) = Owner p
 
 -- the pairs that stand beside the call
 abbrev pub pairsIn : Asked → List Pair
@@ -46,6 +47,7 @@ pairsIn (calls (machine.foldTo n)) = []
 pairsIn (why n j i) = []
 pairsIn (night n b os) = []
 pairsIn (imports es) = []
+pairsIn (owner p) = []
 
 -- and the outcomes
 abbrev pub outcomesIn : Asked → List ℕ
@@ -53,6 +55,7 @@ outcomesIn (calls c) = []
 outcomesIn (why n j i) = []
 outcomesIn (night n b os) = os
 outcomesIn (imports es) = []
+outcomesIn (owner p) = []
 
 -- and the entries
 abbrev pub entriesIn : Asked → List Entry
@@ -60,6 +63,7 @@ entriesIn (calls c) = []
 entriesIn (why n j i) = []
 entriesIn (night n b os) = []
 entriesIn (imports es) = es
+entriesIn (owner p) = []
 
 -- ---- as bytes, each number in two, the low one first
 -- a night: node, budget, and 257 of its outcomes at most
@@ -92,6 +96,7 @@ bytesFor (calls c) = twoBytes (flat (take 5 (pairsIn (calls c))))
 bytesFor (why n j i) = []
 bytesFor (night n b os) = nightBytes n b os
 bytesFor (imports es) = importBytes es
+bytesFor (owner p) = []
 
 -- in two bytes each has room
 abbrev pub Small : List Pair → Type 0

@@ -27,7 +27,7 @@ abbrev pub filled : List ℕ → List ℕ → List ℕ
 filled f ns = filledFrom f ns 0
 
 -- the bytes that a form can have: ten for each number
-unfoldable pub roomOf : List ℕ → ℕ
+abbrev pub roomOf : List ℕ → ℕ
 roomOf [] = 0
 roomOf (c ∷ f) = cond (eqb c 35) 10 1 + roomOf f
 
@@ -38,20 +38,25 @@ replyLine r =
     filled (text "answer=# phase=# stage=# number=# status=#\n")
     (r .answer ∷ r .event .phase ∷ r .event .stage ∷ r .event .number .0 ∷ codeOf (r .event .status) ∷ [])
 
+-- those below are forms filled in by `write_form` and nothing more: abbreviations, so that its contract is their writers' too
 -- the answer, the reason and what it names (order 4)
-unfoldable pub whyLine : (answer reason named : ℕ) → List ℕ
+abbrev pub whyLine : (answer reason named : ℕ) → List ℕ
 whyLine a r k = filled (text "answer=# reason=# named=#\n") (a ∷ r ∷ k ∷ [])
 
 -- the answer, the jobs done and why the night stopped (order 2)
-unfoldable pub nightLine : (answer jobs stopped : ℕ) → List ℕ
+abbrev pub nightLine : (answer jobs stopped : ℕ) → List ℕ
 nightLine a j s = filled (text "answer=# jobs=# stopped=#\n") (a ∷ j ∷ s ∷ [])
 
 -- the answer, and the position of the entry that is refused (order 6)
-unfoldable pub importLine : (answer position : ℕ) → List ℕ
+abbrev pub importLine : (answer position : ℕ) → List ℕ
 importLine a p = filled (text "answer=# position=#\n") (a ∷ p ∷ [])
 
+-- the answer, and the number of the newest live change that set the path (order 7)
+abbrev pub ownerLine : (answer owner : ℕ) → List ℕ
+ownerLine a o = filled (text "answer=# owner=#\n") (a ∷ o ∷ [])
+
 -- at the end the committed and applied revision and ordinal
-unfoldable pub closingLine : (committed committedOrdinal applied appliedOrdinal : ℕ) → List ℕ
+abbrev pub closingLine : (committed committedOrdinal applied appliedOrdinal : ℕ) → List ℕ
 closingLine c o a u = filled (text "committed=# committed_ordinal=# applied=# applied_ordinal=#\n") (c ∷ o ∷ a ∷ u ∷ [])
 
 -- t stands in the list from `at` on, all else is as it was, and `ends` is where t ends

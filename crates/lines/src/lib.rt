@@ -12,5 +12,6 @@ pub use reading::read;
 pub use writing::write_closing;
 pub use writing::write_import;
 pub use writing::write_night;
+pub use writing::write_owner;
 pub use writing::write_reply;
 pub use writing::write_why;

@@ -40,6 +40,8 @@ const NIGHT: [u8; 64] = *b"\ncall=night node=# budget=# outcomes=&N.............
 
 const IMPORT: [u8; 64] = *b"\ncall=import entries=$I.........................................";
 
+const OWNER: [u8; 64] = *b"\ncall=owner path=#O.............................................";
+
 // Where the line so far leads: a place of the table; how much has come of what a mark there takes; the number that is being
 // read; how many bytes of the room are taken by what ended; and how many numbers of an entry ended that itself has not.
 pub struct Reader {
@@ -79,6 +81,7 @@ pub enum Call {
         budget: u16,
     },
     Import,
+    Owner(u16),
 }
 
 // A line that was read. The first `length` bytes of the room go with it, two a number, the low byte first: of an append the
@@ -117,6 +120,7 @@ fn letter(at: usize) -> u8
         10 => cell(WHY, column),
         11 => cell(NIGHT, column),
         12 => cell(IMPORT, column),
+        13 => cell(OWNER, column),
         _ => 0,
     }
 }
@@ -600,6 +604,7 @@ fn call_of(tag: u8, a: u16, b: u16, c: u16, d: u16, e: u16) -> Call
         },
         b'N' => Call::Night { node: a, budget: b },
         b'I' => Call::Import,
+        b'O' => Call::Owner(a),
         _ => Call::Unreadable,
     }
 }

@@ -5,7 +5,7 @@ ghost use Prim.Native.Nat.{_+_, _≤_, _<_};
 ghost use lib.ListN.{length, getD};
 ghost use mathlib.Core.List.{_++_};
 ghost use Rattle.lines.specs.Decimal.{decimal};
-ghost use Rattle.lines.specs.Replies.{filledAt, nextAt, filled, roomOf, replyLine, whyLine, nightLine, importLine, closingLine, Put, Written};
+ghost use Rattle.lines.specs.Replies.{filledAt, nextAt, filled, roomOf, replyLine, whyLine, nightLine, importLine, ownerLine, closingLine, Put, Written};
 use kinds::Reply;
 
 // The decimal digits of `n` from `at` on; answers where they end.
@@ -138,6 +138,14 @@ pub fn write_import(out: &mut [u8], answer: u8, position: u16) -> usize
 {
     let numbers = [answer as u32, position as u32];
     write_form(out, b"answer=# position=#\n", &numbers)
+}
+
+// That of an owner.
+pub fn write_owner(out: &mut [u8], answer: u8, owner: u32) -> usize
+    ensures { λ r. ⌜ Written (now (out .entry)) (ownerLine answer owner) r (now (out .exit)) ⌝ }
+{
+    let numbers = [answer as u32, owner];
+    write_form(out, b"answer=# owner=#\n", &numbers)
 }
 
 // The closing line.

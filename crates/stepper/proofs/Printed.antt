@@ -12,6 +12,7 @@ use Rattle.kinds.specs.declared.Reply.{Reply}
 use Rattle.machine.specs.State.{State, fresh}
 use Rattle.machine.specs.Why as reasons
 use Rattle.machine.specs.Import.{Entry, Import, import, imported}
+use Rattle.machine.specs.Reads.{Query, read}
 use Rattle.fields.proofs.Laws.{Bytes}
 use Rattle.image.specs.Layout.{imageLength}
 use Rattle.image.specs.View.{view}
@@ -19,11 +20,12 @@ use Rattle.image.specs.Formed.{formed}
 use Rattle.image.specs.Fresh.{freshImage}
 use Rattle.image.proofs.Freshened.{shows-fresh, formed-fresh}
 use Rattle.image.proofs.Scanned.{formed-length}
-use Rattle.lines.specs.Forms.{Asked, calls, why, night, imports}
+use Rattle.lines.specs.Forms.{Asked, calls, why, night, imports, owner}
 use Rattle.lines.specs.Grammar.{Says}
 use Rattle.lines.proofs.Readable.{Readable, Unread, read-right}
 use Rattle.controller.specs.Fresh.{imageIf, Freshens}
-use Rattle.controller.specs.Reads.{headsOf, headsIn}
+use Rattle.controller.specs.Reads as shown
+use Rattle.controller.specs.Reads.{readOf, headsOf, headsIn}
 use Rattle.controller.specs.Reasons.{whyOf, given}
 use Rattle.controller.specs.Nights as nightly
 use Rattle.controller.specs.Nights.{lentFrom, nightIn, roomAfter}
@@ -33,7 +35,7 @@ use Rattle.link.proofs.Fresh.{fresh-bytes, shows-run-fresh}
 use Rattle.link.proofs.Nights.{lent-calling, night-calling, night-shows}
 use Rattle.stepper.specs.declared.Session.{Session}
 use Rattle.stepper.specs.declared.Answer.{Answer}
-use Rattle.stepper.specs.declared.Answer.the-variants.{Replied, Explained, Slept, Began}
+use Rattle.stepper.specs.declared.Answer.the-variants.{Replied, Explained, Slept, Began, Owned}
 use Rattle.stepper.specs.Answers.{tableFor, BeginsIf}
 use Rattle.stepper.specs.Fed.{emptied}
 use Rattle.stepper.specs.Closed.{lineOfHeads, closing, EndsInput}
@@ -52,6 +54,11 @@ One m = Bytes m × (formed m ≡ true)
 why-shown : (l : List ℕ) (n j i : ℕ) → formed l ≡ true → whyOf l n j i ≡ given (reasons.why (view l) n j i)
 unfolding whyOf
 why-shown l n j i w = rw w
+
+-- ---- a read
+read-shown : (l : List ℕ) (q : Query) → formed l ≡ true → readOf l q ≡ shown.given (read (view l) q)
+unfolding readOf
+read-shown l q w = rw w
 
 -- ---- an import: the image shows what its calls leave a fresh controller, or what it showed
 module _ (l : List ℕ) (es : List Entry) (w : formed l ≡ true) where
@@ -93,6 +100,7 @@ module _ (f : Bool) (l t : List ℕ) (r : Answer) (m : List ℕ) (x : Answered f
         explains = λ n j i s. (x .explains n j i s .0 ∙ ap Explained (why-shown l n j i w), ap view (x .explains n j i s .1));
         sleeps = λ n b os s. let z = night-shows l n b (tableFor os) [] _ m _ (slept n b os s) y w in (x .sleeps n b os s .0 ∙ ap Slept (z .0), z .1);
         enters = λ es s. entered l es w f r m (x .enters es s);
+        owns = λ p s. (x .owns p s .0 ∙ ap Owned (read-shown l _ w), ap view (x .owns p s .1));
         refuses = λ n. (x .refuses n .0, ap view (x .refuses n .1));
       }
 
@@ -108,6 +116,7 @@ module _ (f : Bool) (l t : List ℕ) (r : Answer) (m : List ℕ) (x : Answered f
       asked (why n j i) s = same (x .explains n j i s .1)
       asked (night n b os) s = let z = shows-run (night-calling l n b (tableFor os) [] _ m _ (slept n b os s)) y w in (z .bytes, z .formed)
       asked (imports es) s = stays-entered l es w f r m y (x .enters es s)
+      asked (owner p) s = same (x .owns p s .1)
 
       by : Readable (replicate 5140 0) t ⊎ Unread (replicate 5140 0) t → One m
       by (inl a) = asked (a .asked) (a .says)

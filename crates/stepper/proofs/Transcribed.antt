@@ -11,7 +11,7 @@ use lib.Seq.{sets, length-sets}
 use Rattle.kinds.specs.Outcome.{both}
 use Rattle.machine.specs.Import.{Entry}
 use Rattle.lines.specs.declared.reading.Reader.{Reader}
-use Rattle.lines.specs.Forms.{Asked, calls, why, night, imports}
+use Rattle.lines.specs.Forms.{Asked, calls, why, night, imports, owner}
 use Rattle.lines.specs.Grammar.{Says, Item, plain, inner, close, undo}
 use Rattle.lines.specs.Reading.{letterAt, fresh, pushed, pushedIn, stepped, low, high, twoAt, pairsOf, filledBy, closedAt, lastIn, finished, ran, said, saidIn}
 use Rattle.lines.proofs.Goes.{tells, adds}
@@ -26,7 +26,7 @@ use Rattle.stepper.specs.Closed.{closing, EndsInput}
 use Rattle.stepper.specs.Runs.{begins, Runs, start, block}
 use Rattle.stepper.specs.Transcript as transcript
 use Rattle.stepper.specs.Transcript.{linesFrom, restFrom, lastLine, importing, Answered, Told, replyLines, Transcript}
-use Rattle.stepper.proofs.Joint.{answers-said, explains-said, sleeps-said, enters-said, refuses-unsaid}
+use Rattle.stepper.proofs.Joint.{answers-said, explains-said, sleeps-said, enters-said, owns-said, refuses-unsaid}
 
 -- ---- the room keeps its length
 two-length : (m : List ℕ) (at v : ℕ) → length (twoAt m at v) ≡ length m
@@ -115,6 +115,7 @@ answered f l line begun room t out used end m after s x =
       explains = λ n j i y. explains-said f t (s .from) l r m q (s .before) n j i y;
       sleeps = λ n b os y. sleeps-said f t (s .from) l r m q (s .before) n b os y;
       enters = λ es y. enters-said f t (s .from) l r m q (s .before) es y;
+      owns = λ p y. owns-said f t (s .from) l r m q (s .before) p y;
       refuses = λ y. refuses-unsaid f t (s .from) l r m q y;
     }
 
@@ -297,6 +298,7 @@ answered-only f l t r q m n x y = by (read-right (replicate 5140 0) t refl)
     asked (why k j i) s = both (x .explains k j i s) (y .explains k j i s)
     asked (night k b os) s = both (x .sleeps k b os s) (y .sleeps k b os s)
     asked (imports es) s = begins-if-only f l (importing l es) r q m n (x .enters es s) (y .enters es s)
+    asked (owner p) s = both (x .owns p s) (y .owns p s)
 
     by : Readable (replicate 5140 0) t ⊎ Unread (replicate 5140 0) t → (r ≡ q) × (m ≡ n)
     by (inl a) = asked (a .asked) (a .says)

@@ -10,18 +10,20 @@ use Rattle.kinds.specs.Events.{refusal}
 use Rattle.kinds.specs.Outcome.{both}
 use Rattle.machine.specs.Calls as machine
 use Rattle.machine.specs.Import.{Import}
+use Rattle.machine.specs.Reads.{ofOwner}
 use Rattle.image.specs.View.{written}
 use Rattle.lines.specs.declared.reading.Line.{Line}
 use Rattle.lines.specs.declared.reading.Call.{Call}
-use Rattle.lines.specs.declared.reading.Call.the-variants.{Unreadable, Append, Rollback, Start, Stop, Connect, Disconnect, Master, Sync, Work, Fold, Why, Night, Import as ImportLine}
-use Rattle.lines.specs.Replies.{replyLine, whyLine, nightLine, importLine}
+use Rattle.lines.specs.declared.reading.Call.the-variants.{Unreadable, Append, Rollback, Start, Stop, Connect, Disconnect, Master, Sync, Work, Fold, Why, Night, Import as ImportLine, Owner}
+use Rattle.lines.specs.Replies.{replyLine, whyLine, nightLine, importLine, ownerLine}
 use Rattle.controller.specs.Bytes.{appendOf}
 use Rattle.controller.specs.Claims.{outcomeOf}
+use Rattle.controller.specs.Reads.{readOf}
 use Rattle.controller.specs.Reasons.{whyOf}
 use Rattle.controller.specs.Nights.{lentFrom, given, nightIn}
 use Rattle.controller.specs.Imports.{told, importIn, imageAfter}
 use Rattle.stepper.specs.declared.Answer.{Answer}
-use Rattle.stepper.specs.declared.Answer.the-variants.{Replied, Explained, Slept, Began}
+use Rattle.stepper.specs.declared.Answer.the-variants.{Replied, Explained, Slept, Began, Owned}
 
 -- the line that is written for an answer
 abbrev pub lineFor : Answer → List ℕ
@@ -29,6 +31,7 @@ lineFor (Replied r) = replyLine r
 lineFor (Explained w) = whyLine (w .answer) (w .reason) (w .named)
 lineFor (Slept w) = nightLine (w .answer) (w .jobs) (w .stopped)
 lineFor (Began w) = importLine (w .answer) (w .position)
+lineFor (Owned w) = ownerLine (w .answer) (w .value)
 
 -- a call made on the image l: the controller's contract (controller Claims), its reply the answer
 abbrev pub Replies : List ℕ → machine.Call → Answer → List ℕ → Type 0
@@ -37,6 +40,10 @@ Replies l c a m = (a ≡ Replied (outcomeOf l c .reply)) × (m ≡ written l (ou
 -- why asked of it: no byte changes
 abbrev pub Explains : List ℕ → (node job number : ℕ) → Answer → List ℕ → Type 0
 Explains l n j i a m = (a ≡ Explained (whyOf l n j i)) × (m ≡ l)
+
+-- who set a path, asked of it (order 7): no byte changes
+abbrev pub Owns : List ℕ → (path : ℕ) → Answer → List ℕ → Type 0
+Owns l p a m = (a ≡ Owned (readOf l (ofOwner p))) × (m ≡ l)
 
 -- ---- a night's outcomes (order 2)
 -- the first k of some numbers, in order
@@ -92,6 +99,7 @@ AnswersCall f (Fold n) b l a m = Replies l (machine.foldTo n) a m
 AnswersCall f (Why n j i) b l a m = Explains l n j i a m
 AnswersCall f (Night n k) b l a m = Sleeps l n k (tableIn b) a m
 AnswersCall f ImportLine b l a m = BeginsIf f l (importIn l b) a m
+AnswersCall f (Owner p) b l a m = Owns l p a m
 
 -- they are the first `length` bytes of the room
 abbrev pub Answers : Bool → List ℕ → Line → List ℕ → Answer → List ℕ → Type 0
@@ -118,6 +126,7 @@ answers-call-only f (Fold i) b l r q m n = both
 answers-call-only f (Why i j k) b l r q m n = both
 answers-call-only f (Night i k) b l r q m n = both
 answers-call-only f ImportLine b l r q m n = begins-if-only f l (importIn l b) r q m n
+answers-call-only f (Owner p) b l r q m n = both
 
 pub answers-only :
     (f : Bool) (l : List ℕ) (line : Line) (room : List ℕ) (r q : Answer) (m n : List ℕ) → Answers f l line room r m → Answers f l line room q n →

@@ -13,14 +13,16 @@ use Rattle.machine.specs.Step.{step}
 use Rattle.machine.specs.Why as reasons
 use Rattle.machine.specs.Night as nights
 use Rattle.machine.specs.Import.{Entry, import, imported}
-use Rattle.lines.specs.Forms.{Asked, calls, why, night, imports}
+use Rattle.machine.specs.Reads.{ofOwner, read}
+use Rattle.lines.specs.Forms.{Asked, calls, why, night, imports, owner}
 use Rattle.lines.specs.Grammar.{Says}
+use Rattle.controller.specs.Reads as shown
 use Rattle.controller.specs.Reads.{headsIn}
 use Rattle.controller.specs.Reasons.{given}
 use Rattle.controller.specs.Nights as nightly
 use Rattle.controller.specs.Imports.{told}
 use Rattle.stepper.specs.declared.Answer.{Answer}
-use Rattle.stepper.specs.declared.Answer.the-variants.{Replied, Explained, Slept, Began}
+use Rattle.stepper.specs.declared.Answer.the-variants.{Replied, Explained, Slept, Began, Owned}
 use Rattle.stepper.specs.Answers.{tableFor}
 use Rattle.stepper.specs.Closed.{lineOfHeads}
 use Rattle.stepper.specs.Transcript.{linesOf, replyLines}
@@ -32,13 +34,15 @@ Enters true s es r q = (r ≡ Began (told (import es))) × (q ≡ cond (eqb (imp
 Enters false s es r q = (r ≡ Replied (refusal 2)) × (q ≡ s)
 
 -- the line t in the state s: a line that says a call is a step; one that asks why is told it, one that asks for a night how it
--- went; one that says an import begins with it, if it is the first line; one that says nothing is refused with 2
+-- went; one that says an import begins with it, if it is the first line; one that asks who set a path is told it; one that says
+-- nothing is refused with 2
 pub record Stepped (f : Bool) (s : State) (t : List ℕ) (r : Answer) (q : State) : Type 0 where
   pub asks : (c : Call) → Says t (calls c) → (r ≡ Replied (step s c .reply)) × (q ≡ step s c .next)
   pub explains : (n j i : ℕ) → Says t (why n j i) → (r ≡ Explained (given (reasons.why s n j i))) × (q ≡ s)
   pub sleeps : (n b : ℕ) (os : List ℕ) → Says t (night n b os) →
       (let w = nights.night s n b (tableFor os) in (r ≡ Slept (nightly.given w [])) × (q ≡ w .next))
   pub enters : (es : List Entry) → Says t (imports es) → Enters f s es r q
+  pub owns : (p : ℕ) → Says t (owner p) → (r ≡ Owned (shown.given (read s (ofOwner p)))) × (q ≡ s)
   pub refuses : ((x : Asked) → Says t x → ⊥) → (r ≡ Replied (refusal 2)) × (q ≡ s)
 
 -- lines one after another; f tells whether no line came before them

@@ -19,6 +19,7 @@ ghost use Rattle.stepper.specs.Closed.{Closes, EndsInput};
 ghost use Rattle.stepper.specs.Runs.{Reads, ReadsAll};
 use controller::Imported;
 use controller::Night;
+use controller::Read;
 use controller::Why;
 use kinds::Reply;
 use libc::STDERR_FILENO;
@@ -53,12 +54,14 @@ struct Turn {
     whole: bool,
 }
 
-// What a line is answered: a call's reply, why a job does not move, how a night went, or whether a list was imported.
+// What a line is answered: a call's reply, why a job does not move, how a night went, whether a list was imported, or who set a
+// path.
 enum Answer {
     Replied(Reply),
     Explained(Why),
     Slept(Night),
     Began(Imported),
+    Owned(Read),
 }
 
 fn append(image: &mut [u8], room: &[u8], n: usize) -> Reply
@@ -123,9 +126,10 @@ fn ask(image: &mut [u8], line: Line, room: &[u8], first: bool) -> Answer
     ensures { λ r. ⌜ Answers first (now (image .entry)) line (now (room .entry)) r (now (image .exit)) ⌝ }
 {
     let call = line.call;
+    let n = line.length;
     match call {
         Call::Unreadable => Answer::Replied(Reply::of(2)),
-        Call::Append => Answer::Replied(append(image, room, line.length)),
+        Call::Append => Answer::Replied(append(image, room, n)),
         Call::Rollback(number) => Answer::Replied(controller::rollback(image, number)),
         Call::Start => Answer::Replied(controller::start(image)),
         Call::Stop => Answer::Replied(controller::stop(image)),
@@ -147,14 +151,9 @@ fn ask(image: &mut [u8], line: Line, room: &[u8], first: bool) -> Answer
             job,
             number,
         )),
-        Call::Night { node, budget } => Answer::Slept(night(
-            image,
-            node,
-            budget,
-            room,
-            line.length,
-        )),
-        Call::Import => import(image, room, line.length, first),
+        Call::Night { node, budget } => Answer::Slept(night(image, node, budget, room, n)),
+        Call::Import => import(image, room, n, first),
+        Call::Owner(path) => Answer::Owned(controller::owner(image, path)),
     }
 }
 
@@ -167,6 +166,7 @@ fn write(out: &mut [u8], a: Answer) -> usize
         Answer::Explained(w) => lines::write_why(out, w.answer, w.reason, w.named),
         Answer::Slept(w) => lines::write_night(out, w.answer, w.jobs, w.stopped),
         Answer::Began(w) => lines::write_import(out, w.answer, w.position),
+        Answer::Owned(w) => lines::write_owner(out, w.answer, w.value),
     }
 }
 

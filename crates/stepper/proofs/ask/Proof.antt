@@ -1,6 +1,6 @@
--- `ask` makes the call that the line asks for, asks why, makes a night or imports. Assumes nothing.
+-- `ask` makes the call that the line asks for, asks why or who set a path, makes a night or imports. Assumes nothing.
 use mathlib.Core.Path.{refl, ap}
-use Rattle.stepper.specs.declared.Answer.the-variants.{Replied, Explained}
+use Rattle.stepper.specs.declared.Answer.the-variants.{Replied, Explained, Owned}
 use Rattle.stepper.proofs.Answered.{asked, replied}
 use borrow.Author.Needs.{needs}
 use Rattle.stepper.proofs.ask.Statement.{statement}
@@ -89,6 +89,12 @@ enum-told-5 c = search needs
 
 import-requires : tie.Need-import-requires
 import-requires c κs = search needs
+
+enum-known-call-10 : tie.Need-enum-known-call-10
+enum-known-call-10 c = search needs
+
+owner-requires : tie.Need-owner-requires
+owner-requires c κs = search needs
 
 returns : tie.Need-returns
 returns c = asked (c .before .before .before .before .before .args .first) (c .before .before .before .before .before .args .line) _ _ _ _ _ (c .before .enum-told .given .1) (ap Replied (c .of .ensures), refl)
@@ -183,6 +189,13 @@ returns-14 : tie.Need-returns-14
 returns-14 c = asked (c .before .before .before .before .before .before .before .before .args .first) (c .before .before .before .before .before .before .before .before .args .line) _ _ _ _ _
     (c .before .before .before .before .enum-told5 .given .1) (c .before .before .import .ensures)
 
+same-length-14 : tie.Need-same-length-14
+same-length-14 c = search needs
+
+returns-15 : tie.Need-returns-15
+returns-15 c = asked (c .before .before .before .before .before .before .before .args .first) (c .before .before .before .before .before .before .before .args .line) _ _ _ _ _
+    (c .before .before .before .call10 .given .1) (ap Owned (c .owner .ensures), refl)
+
 pub ask-spec : {M : Type 1} → statement M
 ask-spec =
     tie.close
@@ -215,6 +228,8 @@ ask-spec =
     night-requires
     enum-told-5
     import-requires
+    enum-known-call-10
+    owner-requires
     returns
     same-length
     returns-2
@@ -241,4 +256,6 @@ ask-spec =
     same-length-12
     returns-13
     same-length-13
-    returns-14)
+    returns-14
+    same-length-14
+    returns-15)

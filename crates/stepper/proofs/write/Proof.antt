@@ -28,6 +28,12 @@ enum-known-a-4 c = search needs
 write-import-requires : tie.Need-write-import-requires
 write-import-requires c κs = search needs
 
+enum-known-a-5 : tie.Need-enum-known-a-5
+enum-known-a-5 c = search needs
+
+write-owner-requires : tie.Need-write-owner-requires
+write-owner-requires c κs = search needs
+
 same-length : tie.Need-same-length
 same-length c = search needs
 
@@ -52,6 +58,12 @@ same-length-4 c = search needs
 returns-4 : tie.Need-returns-4
 returns-4 c = written-for _ _ _ _ _ (c .before .before .before .before .before .a4 .given .1) (c .before .before .write-import .ensures)
 
+same-length-5 : tie.Need-same-length-5
+same-length-5 c = search needs
+
+returns-5 : tie.Need-returns-5
+returns-5 c = written-for _ _ _ _ _ (c .before .before .before .before .before .a5 .given .1) (c .before .before .write-owner .ensures)
+
 pub write-spec : {M : Type 1} → statement M
 write-spec =
     tie.close
@@ -64,6 +76,8 @@ write-spec =
     write-night-requires
     enum-known-a-4
     write-import-requires
+    enum-known-a-5
+    write-owner-requires
     same-length
     returns
     same-length-2
@@ -71,4 +85,6 @@ write-spec =
     same-length-3
     returns-3
     same-length-4
-    returns-4)
+    returns-4
+    same-length-5
+    returns-5)

@@ -58,7 +58,11 @@ returns-13 c = rw (c .match .keys13)
 
 returns-14 : tie.Need-returns-14
 unfolding callOf
-returns-14 c = simp (
+returns-14 c = rw (c .match .keys14)
+
+returns-15 : tie.Need-returns-15
+unfolding callOf
+returns-15 c = simp (
   ne-eqb _ _ (c .match .rest .1),
   ne-eqb _ _ (c .match .rest .0 .1),
   ne-eqb _ _ (c .match .rest .0 .0 .1),
@@ -72,6 +76,7 @@ returns-14 c = simp (
   ne-eqb _ _ (c .match .rest .0 .0 .0 .0 .0 .0 .0 .0 .0 .0 .1),
   ne-eqb _ _ (c .match .rest .0 .0 .0 .0 .0 .0 .0 .0 .0 .0 .0 .1),
   ne-eqb _ _ (c .match .rest .0 .0 .0 .0 .0 .0 .0 .0 .0 .0 .0 .0 .1),
+  ne-eqb _ _ (c .match .rest .0 .0 .0 .0 .0 .0 .0 .0 .0 .0 .0 .0 .0 .1),
 )
 
 pub call-of-spec : {M : Type 1} → statement M
@@ -91,4 +96,5 @@ call-of-spec =
     returns-11
     returns-12
     returns-13
-    returns-14)
+    returns-14
+    returns-15)

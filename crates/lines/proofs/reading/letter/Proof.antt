@@ -1,6 +1,6 @@
 -- `letter` has the text of each row of the table. Assumes nothing.
-use Rattle.lines.proofs.Cells.{in-row, above, past-table}
-use Rattle.lines.specs.Reading.{size}
+use Rattle.lines.proofs.Cells.{in-row, beyond, past-table}
+use Rattle.lines.specs.Reading.{size, left}
 use native.Mathlib.Omega.{arith}
 use mathlib.Core.Path.{sym}
 use borrow.Author.Needs.{needs}
@@ -45,6 +45,9 @@ cell-requires-12 c κs = search needs
 
 cell-requires-13 : tie.Need-cell-requires-13
 cell-requires-13 c κs = search needs
+
+cell-requires-14 : tie.Need-cell-requires-14
+cell-requires-14 c κs = search needs
 
 returns : tie.Need-returns
 unfolding size
@@ -100,7 +103,11 @@ returns-13 c = in-row _ 12 _ (c .before .match .keys13) (omega arith) (c .cell13
 
 returns-14 : tie.Need-returns-14
 unfolding size
-returns-14 c = sym (past-table _ (let h = (above {n = 12} (above {n = 11} (above {n = 10} (above {n = 9} (above {n = 8} (above {n = 7} (above {n = 6} (above {n = 5} (above {n = 4} (above {n = 3} (above {n = 2} (above {n = 1} (above {n = 0} (omega arith) (c .match .rest .0 .0 .0 .0 .0 .0 .0 .0 .0 .0 .0 .0 .1)) (c .match .rest .0 .0 .0 .0 .0 .0 .0 .0 .0 .0 .0 .1)) (c .match .rest .0 .0 .0 .0 .0 .0 .0 .0 .0 .0 .1)) (c .match .rest .0 .0 .0 .0 .0 .0 .0 .0 .0 .1)) (c .match .rest .0 .0 .0 .0 .0 .0 .0 .0 .1)) (c .match .rest .0 .0 .0 .0 .0 .0 .0 .1)) (c .match .rest .0 .0 .0 .0 .0 .0 .1)) (c .match .rest .0 .0 .0 .0 .0 .1)) (c .match .rest .0 .0 .0 .0 .1)) (c .match .rest .0 .0 .0 .1)) (c .match .rest .0 .0 .1)) (c .match .rest .0 .1)) (c .match .rest .1)) in omega arith))
+returns-14 c = in-row _ 13 _ (c .before .match .keys14) (omega arith) (c .cell14 .ensures)
+
+returns-15 : tie.Need-returns-15
+unfolding size
+returns-15 c = sym (past-table _ (let h = beyond (left 0) _ (c .match .rest) in omega arith))
 
 pub letter-spec : {M : Type 1} → statement M
 letter-spec =
@@ -119,6 +126,7 @@ letter-spec =
     cell-requires-11
     cell-requires-12
     cell-requires-13
+    cell-requires-14
     returns
     returns-2
     returns-3
@@ -132,4 +140,5 @@ letter-spec =
     returns-11
     returns-12
     returns-13
-    returns-14)
+    returns-14
+    returns-15)
