@@ -1,13 +1,15 @@
-/* edge.c: what makowist.h promises at its edges, held from C: nothing lent, numbers of more than 16 bits in every argument,
- * names, pairs that have no 16 bits, the list in bytes, reasons with what they name, nights with their events, pushes that are
- * cut, and old lists that are imported.
+/* edge.c: what makowist.h promises at its edges, held from C: nothing lent, memory that ends or begins at a page that is not
+ * mapped, numbers of more than 16 bits in every argument, names, pairs that have no 16 bits, the list in bytes, who set a path,
+ * reasons with what they name, nights with their events, pushes that are cut, and old lists that are imported.
  *
- * What is lent is from the heap and as long as is said, so that the tools that watch memory see a byte too many. Ends with 1
+ * What is lent else is from the heap and as long as is said, so that the tools that watch memory see a byte too many. Ends with 1
  * at the first promise that does not hold. */
+#define _DEFAULT_SOURCE
 #include <inttypes.h>
 #include <stdio.h>
 #include <stdlib.h>
 #include <string.h>
+#include <sys/mman.h>
 
 #include "makowist.h"
 
@@ -67,6 +69,7 @@ static uint64_t record(uint8_t *image, size_t length, const uint64_t *n) { retur
 static uint64_t connection(uint8_t *image, size_t length, const uint64_t *n) {
     return makowist_connection(image, length, n[0], n[1]);
 }
+static uint64_t owner(uint8_t *image, size_t length, const uint64_t *n) { return makowist_owner(image, length, n[0]); }
 static uint64_t why(uint8_t *image, size_t length, const uint64_t *n) {
     return makowist_why(image, length, n[0], n[1], n[2]);
 }
@@ -109,6 +112,7 @@ static const struct call calls[] = {
     {"transaction", transaction, 2, {LAST, MAKOWIST_TRANSACTION_PATH}, {NUMBER, RANGE}},
     {"record", record, 1, {MAKOWIST_LAST_FOLD}, {RANGE}},
     {"connection", connection, 2, {1, MAKOWIST_CONNECTION_ID}, {RANGE, RANGE}},
+    {"owner", owner, 1, {3}, {RANGE}},
     {"why", why, 3, {1, 2, LAST}, {RANGE, RANGE, NUMBER}},
     {"night", night, 2, {1, 8}, {RANGE, RANGE}},
     {"import", import, 0, {0}, {0}},
@@ -166,6 +170,41 @@ static void nothing_lent(uint8_t *image) {
     free(before);
     free(room);
     free(empty);
+}
+
+/* ---- Memory between pages that are not mapped: a byte outside it ends the program. */
+
+enum { PAGE = 1 << 16 }; /* the largest that the machines in question have */
+
+static uint8_t *guarded(void) {
+    uint8_t *whole = mmap(NULL, 4 * PAGE, PROT_NONE, MAP_PRIVATE | MAP_ANONYMOUS, -1, 0);
+    if (whole == MAP_FAILED)
+        exit(1);
+    uint8_t *room = whole + (PAGE - (uintptr_t)whole % PAGE);
+    if (mprotect(room, PAGE, PROT_READ | PROT_WRITE) != 0)
+        exit(1);
+    return room;
+}
+
+/* Every call on an image that begins, and on one that ends, where the room does: as on any other. An image that is a byte short, or
+ * none, is not looked at past its end. */
+static void at_the_edge(const uint8_t *image) {
+    uint8_t *room = guarded(), *end = room + PAGE;
+    for (const struct call *call = calls; call < calls + CALLS; ++call) {
+        uint8_t *const places[] = {room, end - LENGTH};
+        for (size_t k = 0; k < 2; ++k) {
+            uint8_t *copy = copied(image, LENGTH), *edge = memcpy(places[k], image, LENGTH);
+            uint64_t reply = call->make(edge, LENGTH, call->in_range);
+            hold(reply == call->make(copy, LENGTH, call->in_range), "at a page that is not mapped", call->name, reply);
+            hold(memcmp(edge, copy, LENGTH) == 0, "at a page that is not mapped, every byte", call->name, reply);
+            free(copy);
+        }
+        memcpy(end - (LENGTH - 1), image, LENGTH - 1);
+        uint64_t reply = call->make(end - (LENGTH - 1), LENGTH - 1, call->in_range);
+        hold(reply == MAKOWIST_NOT_WELL_FORMED, "a byte short at a page that is not mapped", call->name, reply);
+        reply = call->make(end, 0, call->in_range);
+        hold(reply == MAKOWIST_NOT_WELL_FORMED, "none at a page that is not mapped", call->name, reply);
+    }
 }
 
 /* ---- Numbers of more than 16 bits. */
@@ -286,6 +325,54 @@ static void listed(const uint8_t *image) {
             hold(makowist_listed(room, k) == LAST - k, "list", "number", makowist_listed(room, k));
         free(room);
     }
+}
+
+/* ---- Owners. */
+
+/* Who set the path, in an image at either edge of its page and in a copy; and no byte is written. */
+static void owner_is(const uint8_t *image, uint64_t path, uint64_t number) {
+    static uint8_t *room;
+    room = room ? room : guarded();
+    uint8_t *const places[] = {copied(image, LENGTH), memcpy(room, image, LENGTH), memcpy(room + PAGE - LENGTH, image, LENGTH)};
+    for (size_t k = 0; k < 3; ++k) {
+        uint64_t reply = makowist_owner(places[k], LENGTH, path);
+        hold(reply == number << 32, "owner", "its number, and nothing else", reply);
+        hold(memcmp(places[k], image, LENGTH) == 0, "owner", "every byte as it was", path);
+    }
+    free(places[0]);
+}
+
+static void owners(const uint8_t *before) {
+    const uint64_t number = LAST + 1, last = LAST % MAKOWIST_PATHS, other = last + 1;
+    uint8_t *image = copied(before, LENGTH), pairs[2 * MAKOWIST_PAIR_LENGTH];
+    for (uint64_t path = 0; path < MAKOWIST_PATHS; ++path)
+        owner_is(image, path, path == last ? LAST : path == last - 1 ? LAST - 1 : 0);
+    for (uint64_t path = MAKOWIST_PATHS; path <= UINT16_MAX; path += path < 300 ? 1 : 97) {
+        uint64_t reply = makowist_owner(image, LENGTH, path);
+        hold(reply == MAKOWIST_OUT_OF_RANGE, "owner", "a path above 31", reply);
+    }
+    accepted(makowist_fold(image, LENGTH, LAST - 1), "fold");
+    owner_is(image, last, LAST);
+    owner_is(image, last - 1, 0);
+    makowist_put_pair(pairs, last, 0); /* a delete */
+    makowist_put_pair(pairs + MAKOWIST_PAIR_LENGTH, other, 7);
+    accepted(makowist_append(image, LENGTH, pairs, sizeof pairs), "append");
+    accepted(makowist_work(image, LENGTH, 1, 1, number, 0, 0), "work");
+    owner_is(image, last, LAST);
+    accepted(makowist_work(image, LENGTH, 1, 1, number, 0, MAKOWIST_CUT_AFTER_FIRST), "work");
+    owner_is(image, last, number);
+    owner_is(image, other, number);
+    accepted(makowist_work(image, LENGTH, 1, 1, number, 0, 0), "work");
+    accepted(makowist_rollback(image, LENGTH, number), "rollback");
+    accepted(makowist_work(image, LENGTH, 1, 3, number, 0, 0), "work");
+    owner_is(image, last, number);
+    accepted(makowist_work(image, LENGTH, 1, 3, number, 0, MAKOWIST_CUT_AFTER_FIRST), "work");
+    owner_is(image, last, LAST);
+    owner_is(image, other, 0);
+    memcpy(image, before, LENGTH);
+    accepted(makowist_fold(image, LENGTH, LAST), "fold");
+    owner_is(image, last, 0);
+    free(image);
 }
 
 /* ---- Reasons. */
@@ -675,6 +762,7 @@ static void imports(void) {
 int main(void) {
     uint8_t *image = led();
     nothing_lent(image);
+    at_the_edge(image);
     for (size_t k = 0; k < CALLS; ++k) {
         in_range(&calls[k], image);
         too_great(&calls[k], image);
@@ -682,6 +770,7 @@ int main(void) {
     names();
     pairs(image);
     listed(image);
+    owners(image);
     reasons(image);
     nights(image);
     pushes(image);

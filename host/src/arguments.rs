@@ -62,6 +62,7 @@ impl Query {
             Query::Transaction { number, field } => vec![(Argument::Number, number), (Argument::Field, field)],
             Query::Record { field } => vec![(Argument::Field, field)],
             Query::Connection { node, field } => vec![(Argument::Node, node), (Argument::Field, field)],
+            Query::Owner { path } => vec![(Argument::Path, path)],
             Query::Why(Question { node, job, number }) => {
                 vec![(Argument::Node, node), (Argument::Job, job), (Argument::Number, number)]
             }

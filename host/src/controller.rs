@@ -157,6 +157,9 @@ impl Change {
 /// A value for each path; 0 is absent.
 pub type Values = [u16; PATHS];
 
+/// For each path the number of the newest live change that set it (order 7).
+pub type Owners = [Number; PATHS];
+
 /// Replaces the values of the pairs' paths.
 pub fn overlay(values: &mut Values, pairs: &[Pair]) {
     for pair in pairs {
@@ -182,6 +185,9 @@ pub struct Transaction {
     pub r_index: Number,
     /// One for each pair: what its path held before. Places past the pairs are 0 here.
     pub r_values: [u16; PAIR_LIMIT],
+    /// One for each pair: who owned its path before (order 7). Each is below the transaction's own number, also in the places past
+    /// the pairs, which are kept here for that.
+    pub r_owners: [Number; PAIR_LIMIT],
 }
 
 impl Transaction {
@@ -193,6 +199,7 @@ impl Transaction {
             r: Progress { commit: Status::None, apply: Status::None, ordinal: Ordinal::NONE },
             r_index: Number::NONE,
             r_values: [0; PAIR_LIMIT],
+            r_owners: [Number::NONE; PAIR_LIMIT],
         }
     }
 
@@ -225,6 +232,8 @@ pub struct Committed {
     pub revision: Number,
     pub ordinal: Ordinal,
     pub values: Values,
+    /// Each at most `change`. One that is folded stays here; `State::owner` does not show it.
+    pub owners: Owners,
 }
 
 #[derive(Clone, PartialEq, Eq, Hash, Debug)]
@@ -382,6 +391,7 @@ impl State {
                 revision: Number::NONE,
                 ordinal: Ordinal::NONE,
                 values: [0; PATHS],
+                owners: [Number::NONE; PATHS],
             },
             applied: Applied {
                 index: Number::NONE,
@@ -399,6 +409,11 @@ impl State {
 
     /// The paper's "well-formed", as far as the types leave it open.
     pub fn is_well_formed(&self) -> bool {
+        self.is_well_formed_whatever_owners() && self.has_well_formed_owners()
+    }
+
+    /// The same but for what order 7 asks.
+    pub fn is_well_formed_whatever_owners(&self) -> bool {
         let Committed { index, change, target, revision, ordinal, .. } = self.committed;
         let applied = &self.applied;
         let numbers = [index, change, target, revision, applied.index, applied.target, applied.revision];

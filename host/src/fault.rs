@@ -1,11 +1,12 @@
 //! Wrong copies of one rule, to show that the comparison finds them. Only the comparison asks for one.
-//! Those of imports, of nights, of the order of refusals, of the calls from outside, of a push's stores and of reasons are in the
-//! modules below.
+//! Those of imports, of nights, of the order of refusals, of the calls from outside, of owners, of a push's stores and of reasons
+//! are in the modules below.
 
 pub mod import;
 pub mod night;
 pub mod order;
 pub mod outside;
+pub mod owner;
 pub mod push;
 pub mod why;
 
@@ -23,6 +24,7 @@ use self::import::Blunder;
 use self::night::Lapse;
 use order::{Call, Swapped};
 use outside::Slip;
+use owner::Claim;
 use push::Split;
 use why::Guess;
 
@@ -100,6 +102,8 @@ pub enum Fault {
     Night(Lapse),
     /// A list is imported otherwise (order 6).
     Import(Blunder),
+    /// A path has another owner (order 7).
+    Owner(Claim),
     /// Nothing is wrong. None of those that must be found: it shows that one which is not found is told.
     Harmless,
 }
@@ -127,6 +131,7 @@ impl Fault {
         all.extend(Guess::all().into_iter().map(Fault::Why));
         all.extend(Lapse::all().into_iter().map(Fault::Night));
         all.extend(Blunder::all().into_iter().map(Fault::Import));
+        all.extend(Claim::all().into_iter().map(Fault::Owner));
         all
     }
 
@@ -145,6 +150,7 @@ impl Fault {
         match self {
             Fault::Outside(slip) => slip.act(state, request),
             Fault::Push(split) => split.act(state, request),
+            Fault::Owner(claim) => claim.act(state, request),
             _ => self.acted(state, request),
         }
     }
@@ -214,6 +220,19 @@ impl Fault {
         match self {
             Fault::Import(blunder) => blunder.import(image, list),
             _ => northbound::import(image, list),
+        }
+    }
+
+    /// Whether it is one of owners alone.
+    pub fn is_of_owners(self) -> bool {
+        matches!(self, Fault::Owner(_))
+    }
+
+    /// As `image::decode`, with this fault in it.
+    pub fn decode(self, bytes: &[u8]) -> Option<State> {
+        match self {
+            Fault::Owner(claim) => claim.decode(bytes),
+            _ => image::decode(bytes),
         }
     }
 
@@ -344,6 +363,7 @@ impl Fault {
     pub fn read(self, state: Option<&State>, bytes: &[u8], query: Query) -> u64 {
         match self {
             Fault::Swapped(call, first, then) => Swapped(call, first, then).read(state, bytes, query),
+            Fault::Owner(claim) => claim.read(state, bytes, query),
             Fault::Why(guess) => match (state, query) {
                 (Some(state), Query::Why(question)) => {
                     guess.why(state, question).map_or_else(|refusal| refusal.number().into(), |why| why.packed())

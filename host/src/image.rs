@@ -5,14 +5,14 @@
 
 use crate::controller::{
     Applied, Change, Committed, Configuration, ConfigurationState, Connection, Mastership, Node, Number, Ordinal, Phase,
-    Progress, State, Status, Target, Term, Transaction, Values, LOG_LIMIT, NODES, PATHS,
+    Progress, State, Status, Target, Term, Transaction, Values, LOG_LIMIT, NODES, PAIR_LIMIT, PATHS,
 };
 
 /// An image's length; bytes of any other length are no image.
-pub const LENGTH: usize = 4949;
+pub const LENGTH: usize = 6037;
 
 /// How far apart the slots of the log's ring lie.
-pub const ENTRY: usize = 36;
+pub const ENTRY: usize = 44;
 
 /// The slot of a transaction's number.
 pub fn slot(number: Number) -> usize {
@@ -43,24 +43,26 @@ pub mod entry {
     pub const PATHS: usize = 16;
     pub const VALUES: usize = 20;
     pub const R_VALUES: usize = 28;
+    pub const R_OWNERS: usize = 36;
 }
 
 /// Where the fields after the log lie.
 pub mod at {
-    pub const HIGHEST: usize = 4608;
-    pub const COMMITTED_CHANGE: usize = 4610;
-    pub const COMMITTED: usize = 4612;
-    pub const APPLIED: usize = 4686;
-    pub const COMMITTED_VALUES: usize = 4622;
-    pub const APPLIED_VALUES: usize = 4696;
-    pub const TARGET_VALUES: usize = 4760;
-    pub const CONFIGURATION: usize = 4824;
-    pub const MASTERSHIP: usize = 4829;
-    pub const TARGET: usize = 4838;
-    pub const CONNECTIONS: usize = 4843;
+    pub const HIGHEST: usize = 5632;
+    pub const COMMITTED_CHANGE: usize = 5634;
+    pub const COMMITTED: usize = 5636;
+    pub const COMMITTED_VALUES: usize = 5646;
+    pub const OWNERS: usize = 5710;
+    pub const APPLIED: usize = 5774;
+    pub const APPLIED_VALUES: usize = 5784;
+    pub const TARGET_VALUES: usize = 5848;
+    pub const CONFIGURATION: usize = 5912;
+    pub const MASTERSHIP: usize = 5917;
+    pub const TARGET: usize = 5926;
+    pub const CONNECTIONS: usize = 5931;
     pub const CONNECTION: usize = 5;
-    pub const FOLDED: usize = 4883;
-    pub const BASE: usize = 4885;
+    pub const FOLDED: usize = 5971;
+    pub const BASE: usize = 5973;
 }
 
 pub fn u16_at(bytes: &[u8], at: usize) -> u16 {
@@ -81,6 +83,11 @@ pub fn put_u32(bytes: &mut [u8], at: usize, value: u32) {
 
 /// The state in the image, where the image is well-formed.
 pub fn decode(image: &[u8]) -> Option<State> {
+    decode_whatever_owners(image).filter(State::has_well_formed_owners)
+}
+
+/// The same where it is well-formed but for what order 7 asks.
+pub fn decode_whatever_owners(image: &[u8]) -> Option<State> {
     if image.len() != LENGTH {
         return None;
     }
@@ -100,7 +107,7 @@ pub fn decode(image: &[u8]) -> Option<State> {
         connections: decode_connections(image)?,
         target: decode_target(image)?,
     };
-    state.is_well_formed().then_some(state)
+    state.is_well_formed_whatever_owners().then_some(state)
 }
 
 /// The transaction in an entry's bytes, where its codes are in range and its pairs a valid change.
@@ -112,7 +119,7 @@ pub fn decode_entry(bytes: &[u8]) -> Option<Transaction> {
         return None;
     }
     let pair = |place: usize| (u16::from(bytes[entry::PATHS + place]), u16_at(bytes, entry::VALUES + 2 * place));
-    let mut r_values = [0; 4];
+    let mut r_values = [0; PAIR_LIMIT];
     for (place, value) in r_values.iter_mut().take(count).enumerate() {
         *value = u16_at(bytes, entry::R_VALUES + 2 * place);
     }
@@ -135,6 +142,7 @@ pub fn decode_entry(bytes: &[u8]) -> Option<Transaction> {
         },
         r_index: Number(u16_at(bytes, entry::R_INDEX)),
         r_values,
+        r_owners: std::array::from_fn(|place| Number(u16_at(bytes, entry::R_OWNERS + 2 * place))),
     })
 }
 
@@ -147,6 +155,7 @@ pub fn decode_committed(image: &[u8]) -> Committed {
         revision: number(at::COMMITTED + 4),
         ordinal: Ordinal(u32_at(image, at::COMMITTED + 6)),
         values: decode_values(image, at::COMMITTED_VALUES),
+        owners: decode_values(image, at::OWNERS).map(Number),
     }
 }
 
@@ -239,11 +248,12 @@ pub fn encode(state: &State, image: &mut [u8]) {
 /// Writes a transaction over its entry's bytes.
 ///
 /// A change that begins to commit, however far it then comes, gets r.values anew, and with them the places past its pairs,
-/// which become 0; every other store keeps those places. The paper does not look at them, the image's definition does.
+/// which become 0; every other store keeps those places. The paper does not look at them, the image's definition does. Of the
+/// owners that it remembers the transaction has all four places.
 pub fn encode_entry(transaction: &Transaction, bytes: &mut [u8]) {
     let begins = bytes[entry::C_COMMIT] == Status::Pending.code() && transaction.c.commit != Status::Pending;
     if begins {
-        bytes[entry::R_VALUES..ENTRY].fill(0);
+        bytes[entry::R_VALUES..entry::R_OWNERS].fill(0);
     }
     bytes[entry::C_COMMIT] = transaction.c.commit.code();
     bytes[entry::C_APPLY] = transaction.c.apply.code();
@@ -259,6 +269,9 @@ pub fn encode_entry(transaction: &Transaction, bytes: &mut [u8]) {
         put_u16(bytes, entry::VALUES + 2 * place, pair.value);
         put_u16(bytes, entry::R_VALUES + 2 * place, r_value);
     }
+    for (place, owner) in transaction.r_owners.iter().enumerate() {
+        put_u16(bytes, entry::R_OWNERS + 2 * place, owner.0);
+    }
 }
 
 pub fn encode_committed(committed: &Committed, image: &mut [u8]) {
@@ -268,6 +281,7 @@ pub fn encode_committed(committed: &Committed, image: &mut [u8]) {
     put_u16(image, at::COMMITTED + 4, committed.revision.0);
     put_u32(image, at::COMMITTED + 6, committed.ordinal.0);
     encode_values(&committed.values, image, at::COMMITTED_VALUES);
+    encode_values(&committed.owners.map(|owner| owner.0), image, at::OWNERS);
 }
 
 pub fn encode_applied(applied: &Applied, image: &mut [u8]) {

@@ -2,6 +2,7 @@
 
 use crate::controller::{
     overlay, Applied, Change, Committed, Event, Node, Number, Ordinal, Phase, Refusal, Stage, Status, Transaction, Values,
+    PAIR_LIMIT,
 };
 
 #[derive(Clone, Copy, PartialEq, Eq, Hash, Debug)]
@@ -177,10 +178,11 @@ impl Work<'_> {
     fn begin_change(&mut self) {
         self.transaction.c.commit = Status::InProgress;
         self.transaction.r_index = self.committed.revision;
-        let present = self.transaction.change.pairs().iter().map(|pair| self.committed.values[usize::from(pair.path)]);
-        let mut r_values = [0; 4];
-        r_values.iter_mut().zip(present).for_each(|(kept, value)| *kept = value);
-        self.transaction.r_values = r_values;
+        (self.transaction.r_values, self.transaction.r_owners) = Default::default();
+        for (place, pair) in self.transaction.change.pairs().iter().enumerate() {
+            self.transaction.r_values[place] = self.committed.values[usize::from(pair.path)];
+            self.transaction.r_owners[place] = self.committed.owners[usize::from(pair.path)];
+        }
     }
 
     fn accept_change(&mut self) -> Worked {
@@ -192,6 +194,7 @@ impl Work<'_> {
         self.committed.revision = self.number;
         self.committed.ordinal = ordinal;
         overlay(&mut self.committed.values, self.transaction.change.pairs());
+        self.own_paths([self.number; PAIR_LIMIT]);
         self.then(Self::finish_change);
         self.told(Rule::CommitChangeAccept, Status::Complete)
     }
@@ -240,8 +243,16 @@ impl Work<'_> {
         self.committed.revision = self.transaction.r_index;
         self.committed.ordinal = ordinal;
         overlay(&mut self.committed.values, self.transaction.returning_pairs().pairs());
+        self.own_paths(self.transaction.r_owners);
         self.then(Self::finish_rollback);
         self.told(Rule::CommitRollbackReturn, Status::Complete)
+    }
+
+    /// Makes these the owners of the change's paths (order 7).
+    fn own_paths(&mut self, owners: [Number; PAIR_LIMIT]) {
+        for (pair, owner) in self.transaction.change.pairs().iter().zip(owners) {
+            self.committed.owners[usize::from(pair.path)] = owner;
+        }
     }
 
     fn finish_rollback(&mut self) {

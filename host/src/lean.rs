@@ -44,12 +44,14 @@ impl Kept {
 fn checked(image: &Image) -> Option<Kept> {
     let kept = Kept { folded: u16_at(image, at::FOLDED), highest: u16_at(image, at::HIGHEST) };
     let within = |at: usize| u16_at(image, at) <= kept.highest;
+    let change = u16_at(image, at::COMMITTED_CHANGE);
     let mut number = kept.folded;
     let formed = within(at::FOLDED)
         && kept.count() <= LOG_LIMIT
         && within(at::COMMITTED_CHANGE)
         && [0, 2, 4].iter().all(|field| within(at::COMMITTED + field) && within(at::APPLIED + field))
-        && u16_at(image, at::COMMITTED + 4) <= u16_at(image, at::COMMITTED_CHANGE)
+        && u16_at(image, at::COMMITTED + 4) <= change
+        && image[at::OWNERS..at::APPLIED].chunks_exact(2).all(|owner| u16_at(owner, 0) <= change)
         && u32_at(image, at::COMMITTED + 6) <= Ordinal::LIMIT.0
         && u32_at(image, at::APPLIED + 6) <= Ordinal::LIMIT.0
         && matches!(image[at::CONFIGURATION], 1..=3)
@@ -81,6 +83,7 @@ fn entry_is_formed(bytes: &[u8; ENTRY], number: u16) -> bool {
         && bytes[entry::R_APPLY] <= highest
         && matches!(bytes[entry::PHASE], 1 | 2)
         && u16_at(bytes, entry::R_INDEX) < number
+        && [0, 2, 4, 6].into_iter().all(|place| u16_at(bytes, entry::R_OWNERS + place) < number)
         && u32_at(bytes, entry::C_ORDINAL) <= Ordinal::LIMIT.0
         && u32_at(bytes, entry::R_ORDINAL) <= Ordinal::LIMIT.0
         && matches!(count, 1..=4)
@@ -500,6 +503,7 @@ pub fn read(image: &[u8], query: Query) -> u64 {
         Query::Transaction { number, field } => transaction(image, number, field),
         Query::Record { field } => record(image, field),
         Query::Connection { node, field } => connection(image, node, field),
+        Query::Owner { path } => owner(image, path),
         Query::Why(Question { node, job, number }) => why(image, node, job, number),
     }
 }
@@ -535,6 +539,14 @@ pub fn connection(image: &[u8], node: u64, field: u64) -> u64 {
     })
 }
 
+#[inline(never)]
+pub fn owner(image: &[u8], path: u64) -> u64 {
+    answered(image, |image, kept| {
+        let owner = (path < 32).then(|| u16_at(image, at::OWNERS + 2 * path as usize)).ok_or(Refusal::OutOfRange)?;
+        Ok(if owner <= kept.folded { 0 } else { owner.into() })
+    })
+}
+
 fn one_of(fields: &[Field], field: u64) -> Result<Field, Refusal> {
     if field == 0 || field > fields.len() as u64 {
         return Err(Refusal::OutOfRange);
@@ -544,13 +556,21 @@ fn one_of(fields: &[Field], field: u64) -> Result<Field, Refusal> {
 
 /// The number at the place that is found in a well-formed image, whose log keeps what is given.
 fn shown(image: &[u8], find: impl FnOnce(Kept) -> Result<Field, Refusal>) -> u64 {
-    let read = <&Image>::try_from(image).map_err(|_| Refusal::NotWellFormed).and_then(|image| {
-        let (at, width) = find(checked(image).ok_or(Refusal::NotWellFormed)?)?;
+    answered(image, |image, kept| {
+        let (at, width) = find(kept)?;
         Ok(match width {
             1 => image[at].into(),
             2 => u16_at(image, at).into(),
             _ => u32_at(image, at),
         })
+    })
+}
+
+/// What is read of a well-formed image, packed.
+fn answered(image: &[u8], read: impl FnOnce(&Image, Kept) -> Result<u32, Refusal>) -> u64 {
+    let read = <&Image>::try_from(image).map_err(|_| Refusal::NotWellFormed).and_then(|image| {
+        let kept = checked(image).ok_or(Refusal::NotWellFormed)?;
+        read(image, kept)
     });
     match read {
         Ok(value) => u64::from(value) << 32,

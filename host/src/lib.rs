@@ -17,6 +17,7 @@ pub mod lines;
 pub mod lists;
 pub mod night;
 pub mod northbound;
+pub mod owner;
 #[cfg(feature = "archive")]
 pub mod peer;
 pub mod random;

@@ -1,6 +1,6 @@
 //! The stepper's lines over the independent controller: one call a line in, one answer a line out, the heads at the end.
 
-use crate::controller::{Refusal, State};
+use crate::controller::{Number, Refusal, State};
 use crate::import::{self, Entry, Refused};
 use crate::night::{Night, Passed, OUTCOMES};
 use crate::northbound::{act, bytes_of, pairs_of, Answer, Request, Served};
@@ -11,6 +11,8 @@ use crate::why::{Question, Why};
 pub enum Line {
     Call(Request),
     Why(Question),
+    /// Who set that path.
+    Owner(u64),
     Night(Night),
     /// Stands in place of the fresh start: as the first line alone.
     Import(Vec<Entry>),
@@ -29,6 +31,7 @@ pub fn read(line: &[u8]) -> Option<Line> {
             let [node, job, number] = numbers(operands?, ["node", "job", "number"])?;
             Some(Line::Why(Question { node, job, number }))
         }
+        "owner" => numbers(operands?, ["path"]).map(|[path]| Line::Owner(path)),
         "night" => read_night(operands?).map(Line::Night),
         "import" => read_entries(operands?.strip_prefix("entries=")?).map(Line::Import),
         _ => read_call(call, operands).map(Line::Call),
@@ -157,6 +160,15 @@ pub fn explained(why: Result<Why, Refusal>) -> String {
     format!("answer={answer} reason={reason} named={named}\n")
 }
 
+/// The line that who set a path, or the refusal of it, is printed as.
+pub fn owned(owner: Result<Number, Refusal>) -> String {
+    let (answer, owner) = match owner {
+        Ok(owner) => (0, owner.0),
+        Err(refusal) => (refusal.number(), 0),
+    };
+    format!("answer={answer} owner={owner}\n")
+}
+
 /// The line that asks for a night. None asks with a number past 65,535, or with a table that is too short or holds what is no
 /// digit.
 pub fn nightly(night: &Night) -> Option<String> {
@@ -211,6 +223,7 @@ pub fn stepped(input: &[u8]) -> String {
         output.push_str(&match read(line) {
             Some(Line::Call(request)) => written(&act(&mut state, &request)),
             Some(Line::Why(question)) => explained(state.why(question)),
+            Some(Line::Owner(path)) => owned(state.owner(path)),
             Some(Line::Night(night)) => passed(state.night(&night)),
             Some(Line::Import(entries)) if place == 0 => {
                 imported(State::imported(&import::listed(&entries)).map(|imported| state = imported))

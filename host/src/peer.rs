@@ -31,6 +31,7 @@ mod exported {
         pub fn makowist_transaction(image: *const u8, length: usize, number: u64, field: u64) -> u64;
         pub fn makowist_record(image: *const u8, length: usize, field: u64) -> u64;
         pub fn makowist_connection(image: *const u8, length: usize, node: u64, field: u64) -> u64;
+        pub fn makowist_owner(image: *const u8, length: usize, path: u64) -> u64;
         pub fn makowist_why(image: *const u8, length: usize, node: u64, job: u64, number: u64) -> u64;
         pub fn makowist_night(
             image: *mut u8,
@@ -112,7 +113,7 @@ pub fn well_formed(image: &[u8]) -> u64 {
     unsafe { exported::makowist_well_formed(image.as_ptr(), image.len()) }
 }
 
-/// Reads one number of a lent image, or why a job does not move.
+/// Reads one number of a lent image, who set a path, or why a job does not move.
 #[inline]
 pub fn read(image: &[u8], query: Query) -> u64 {
     let (bytes, length) = (image.as_ptr(), image.len());
@@ -123,6 +124,7 @@ pub fn read(image: &[u8], query: Query) -> u64 {
             Query::Transaction { number, field } => exported::makowist_transaction(bytes, length, number, field),
             Query::Record { field } => exported::makowist_record(bytes, length, field),
             Query::Connection { node, field } => exported::makowist_connection(bytes, length, node, field),
+            Query::Owner { path } => exported::makowist_owner(bytes, length, path),
             Query::Why(Question { node, job, number }) => exported::makowist_why(bytes, length, node, job, number),
         }
     }

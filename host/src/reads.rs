@@ -1,4 +1,5 @@
-//! The C interface's reads over the independent controller: one number of the state at a time, or why a job does not move.
+//! The C interface's reads over the independent controller: one number of the state at a time, who set a path, or why a job does
+//! not move.
 
 use crate::controller::{Connection, Node, Progress, Refusal, State, Transaction, PATHS};
 use crate::image::{configuration_code, entry, entry_at, u16_at};
@@ -13,6 +14,7 @@ pub enum Query {
     Transaction { number: u64, field: u64 },
     Record { field: u64 },
     Connection { node: u64, field: u64 },
+    Owner { path: u64 },
     Why(Question),
 }
 
@@ -49,11 +51,12 @@ impl Query {
             true => random.one_of(&[0, fields + 1, 255, 256, 257, 65535]),
             false => random.between(1, fields as usize) as u64,
         };
-        match random.below(8) {
+        match random.below(9) {
             0 | 1 => {
                 let table = field(TABLES, random);
                 Query::Value { table, path: field(PATHS as u64, random).wrapping_sub(1) }
             }
+            8 => Query::Owner { path: field(PATHS as u64, random).wrapping_sub(1) },
             2 | 3 => Query::Record { field: field(RECORD_FIELDS, random) },
             4 => {
                 let node = field(8, random);
@@ -80,6 +83,7 @@ impl Query {
         for node in 0..=9 {
             all.extend((0..=CONNECTION_FIELDS + 1).map(|field| Query::Connection { node, field }));
         }
+        all.extend((0..=PATHS as u64).map(|path| Query::Owner { path }));
         all.extend(questions(state).map(Query::Why));
         all
     }
@@ -114,6 +118,7 @@ impl Query {
                 let Connection { id, connected } = state.connection(node);
                 if field == 1 { id } else { connected.into() }
             }
+            Query::Owner { path } => state.owner(path)?.0.into(),
             Query::Why(question) => return state.why(question).map(Shown::Why),
         };
         Ok(Shown::Number(number))

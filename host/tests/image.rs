@@ -1,7 +1,7 @@
 //! The codec: a state's way through the image and back, and which bytes a call leaves alone.
 
 use makowist_host::arguments::Wide;
-use makowist_host::controller::{Number, State, LOG_LIMIT, PATHS};
+use makowist_host::controller::{Number, State, LOG_LIMIT, PAIR_LIMIT, PATHS};
 use makowist_host::image::{self, at, entry, ENTRY, LENGTH};
 use makowist_host::northbound::{self, bytes_of, Request};
 use makowist_host::random::Random;
@@ -47,7 +47,10 @@ fn some() -> Vec<u8> {
 
 #[test]
 fn the_layout_ends_where_it_says() {
+    assert_eq!(entry::R_OWNERS + 2 * PAIR_LIMIT, ENTRY);
     assert_eq!(ENTRY * LOG_LIMIT, at::HIGHEST);
+    assert_eq!(at::COMMITTED_VALUES + 2 * PATHS, at::OWNERS);
+    assert_eq!(at::OWNERS + 2 * PATHS, at::APPLIED);
     assert_eq!(at::CONNECTIONS + 8 * at::CONNECTION, at::FOLDED);
     assert_eq!(at::BASE + 2 * PATHS, LENGTH);
 }
@@ -195,23 +198,22 @@ fn append_zeroes_the_places_it_does_not_use() {
     assert!(bytes[3 * ENTRY..4 * ENTRY].iter().all(|byte| *byte == 0xee));
 }
 
+/// The owners that it remembers too: its path 3 is that of change 1, and the places past its pairs are below its own number.
 #[test]
 fn a_begun_change_gets_all_its_r_values_anew() {
-    let mut bytes = fresh();
-    for request in [
-        Request::Append(bytes_of(&[(3, 7)])),
-        Request::Start,
-        Request::Connect(1),
-        Request::Master(1),
-    ] {
+    let mut bytes = some();
+    for request in [work(1, 2), Request::Append(bytes_of(&[(3, 7)]))] {
         assert_eq!(serve(&mut bytes, request) & 0xff, 0);
     }
-    bytes[entry::R_VALUES..ENTRY].fill(0xee);
-    bytes[entry::VALUES + 2..entry::R_VALUES].fill(0xdd);
+    let third = 2 * ENTRY;
+    bytes[third + entry::R_VALUES..third + entry::R_OWNERS].fill(0xee);
+    bytes[third + entry::VALUES + 2..third + entry::R_VALUES].fill(0xdd);
+    (0..PAIR_LIMIT).for_each(|place| image::put_u16(&mut bytes, third + entry::R_OWNERS + 2 * place, 2));
     image::put_u16(&mut bytes, at::COMMITTED_VALUES + 6, 55);
-    assert_eq!(serve(&mut bytes, work(1, 1)) & 0xff, 0);
-    assert_eq!(bytes[entry::R_VALUES..ENTRY], [55, 0, 0, 0, 0, 0, 0, 0]);
-    assert!(bytes[entry::VALUES + 2..entry::R_VALUES].iter().all(|byte| *byte == 0xdd));
+    assert_eq!(serve(&mut bytes, work(1, 3)) & 0xff, 0);
+    assert_eq!(bytes[third + entry::R_VALUES..third + entry::R_OWNERS], [55, 0, 0, 0, 0, 0, 0, 0]);
+    assert_eq!(bytes[third + entry::R_OWNERS..third + ENTRY], [1, 0, 0, 0, 0, 0, 0, 0]);
+    assert!(bytes[third + entry::VALUES + 2..third + entry::R_VALUES].iter().all(|byte| *byte == 0xdd));
 }
 
 #[test]
@@ -219,6 +221,8 @@ fn a_byte_out_of_range_is_refused() {
     let cases = [
         (entry::C_COMMIT, 7), (entry::R_APPLY, 7), (entry::PHASE, 0), (entry::PHASE, 3), (entry::PAIRS, 0),
         (entry::PAIRS, 5), (entry::R_INDEX, 1), (entry::C_ORDINAL + 2, 2), (entry::R_ORDINAL + 3, 1),
+        (entry::R_OWNERS, 1), (entry::R_OWNERS + 6, 1), (entry::R_OWNERS + 7, 1), (ENTRY + entry::R_OWNERS + 2, 2),
+        (at::OWNERS, 2), (at::OWNERS + 63, 1),
         (entry::PATHS, 9), (entry::PATHS + 1, 32), (at::HIGHEST, 0), (at::HIGHEST, 129), (at::FOLDED, 3), (at::COMMITTED, 3),
         (at::COMMITTED + 4, 2), (at::COMMITTED + 8, 2), (at::APPLIED + 2, 3), (at::CONFIGURATION, 0),
         (at::CONFIGURATION, 4), (at::MASTERSHIP, 9), (at::TARGET + 4, 2), (at::CONNECTIONS + 4, 2),

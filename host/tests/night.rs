@@ -4,7 +4,7 @@ mod common;
 
 use common::{commit, commit_rollback, told, transaction, with_open_line, work, ACCEPTED, REJECTED};
 use makowist_host::controller::{Number, Ordinal, Refusal, State, Status};
-use makowist_host::image::{decode, encode, LENGTH};
+use makowist_host::image::{at, decode, encode, put_u16, LENGTH};
 use makowist_host::lines::{nightly, read, stepped, Line};
 use makowist_host::night::{Night, Passed, Stopped, BUDGET_LIMIT, EVENT, OUTCOMES};
 use makowist_host::northbound::{self, act};
@@ -291,7 +291,7 @@ fn events_in_rooms_of_every_length() {
 fn the_image_of_a_night_is_that_of_its_jobs() {
     let state = with_appended(1);
     let mut image = vec![0xee; LENGTH];
-    image[4608..4610].copy_from_slice(&[1, 0]);
+    put_u16(&mut image, at::HIGHEST, 1);
     encode(&state, &mut image);
     let mut by_night = image.clone();
     northbound::night(&mut by_night, &night(4, &[]), &mut []);

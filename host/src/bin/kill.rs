@@ -210,7 +210,7 @@ fn sum_of(sum: u64, bytes: &[u8]) -> u64 {
 
 /// A transaction's line in the archive, as far as the sum.
 fn archived(number: Number, transaction: &Transaction) -> String {
-    let Transaction { phase, change, c, r, r_index, r_values } = transaction;
+    let Transaction { phase, change, c, r, r_index, r_values, .. } = transaction;
     let pairs: Vec<String> = change.pairs().iter().map(|pair| format!("{}:{}", pair.path, pair.value)).collect();
     let r_values: Vec<String> = r_values.iter().take(pairs.len()).map(u16::to_string).collect();
     let valid = u8::from(c.commit == Status::Complete);

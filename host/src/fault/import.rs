@@ -124,6 +124,11 @@ pub enum Blunder {
     RValuesLost,
     RIndexLost,
     TargetLeft,
+    /// No path has an owner; nothing is remembered of earlier ones; what is undone keeps its paths; an owner is a position.
+    OwnersLost,
+    ROwnersLost,
+    UndoneOwns,
+    OwnersByPosition,
 }
 
 impl Blunder {
@@ -151,6 +156,7 @@ impl Blunder {
         all.extend([Replaces, RollbackReplaces, LeftBegun(1), LeftBegun(3), LastLeftBegun, OnlyAsked, Unasked]);
         all.extend([RollbackUncounted, ChangeWithoutOrdinal, RollbackWithoutOrdinal, UndoneDropped, FirstLost, LastLost]);
         all.extend([AllApplied, AppliedValues, TargetValues, RValuesLost, RIndexLost, TargetLeft]);
+        all.extend([OwnersLost, ROwnersLost, UndoneOwns, OwnersByPosition]);
         all
     }
 
@@ -322,11 +328,21 @@ impl Blunder {
         };
         for (place, entry) in entries.iter().enumerate() {
             let is_last = place + 1 == entries.len();
+            let owners = state.committed.owners;
             let number = match entry {
                 Entry::Change { .. } => self.changed(&mut state, entry.pairs(), is_last),
                 Entry::Rollback { named } => self.undone(&mut state, &numbers, *named, is_last),
                 Entry::Neither { .. } => Number::NONE,
             };
+            match (self, entry) {
+                (Blunder::UndoneOwns, Entry::Rollback { .. }) => state.committed.owners = owners,
+                (Blunder::OwnersByPosition, Entry::Change { .. }) => {
+                    entry.pairs().iter().for_each(|(path, _)| {
+                        state.committed.owners[usize::from(*path)] = Number(place as u16 + 1);
+                    });
+                }
+                _ => {}
+            }
             numbers.push(number);
         }
         self.end(&mut state);
@@ -365,6 +381,7 @@ impl Blunder {
             Blunder::ChangeWithoutOrdinal => state.log[place].c.ordinal = Ordinal::NONE,
             Blunder::RValuesLost => state.log[place].r_values = [0; PAIR_LIMIT],
             Blunder::RIndexLost => state.log[place].r_index = Number::NONE,
+            Blunder::ROwnersLost => state.log[place].r_owners = [Number::NONE; PAIR_LIMIT],
             _ => {}
         }
         number
@@ -425,6 +442,7 @@ impl Blunder {
             Blunder::AppliedValues => state.applied.values = values,
             Blunder::TargetValues => state.target.values = values,
             Blunder::TargetLeft => state.committed.target = Number::NONE,
+            Blunder::OwnersLost => state.committed.owners = [Number::NONE; PATHS],
             _ => {}
         }
     }

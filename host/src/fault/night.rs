@@ -85,9 +85,10 @@ pub enum Lapse {
     // ---- how much is done
     OneMore,
     OneLess,
-    /// The last job's stores are not kept; none is.
+    /// The last job's stores are not kept; none is; those of owners are not (order 7).
     LastUndone,
     Undone,
+    OwnersLeft,
     // ---- what is answered and shown
     /// Only jobs with an event are counted; one more is.
     JobsByEvents,
@@ -132,7 +133,7 @@ impl Lapse {
         all.extend([ShortTable, LongTable, GreatRejects, GreatAccepts, BeyondKeptUnasked, FirstUnasked, LastUnasked, AnyNode]);
         all.extend([OneMore, OneLess, LastUndone, Undone, JobsByEvents, JobsOneMore, LastUnshown, ShownLate, ShownBackwards]);
         all.extend([SilentSkipped, PartsSwapped, ShownInPart, ExactTooShort, RestCleared, RefusedClears]);
-        all.extend([ShownByJobs, ShownByEvents]);
+        all.extend([ShownByJobs, ShownByEvents, OwnersLeft]);
         all
     }
 
@@ -149,6 +150,7 @@ impl Lapse {
         let passed = self.passed(state, &night);
         match self {
             Lapse::Undone => *state = before,
+            Lapse::OwnersLeft => state.committed.owners = before.committed.owners,
             Lapse::LastUndone => {
                 *state = before;
                 for done in passed.jobs.split_last().map_or(&[][..], |(_, earlier)| earlier) {

@@ -27,12 +27,13 @@ pub enum Call {
     Transaction,
     Record,
     Connection,
+    Owner,
     Why,
     Night,
 }
 
 /// The refusals of each call in their order: the paper's, with 9 in append, 17 and 18 as order 10 puts them, 15 as order 4.
-pub const ORDERS: [(Call, &[u8]); 17] = [
+pub const ORDERS: [(Call, &[u8]); 18] = [
     (Call::Append, &[1, 3, 4, 9]),
     (Call::Rollback, &[1, 5, 18, 6]),
     (Call::Start, &[1, 7, 9]),
@@ -48,6 +49,7 @@ pub const ORDERS: [(Call, &[u8]); 17] = [
     (Call::Transaction, &[1, 2, 5, 18]),
     (Call::Record, &[1, 2]),
     (Call::Connection, &[1, 2]),
+    (Call::Owner, &[1, 2]),
     (Call::Why, &[1, 2, 5, 18, 10, 15]),
     (Call::Night, &[1, 2, 10]),
 ];
@@ -158,6 +160,7 @@ fn call_read(query: Query) -> Call {
         Query::Transaction { .. } => Call::Transaction,
         Query::Record { .. } => Call::Record,
         Query::Connection { .. } => Call::Connection,
+        Query::Owner { .. } => Call::Owner,
         Query::Why(_) => Call::Why,
     }
 }

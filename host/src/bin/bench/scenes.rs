@@ -10,6 +10,13 @@ use makowist_host::reads::Query;
 use makowist_host::why::{Question, Reason};
 use std::ops::Range;
 
+/// A transaction's fields that show its pairs.
+const PAIRS_FIELD: u64 = 9;
+const PATH_FIELD: u64 = 10;
+
+/// The path whose owner is asked for. No change that `append` makes sets it, so that the list is read to its end.
+const UNSET_PATH: u64 = 31;
+
 /// How many entries the measured logs have.
 pub const LENGTHS: [usize; 4] = [0, 16, 64, 128];
 
@@ -19,6 +26,8 @@ pub enum Call {
     Read(Query),
     Live,
     WellFormed,
+    /// Who set a path, by reading the live list and its pairs, as before order 7.
+    OwnerByList(u64),
 }
 
 pub struct Scene {
@@ -105,14 +114,24 @@ impl Scene {
             (Side::Proved, Call::Read(query)) => peer::read(image, *query),
             (Side::Proved, Call::Live) => peer::live(image, room),
             (Side::Proved, Call::WellFormed) => peer::well_formed(image),
+            (Side::Proved, Call::OwnerByList(path)) => {
+                by_list(peer::live(image, room), room, *path, |query| peer::read(image, query))
+            }
             (Side::Independent, Call::Request(request)) => lean::serve(image, request, pairs),
             (Side::Independent, Call::Read(query)) => lean::read(image, *query),
             (Side::Independent, Call::Live) => lean::live(image, room),
             (Side::Independent, Call::WellFormed) => well_formed(lean::is_well_formed(image)),
+            (Side::Independent, Call::OwnerByList(path)) => {
+                by_list(lean::live(image, room), room, *path, |query| lean::read(image, query))
+            }
             (Side::Typed, Call::Request(request)) => northbound::serve(image, request).packed(),
             (Side::Typed, Call::Read(query)) => query.packed(image::decode(image).as_ref(), image),
             (Side::Typed, Call::Live) => northbound::live(image, room),
             (Side::Typed, Call::WellFormed) => well_formed(image::decode(image).is_some()),
+            (Side::Typed, Call::OwnerByList(path)) => {
+                let query = |query: Query| query.packed(image::decode(image).as_ref(), image);
+                by_list(northbound::live(image, room), room, *path, query)
+            }
         }
     }
 
@@ -125,6 +144,14 @@ impl Scene {
         assert!(answers[0] == answers[2] && answers[1] == answers[2], "{} at {}: the sides differ", self.name, self.length);
         answers[0].0 & 0xff
     }
+}
+
+/// The first of a live list that has a pair of that path, packed as an owner is.
+fn by_list(listed: u64, room: &[u8], path: u64, read: impl Fn(Query) -> u64) -> u64 {
+    let numbers = room.chunks_exact(2).take((listed >> 32) as usize).map(|two| u64::from(image::u16_at(two, 0)));
+    let field = |number: u64, field: u64| read(Query::Transaction { number, field }) >> 32;
+    let sets = |number: &u64| (0..field(*number, PAIRS_FIELD)).any(|place| field(*number, PATH_FIELD + place) == path);
+    numbers.into_iter().find(sets).unwrap_or(0) << 32
 }
 
 fn well_formed(formed: bool) -> u64 {
@@ -238,6 +265,8 @@ fn reads(length: usize, base: &State) -> Vec<Scene> {
         ("read a transaction", Call::Read(Query::Transaction { number: length as u64, field: 4 })),
         ("read a record", Call::Read(Query::Record { field: 9 })),
         ("read a connection", Call::Read(Query::Connection { node: 8, field: 1 })),
+        ("read an owner", Call::Read(Query::Owner { path: UNSET_PATH })),
+        ("the same by the live list", Call::OwnerByList(UNSET_PATH)),
         ("live list", Call::Live),
         ("well-formed", Call::WellFormed),
     ]

@@ -3,11 +3,12 @@
 use crate::folds;
 use crate::imports;
 use crate::nights;
+use crate::owners;
 use crate::retries;
 use crate::switches;
 use crate::whys;
 use crate::wide;
-use makowist_host::controller::{Refusal, State};
+use makowist_host::controller::{Refusal, State, PATHS};
 use makowist_host::jobs::Rule;
 use makowist_host::northbound::{Request, Served};
 use makowist_host::reads::{Query, CONNECTION_FIELDS, RECORD_FIELDS, TABLES, TRANSACTION_FIELDS};
@@ -37,12 +38,14 @@ pub struct Counts {
     pub nights: nights::Seen,
     /// What order 6 brings.
     pub imports: imports::Seen,
+    /// What order 7 brings.
+    pub owners: owners::Seen,
     /// What order 8 brings.
     pub switches: switches::Seen,
     /// Numbers of more than 16 bits, and rooms by the byte.
     pub wide: wide::Seen,
-    /// By what is read: how often each table, field or reason was shown.
-    shown: [[u64; TRANSACTION_FIELDS as usize]; KINDS.len()],
+    /// By what is read: how often each table, field, path or reason was shown.
+    shown: [[u64; MOST_FIELDS]; KINDS.len()],
     /// By what is read: how often each refusal was answered.
     refused: [[u64; ANSWERS]; KINDS.len()],
 }
@@ -53,13 +56,17 @@ const CUTS: usize = 3;
 /// One more than the greatest answer; not every number below it is one.
 const ANSWERS: usize = Refusal::Folded as usize + 1;
 
-/// What is read, how many tables, fields or reasons it has, and the refusals that it can answer.
-const KINDS: [(&str, u64, &[usize]); 5] = [
+/// The most fields that anything that is read has: an owner's are its paths.
+const MOST_FIELDS: usize = PATHS;
+
+/// What is read, how many tables, fields, paths or reasons it has, and the refusals that it can answer.
+const KINDS: [(&str, u64, &[usize]); 6] = [
     ("value", TABLES, &[1, 2]),
     ("transaction", TRANSACTION_FIELDS, &[1, 2, 5, 18]),
     ("record", RECORD_FIELDS, &[1, 2]),
     ("connection", CONNECTION_FIELDS, &[1, 2]),
     ("reason", Reason::ALL.len() as u64, &[1, 2, 5, 18, 10, 15]),
+    ("path's owner", PATHS as u64, &[1, 2]),
 ];
 
 impl Counts {
@@ -88,6 +95,7 @@ impl Counts {
             Query::Record { field } => (2, field),
             Query::Connection { field, .. } => (3, field),
             Query::Why(_) => (4, packed >> 8 & 0xff),
+            Query::Owner { path } => (5, path.saturating_add(1)),
         };
         self.read(packed);
         match packed & 0xff {
@@ -131,6 +139,7 @@ impl Counts {
         let unseen_whys = self.whys.told();
         let unseen_nights = self.nights.told();
         let unseen_imports = self.imports.told();
+        let unseen_owners = self.owners.told();
         let unseen_switches = self.switches.told();
         let unseen_wide = self.wide.told();
         let unseen_reads = self.told_reads();
@@ -144,7 +153,7 @@ impl Counts {
         let rules = self.rules.iter().filter(|counts| counts.iter().sum::<u64>() > 0).count();
         println!("rules seen: {rules} of {}; refusals seen: {refusals} of {}", Rule::ALL.len(), Refusal::ALL.len());
         let unseen = [self.states, self.freed, self.migrations].iter().filter(|count| **count == 0).count();
-        let unseen_orders = unseen_retries + unseen_folds + unseen_whys + unseen_nights + unseen_imports + unseen_switches;
-        unseen + unseen_answers + unseen_rules + unseen_reads + unseen_orders + unseen_wide
+        let unseen_orders = [unseen_retries, unseen_folds, unseen_whys, unseen_nights, unseen_imports, unseen_owners, unseen_switches];
+        unseen + unseen_answers + unseen_rules + unseen_reads + unseen_orders.iter().sum::<usize>() + unseen_wide
     }
 }

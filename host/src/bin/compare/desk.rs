@@ -47,7 +47,7 @@ pub const UNWRITTEN: u8 = 0xab;
 pub const MOST_ROOM: usize = 2 * LOG_LIMIT + 5;
 
 pub struct Desk {
-    lent: Guarded,
+    pub lent: Guarded,
     pub lent_pairs: Guarded,
     pub lent_room: Guarded,
     pub lent_copy: Guarded,
@@ -100,6 +100,16 @@ impl Desk {
         self.fault.map_or(true, Fault::is_of_imports)
     }
 
+    /// Whether there is no fault put in, or one of owners.
+    pub fn asks_for_owners(&self) -> bool {
+        self.fault.map_or(true, Fault::is_of_owners)
+    }
+
+    /// What bytes decode to.
+    pub fn decoded(&self, bytes: &[u8]) -> Option<State> {
+        self.fault.map_or_else(|| image::decode(bytes), |fault| fault.decode(bytes))
+    }
+
     /// Whether the comparison's time is up.
     pub fn is_over(&mut self) -> bool {
         self.watch.is_over(&self.counts)
@@ -120,8 +130,8 @@ impl Desk {
         self.lent.bytes(bytes.len(), self.edge).copy_from_slice(bytes);
     }
 
-    /// Sends a call to both from the state and its image, which has been lent, and leaves both after the call. A job that was
-    /// cut is also called again, on copies; one that was answered 11 is asked after.
+    /// Sends a call to both from the state and its image, which has been lent, and leaves both after the call. Behind one that was
+    /// accepted the owners are read. A job that was cut is also called again, on copies; one that was answered 11 is asked after.
     pub fn call(&mut self, state: &mut State, bytes: &mut [u8], request: &Request) -> Compared<Served> {
         let may_be_cut = matches!(request, Request::Work { cut: 1 | 2, .. });
         let before = may_be_cut.then(|| (state.clone(), bytes.to_vec()));
@@ -132,6 +142,7 @@ impl Desk {
         self.hold(bytes, request, served)?;
         if served.reply.is_ok() {
             self.explained = None;
+            self.owners_behind(state, bytes)?;
         }
         self.explain(state, bytes, request, &served)?;
         if let Some((before, before_bytes)) = before {
@@ -151,6 +162,7 @@ impl Desk {
         let mut after_bytes = bytes.to_vec();
         self.store(&after, request, &mut after_bytes);
         self.hold(&after_bytes, request, served)?;
+        self.owners_behind(&after, &after_bytes)?;
         self.retry(request, &served, (state, bytes), (&after, &after_bytes))?;
         self.lend(bytes);
         Ok(Some((after, after_bytes, served)))
@@ -158,10 +170,11 @@ impl Desk {
 
     fn act(&mut self, state: &mut State, request: &Request) -> Served {
         let reconnected = request.is_of_reconnected(state);
-        let rested_at = state.committed.index;
+        let (rested_at, folded) = (state.committed.index, state.folded);
         let served = acted(self.fault, state, request);
         self.counts.freed += u64::from(reconnected && served.reply.is_ok());
         self.counts.folds.called(rested_at, state, request, &served);
+        self.counts.owners.called(folded, state, request, &served, self.reached);
         self.counts.wide.called(state, request, served.packed() & 0xff);
         served
     }
@@ -350,7 +363,7 @@ fn acted(fault: Option<Fault>, state: &mut State, request: &Request) -> Served {
     }
 }
 
-fn same_bytes(expected: &[u8], found: &[u8]) -> Compared<()> {
+pub fn same_bytes(expected: &[u8], found: &[u8]) -> Compared<()> {
     if expected == found {
         return Ok(());
     }

@@ -125,7 +125,7 @@ fn requests(state: &State, appended: usize, transactions: usize) -> Vec<(Request
 fn queries(state: &State) -> impl Iterator<Item = Query> {
     let changed = |path: u64| CHANGES.iter().any(|change| change.iter().any(|(changed, _)| u64::from(*changed) == path));
     Query::all(state).into_iter().filter(move |query| match query {
-        Query::Value { path, .. } => changed(*path),
+        Query::Value { path, .. } | Query::Owner { path } => changed(*path),
         Query::Connection { .. } => false,
         _ => true,
     })

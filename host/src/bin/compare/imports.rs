@@ -152,6 +152,9 @@ pub fn import(desk: &mut Desk, before: &[u8], list: &[u8]) -> Compared<Option<(S
     }
     one_by_one(desk, list, &expected)?;
     let state = State::imported(list).map_err(|refused| Difference::of_call(format!("{refused:?} of an accepted list")))?;
+    desk.lend(&expected);
+    desk.owners_by_list(&state, &expected)?;
+    desk.owners(&state, &expected)?;
     Ok(Some((state, expected)))
 }
 

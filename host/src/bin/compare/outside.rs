@@ -46,6 +46,7 @@ fn every_call(desk: &mut Desk, state: &State, requests: &[Request]) -> Compared<
         }
     }
     (1..=4).try_for_each(|table| desk.query(Some(state), &bytes, Query::Value { table, path: 0 }))?;
+    [0, 3, 31, 32].iter().try_for_each(|path| desk.query(Some(state), &bytes, Query::Owner { path: *path }))?;
     for (node, job) in [(0, 1), (1, 0), (1, 1), (1, 2), (1, 4), (2, 1), (1, 5)] {
         for number in [0, 1, state.highest().0.into(), u64::from(state.highest().0) + 1] {
             desk.query(Some(state), &bytes, Query::Why(Question { node, job, number }))?;
@@ -77,6 +78,7 @@ fn damaged(desk: &mut Desk, state: &State) -> Compared<()> {
         Query::Transaction { number: 1, field: 0 },
         Query::Record { field: 0 },
         Query::Connection { node: 0, field: 1 },
+        Query::Owner { path: 32 },
         Query::Why(Question { node: 0, job: 1, number: 1 }),
     ] {
         desk.query(None, &bytes, query)?;
@@ -177,12 +179,13 @@ fn one(commit: Status, phase: Phase) -> State {
         r: Progress { commit: r, apply: r, ordinal: Ordinal::NONE },
         r_index: Number::NONE,
         r_values: [0; 4],
+        r_owners: [Number::NONE; 4],
     });
     if commit == Status::Complete {
         let committed = &mut state.committed;
         (committed.index, committed.change, committed.target, committed.revision) =
             (Number(1), Number(1), Number(1), Number(1));
-        committed.ordinal = ordinal;
+        (committed.ordinal, committed.owners[3]) = (ordinal, Number(1));
     }
     state
 }
@@ -195,6 +198,7 @@ pub fn many(folded: u16, kept: usize) -> State {
     let committed = &mut state.committed;
     (committed.index, committed.change, committed.target, committed.revision) =
         (Number(folded), Number(folded), Number(folded), Number(folded));
+    committed.owners = [Number(folded); PATHS];
     state
 }
 

@@ -48,12 +48,13 @@ pub fn opened(desk: &mut Desk, folded: Number) -> Compared<(State, Vec<u8>)> {
 /// The state as if so many changes had been committed, applied and folded.
 fn fold_all(state: &mut State, folded: Number) {
     let values = std::array::from_fn::<u16, PATHS, _>(|path| 100 + path as u16);
+    let owners = std::array::from_fn::<Number, PATHS, _>(|path| Number(folded.0 - path as u16));
     let ordinal = Ordinal(folded.0.into());
     state.folded = folded;
     state.base = values;
     state.target.values = values;
     let (committed, applied) = (&mut state.committed, &mut state.applied);
-    (committed.values, applied.values) = (values, values);
+    (committed.values, committed.owners, applied.values) = (values, owners, values);
     (committed.index, committed.change, committed.target, committed.revision) = (folded, folded, folded, folded);
     (applied.index, applied.target, applied.revision) = (folded, folded, folded);
     (committed.ordinal, applied.ordinal) = (ordinal, ordinal);

@@ -4,11 +4,11 @@ use crate::by_itself;
 use crate::desk::{Compared, Desk, MOST_ROOM};
 use crate::nights::{self, Room};
 use makowist_host::controller::{
-    Applied, Change, Committed, Configuration, ConfigurationState, Connection, Mastership, Node, Number, Ordinal, Phase,
-    Progress, State, Status, Target, Term, Transaction, Values,
+    Applied, Change, Committed, Configuration, ConfigurationState, Connection, Mastership, Node, Number, Ordinal, Owners,
+    Phase, Progress, State, Status, Target, Term, Transaction, Values, PATHS,
 };
 use makowist_host::guarded::Edge;
-use makowist_host::image::{self, at, entry, put_u16, put_u32, slot, u16_at, ENTRY, LENGTH};
+use makowist_host::image::{self, at, entry, entry_at_mut, put_u16, put_u32, slot, u16_at, ENTRY, LENGTH};
 use makowist_host::northbound::{pairs_of, Request};
 use makowist_host::random::Random;
 use makowist_host::reads::Query;
@@ -24,6 +24,7 @@ pub fn unreached(desk: &mut Desk, calls: u64, random: &mut Random) -> Compared<(
         assert_eq!(image::decode(&bytes).as_ref(), Some(&state), "a made-up state is well-formed");
         turn(desk);
         desk.lend(&bytes);
+        desk.owners(&state, &bytes)?;
         for _ in 0..20 {
             let request = match random.once_in(4) {
                 true => wild(&state, random),
@@ -59,7 +60,8 @@ pub fn damaged(desk: &mut Desk, calls: u64, random: &mut Random) -> Compared<()>
         let mut bytes = focus.image(&state, random);
         damage(&mut bytes, &state, random);
         desk.counts.folds.damaged(&bytes);
-        let decoded = image::decode(&bytes);
+        desk.counts.owners.damaged(&bytes);
+        let decoded = desk.decoded(&bytes);
         turn(desk);
         desk.lend(&bytes);
         for _ in 0..6 {
@@ -96,7 +98,8 @@ fn damage(bytes: &mut Vec<u8>, state: &State, random: &mut Random) {
     match random.below(20) {
         0 => bytes.iter_mut().for_each(|byte| *byte = random.bits() as u8),
         1 => {
-            let length = random.one_of(&[0, 1, 36, 4608, 4883, LENGTH - 1, LENGTH + 1, LENGTH + 36, 9898, 65536]);
+            let (short, long) = ([0, 1, ENTRY, at::HIGHEST, at::FOLDED], [LENGTH + 1, LENGTH + ENTRY, 2 * LENGTH, 65536]);
+            let length = random.one_of(&[&short[..], &[BEFORE_OWNERS, LENGTH - 1], &long].concat());
             bytes.resize(length, random.bits() as u8);
         }
         2..=7 => {
@@ -107,21 +110,26 @@ fn damage(bytes: &mut Vec<u8>, state: &State, random: &mut Random) {
             let place = place_in_use(state, random);
             bytes[place] ^= 1 << random.below(8);
         }
-        10..=14 if !state.log.is_empty() => damage_entry(&mut bytes[kept_entry(state, random)..][..ENTRY], random),
+        10..=14 if !state.log.is_empty() => {
+            let number = kept_number(state, random);
+            damage_entry(entry_at_mut(bytes, number), number, random);
+        }
         _ => damage_record(bytes, random),
     }
 }
 
-/// Where one of the kept entries, of which there is one, begins.
-fn kept_entry(state: &State, random: &mut Random) -> usize {
-    let number = state.folded.0 + 1 + random.below(state.log.len()) as u16;
-    ENTRY * slot(Number(number))
+/// An image's length before order 7.
+const BEFORE_OWNERS: usize = 4949;
+
+/// One of the kept numbers, of which there is one.
+fn kept_number(state: &State, random: &mut Random) -> Number {
+    Number(state.folded.0 + 1 + random.below(state.log.len()) as u16)
 }
 
 /// A place that some field uses, or any.
 fn place_in_use(state: &State, random: &mut Random) -> usize {
     match random.below(4) {
-        0 | 1 if !state.log.is_empty() => kept_entry(state, random) + random.below(ENTRY),
+        0 | 1 if !state.log.is_empty() => ENTRY * slot(kept_number(state, random)) + random.below(ENTRY),
         0 => random.below(LENGTH),
         _ => random.between(at::HIGHEST, LENGTH - 1),
     }
@@ -131,15 +139,16 @@ fn place_in_use(state: &State, random: &mut Random) -> usize {
 const ORDINALS: [u32; 7] = [0, 255, 131_069, 131_070, 131_071, 1 << 24, u32::MAX];
 
 /// Puts a number just outside its range, or far, into a field of an entry.
-fn damage_entry(bytes: &mut [u8], random: &mut Random) {
+fn damage_entry(bytes: &mut [u8], number: Number, random: &mut Random) {
     let status = [entry::C_COMMIT, entry::C_APPLY, entry::R_COMMIT, entry::R_APPLY];
-    match random.below(7) {
+    match random.below(9) {
         0 => bytes[random.one_of(&status)] = random.one_of(&[6, 7, 8, 128, 255]),
         1 => bytes[entry::PHASE] = random.one_of(&[0, 1, 2, 3, 255]),
         2 => bytes[entry::PAIRS] = random.one_of(&[0, 1, 4, 5, 255]),
         3 => put_u16(bytes, entry::R_INDEX, random.one_of(&[0, 1, 2, 127, 128, 255, 256, 65535])),
         4 => put_u32(bytes, entry::C_ORDINAL, random.one_of(&ORDINALS)),
         5 => put_u32(bytes, entry::R_ORDINAL, random.one_of(&ORDINALS)),
+        6 | 7 => put_u16(bytes, entry::R_OWNERS + 2 * random.below(4), near(number, random)),
         _ => bytes[entry::PATHS + random.below(4)] = random.one_of(&[0, 1, 30, 31, 32, 33, 255]),
     }
 }
@@ -149,13 +158,23 @@ fn damage_record(bytes: &mut [u8], random: &mut Random) {
     let heads = [at::COMMITTED, at::APPLIED].into_iter().flat_map(|head| [head, head + 2, head + 4]);
     let numbers: Vec<usize> = heads.chain([at::COMMITTED_CHANGE, at::HIGHEST, at::FOLDED, at::FOLDED]).collect();
     let flags = [at::TARGET + 4, at::CONNECTIONS + 4, at::CONNECTIONS + 39];
-    match random.below(6) {
+    match random.below(8) {
         0 | 1 => damage_number(bytes, random.one_of(&numbers), random),
         2 => put_u32(bytes, random.one_of(&[at::COMMITTED + 6, at::APPLIED + 6]), random.one_of(&ORDINALS)),
         3 => bytes[at::CONFIGURATION] = random.one_of(&[0, 1, 3, 4, 255]),
         4 => bytes[at::MASTERSHIP] = random.one_of(&[0, 8, 9, 255]),
+        5 | 6 => {
+            let change = Number(u16_at(bytes, at::COMMITTED_CHANGE));
+            put_u16(bytes, at::OWNERS + 2 * random.below(PATHS), near(change, random));
+        }
         _ => bytes[random.one_of(&flags)] = random.one_of(&[0, 1, 2, 255]),
     }
+}
+
+/// A number beside that one, or that one, or far.
+fn near(Number(number): Number, random: &mut Random) -> u16 {
+    let far = random.one_of(&[0, 256, 65535]);
+    random.one_of(&[number.saturating_sub(1), number, number.saturating_add(1), number.wrapping_add(256), far])
 }
 
 /// Puts a number near one of the log's ends, the kept ones' limit away from one, or far.
@@ -281,8 +300,10 @@ impl Focus {
     fn transaction(&self, number: u16, random: &mut Random) -> Transaction {
         let change = pairs_of(&change(random)).and_then(|pairs| Change::new(pairs.into_iter()));
         let change = change.expect("a valid change");
+        let r_owners = std::array::from_fn(|_| self.owner(number - 1, random));
         let mut r_values = [0; 4];
-        r_values.iter_mut().take(change.pairs().len()).for_each(|value| *value = random.bits() as u16);
+        let r_value = |random: &mut Random| if random.once_in(4) { 0 } else { random.bits() as u16 };
+        r_values.iter_mut().take(change.pairs().len()).for_each(|value| *value = r_value(random));
         let focused = number == self.number;
         let status = |random: &mut Random| random.one_of(&Status::ALL);
         let commit = |random: &mut Random| match random.below(3) {
@@ -297,6 +318,7 @@ impl Focus {
             r: Progress { commit: commit(random), apply: status(random), ordinal: self.ordinal(random) },
             r_index: Number(if focused { self.r_index } else { self.below(number, random) }),
             r_values,
+            r_owners,
         };
         if self.folds && number <= self.number {
             finish(&mut transaction, random);
@@ -307,6 +329,12 @@ impl Focus {
     /// A number below that one; the one before it where a fold is to find a long live list.
     fn below(&self, number: u16, random: &mut Random) -> u16 {
         if self.folds && !random.once_in(8) { number - 1 } else { random.below(number.into()) as u16 }
+    }
+
+    /// An owner up to that number: the greatest, one of those that rules compare with, none, or any.
+    fn owner(&self, most: u16, random: &mut Random) -> Number {
+        let any = random.below(usize::from(most) + 1) as u16;
+        Number(random.one_of(&[most, self.number, self.folded, self.folded.saturating_add(1), 0, any]).min(most))
     }
 
     fn ordinal(&self, random: &mut Random) -> Ordinal {
@@ -334,7 +362,8 @@ impl Focus {
         let elsewhere = if self.folds { index.0 } else { self.number };
         let target = self.head(&[elsewhere, self.r_index, index.0, index.0, revision.0, 0], random);
         let ordinal = Ordinal(random.one_of(&[0, 1, 2, 131_069, 131_070]));
-        Committed { index, change, target, revision, ordinal, values: values(random) }
+        let owners: Owners = std::array::from_fn(|_| self.owner(change.0, random));
+        Committed { index, change, target, revision, ordinal, values: values(random), owners }
     }
 
     fn applied(&self, random: &mut Random) -> Applied {

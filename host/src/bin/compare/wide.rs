@@ -11,7 +11,7 @@ use makowist_host::reads::{Query, CONNECTION_FIELDS, RECORD_FIELDS, TABLES, TRAN
 use std::ops::RangeInclusive;
 
 /// The functions that take numbers, each with its arguments in their order.
-const FUNCTIONS: [(&str, &[Argument]); 13] = [
+const FUNCTIONS: [(&str, &[Argument]); 14] = [
     ("rollback", &[Argument::Number]),
     ("fold", &[Argument::Number]),
     ("connect", &[Argument::Node]),
@@ -25,6 +25,7 @@ const FUNCTIONS: [(&str, &[Argument]); 13] = [
     ("connection", &[Argument::Node, Argument::Field]),
     ("why", &[Argument::Node, Argument::Job, Argument::Number]),
     ("night", &[Argument::Node, Argument::Budget]),
+    ("owner", &[Argument::Path]),
 ];
 
 /// The most arguments that a function has.
@@ -67,6 +68,7 @@ impl Seen {
             Query::Record { .. } => 9,
             Query::Connection { .. } => 10,
             Query::Why(_) => 11,
+            Query::Owner { .. } => 13,
         };
         self.saw(function, state, query.numbers(), answer);
     }
