@@ -3,11 +3,11 @@
  *     number=2 pairs=3:9,4:1 valid=1 taken=1 undone=0 phase=Change c_commit=Complete c_apply=Complete c_ordinal=2
  *     r_commit=None r_apply=None r_ordinal=0 r_index=1 r_values=7,0 sum=73186d7df2954737
  *
- * is one line, broken here. It is the entry as it stood when it was folded, every field of it under the paper's name. In
- * front of them is what an auditor asks first: valid, the validation took the change (c.commit Complete); taken, the switch
- * took it (c.apply Complete: no other Done is that); undone, its rollback is through, on the switch (r.apply Complete) or
- * with nothing to take back there (Canceled). sum is FNV-1a, 64 bits, over every byte of the file in front of it from the
- * first line on, its own " sum=" left out: a line vouches for all lines before it.
+ * is one line, broken here. It is the entry as it stood when it was folded, every field of it under the paper's name; left out are
+ * the owners that it remembers, which serve its rollback alone. In front of them is what an auditor asks first: valid, the
+ * validation took the change (c.commit Complete); taken, the switch took it (c.apply Complete: no other Done is that); undone, its
+ * rollback is through, on the switch (r.apply Complete) or with nothing to take back there (Canceled). sum is FNV-1a, 64 bits, over
+ * every byte of the file in front of it from the first line on, its own " sum=" left out: a line vouches for all lines before it.
  *
  * An archive belongs to an image: it holds the entries 1 to the image's last fold, each once and in order. A fold's lines
  * are on the disk before its image is, so a server that is killed between the two leaves lines behind the last fold. They

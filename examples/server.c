@@ -418,15 +418,21 @@ static void answer(uint64_t reply) {
            makowist_reply_stage(reply), (unsigned)makowist_reply_number(reply), makowist_reply_status(reply));
 }
 
-/* Answers a line that asks why a job does not move; nothing changes, so nothing is kept. */
-static int explained(const char *line, const char *end) {
+/* Answers a line that asks why a job does not move, or who set a path; nothing changes, so nothing is kept. */
+static int told(const char *line, const char *end) {
     unsigned n[3];
-    if (!is(line, end, "call=why node=# job=# number=#", n))
-        return 0;
-    uint64_t reply = makowist_why(image, sizeof image, n[0], n[1], n[2]);
-    printf("answer=%u reason=%u named=%u\n", makowist_reply_answer(reply), makowist_reply_reason(reply),
-           (unsigned)makowist_reply_named(reply));
-    return 1;
+    if (is(line, end, "call=why node=# job=# number=#", n)) {
+        uint64_t reply = makowist_why(image, sizeof image, n[0], n[1], n[2]);
+        printf("answer=%u reason=%u named=%u\n", makowist_reply_answer(reply), makowist_reply_reason(reply),
+               (unsigned)makowist_reply_named(reply));
+        return 1;
+    }
+    if (is(line, end, "call=owner path=#", n)) {
+        uint64_t reply = makowist_owner(image, sizeof image, n[0]);
+        printf("answer=%u owner=%u\n", makowist_reply_answer(reply), (unsigned)makowist_reply_value(reply));
+        return 1;
+    }
+    return 0;
 }
 
 /* Makes the call that a line asks for and answers it. A refused call has changed nothing. */
@@ -609,7 +615,7 @@ int main(int count, char **words) {
     ssize_t length;
     for (int is_first = 1; (length = getline(&line, &room, stdin)) > 0; is_first = 0) {
         const char *end = line + length - (line[length - 1] == '\n');
-        if (!explained(line, end) && !slept(&place, line, end) && !(is_first && imported(&place, line, end)))
+        if (!told(line, end) && !slept(&place, line, end) && !(is_first && imported(&place, line, end)))
             call(&place, &archive, line, end);
         if (fflush(stdout) != 0)
             fail("standard output", strerror(errno));

@@ -134,7 +134,7 @@ extern "C" {
 #endif
 
 /* An image's length in bytes. Bytes of any other length are no image (MAKOWIST_NOT_WELL_FORMED). */
-#define MAKOWIST_IMAGE_LENGTH 4949
+#define MAKOWIST_IMAGE_LENGTH 6037
 
 /* Limits of the state. */
 enum {
@@ -412,6 +412,12 @@ static inline uint16_t makowist_listed(const uint8_t *room, size_t k) {
 /* A path's value in one of the four tables. Refuses MAKOWIST_OUT_OF_RANGE. */
 enum { MAKOWIST_TABLE_COMMITTED = 1, MAKOWIST_TABLE_APPLIED = 2, MAKOWIST_TABLE_TARGET = 3, MAKOWIST_TABLE_BASE = 4 };
 uint64_t makowist_value(const uint8_t *image, size_t length, uint64_t table, uint64_t path);
+
+/* Who set a path: of the changes that make up the committed revision (makowist_live) the newest that set it, its number as value; 0
+ * where none did, or where that one is folded. A change that deleted the path has set it. The path is the change's from the event
+ * Complete of its commit on, and goes back with that of its rollback. In an image that began with makowist_fresh this is what reading
+ * the whole list and its pairs gives. Refuses MAKOWIST_OUT_OF_RANGE. */
+uint64_t makowist_owner(const uint8_t *image, size_t length, uint64_t path);
 
 /* A field of a transaction. Pair k, from 0, has path, value and r.value at the field named with + k; places past the
  * transaction's pairs carry nothing. Refuses MAKOWIST_OUT_OF_RANGE (the field), MAKOWIST_NO_SUCH_NUMBER,
