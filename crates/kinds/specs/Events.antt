@@ -15,7 +15,7 @@ noEvent = record { phase = 0; stage = 0; number = num 0; status = None }
 abbrev pub event : ℕ → ℕ → Number → Status → Event
 event p g i s = record { phase = p; stage = g; number = i; status = s }
 
--- an accepted append shows its number
+-- an accepted append shows its number, a synchronise how many paths it wrote (order 13)
 abbrev pub numbered : ℕ → Event
 numbered n = event 0 0 (num n) None
 

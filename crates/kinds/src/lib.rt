@@ -300,10 +300,11 @@ pub struct Connection {
     pub connected: bool,
 }
 
-// The switch: its id, and whether it runs.
+// The switch: its id, whether it runs, and its kind, whether it keeps its values over a power cycle (order 13).
 pub struct Target {
     pub id: u32,
     pub running: bool,
+    pub remembers: bool,
 }
 
 // One side of a transaction, of its change or of its rollback.

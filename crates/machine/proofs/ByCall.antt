@@ -18,33 +18,42 @@ use Rattle.rules.specs.declared.Plan.{Plan}
 use Rattle.rules.specs.Plans.{isPush}
 use Rattle.rules.specs.Outside as outside
 use Rattle.machine.specs.State.{State, Net, absent, entryOf, grown, last, inLog, isKept, isNode, nodeOf, putNode, isMaster, reachesTarget, lineOpenFor}
-use Rattle.machine.specs.Stores.{targetValues, configuration, mastership, connections, target, withLog, withNet, after, afters}
-use Rattle.machine.specs.WellFormed.{wellFormed}
+use Rattle.machine.specs.Stores.{configuration, mastership, connections, target, withLog, withNet, after, afters}
+use Rattle.machine.specs.Differ.{differ}
+use Rattle.machine.specs.WellFormed.{allEntries, entryOk, headsOk, logOk, wellFormed}
 use Rattle.machine.specs.Settled.{settled}
 use Rattle.machine.specs.Rest.{restOf}
 use Rattle.machine.specs.LiveList.{live}
 use Rattle.machine.specs.Folding.{mayFold}
-use Rattle.machine.specs.Calls.{Pair, Call, Outcome, append, rollback, start, stop, connect, disconnect, master, sync, work, foldTo, refused, unless, answers, validChange, appended, presentOf, job1, job2, job3, job4, planOf, commits, planned, workOk, copyRow, decide}
+use Rattle.machine.specs.Calls.{Pair, Call, Outcome, append, rollback, start, stop, connect, disconnect, master, sync, work, foldTo, refused, unless, answers, validChange, appended, presentOf, job1, job2, job3, job4, planOf, commits, planned, workOk, clearRow, copyRow, copyCount, counts, decide}
 use Rattle.machine.specs.Rows.{eventOf}
 use Rattle.machine.specs.Step.{outcome, step}
 use Rattle.machine.specs.Notes.{Note, nothing, wrote, pushNote, syncNote, noteOf, note}
-use Rattle.machine.proofs.Next.{putting, performed, rows-performed, folding, row-folding, withConfiguration, withMastership, withConnections, withTarget}
+use Rattle.machine.proofs.Next.{putting, performed, rows-performed, folding, row-folding, row-copying, withConfiguration, withMastership, withConnections, withTarget}
 use Rattle.machine.proofs.Cases.{and-left, and-right, CommitChange, commit-change, CommitRollback, commit-rollback, ApplyChange, apply-change, ApplyRollback, apply-rollback}
 
 -- ---- the nodes' side after its calls
 module _ (w : Net) where
   abbrev pub started : Net
-  started = withTarget w (record { id = w .target .id + 1; running = true })
+  started = withTarget w (record { id = w .target .id + 1; running = true; remembers = w .target .remembers })
 
-  abbrev pub stopped : Net
-  stopped =
+  -- a target that remembers keeps its values
+  abbrev pub remembered : Bool → List ℕ
+  remembered true = w .values
+  remembered false = absent
+
+  abbrev pub stoppedWith : List ℕ → Net
+  stoppedWith vs =
       record {
         configuration = w .configuration;
         mastership = w .mastership;
         connections = map outside.off (w .connections);
-        target = record { id = w .target .id; running = false };
-        values = absent;
+        target = record { id = w .target .id; running = false; remembers = w .target .remembers };
+        values = vs;
       }
+
+  abbrev pub stopped : Net
+  stopped = stoppedWith (remembered (w .target .remembers))
 
   abbrev pub connected : ℕ → Net
   connected n = withConnections w (putNode (w .connections) n (record { id = nodeOf (w .connections) n .id + 1; connected = true }))
@@ -78,6 +87,18 @@ one-more t e = go (isLast (t .0)) e
     go true e = cc
     go false e = omega arith
 
+-- what a synchronise's row relies on, and every well-formed state has
+abbrev pub Tables : State → Type 0
+Tables s = (length (s .net .values) ≡ 32) × (length (s .applied .values) ≡ 32)
+
+pub formed-tables : (s : State) → wellFormed s ≡ true → Tables s
+unfolding wellFormed
+formed-tables s e =
+    let z = and-right (allEntries entryOk (s .log)) _ (and-right (headsOk s (last (s .log))) _ (and-right (logOk (s .log)) _ e)) in
+    let sized = eqb (length (s .committed .values)) 32 && eqb (length (s .committed .owners)) 32 in
+    let heads = sized && eqb (length (s .applied .values)) 32 in
+    (eqb-true _ 32 (and-left (eqb (length (s .net .values)) 32) _ (and-right heads _ z)), eqb-true _ 32 (and-right sized _ (and-left heads _ z)))
+
 -- what plan p for number i, cut c, does to the switch
 abbrev pub noteAt : Plan → ℕ → ℕ → Note
 noteAt p i c = pushNote (isPush (p .order)) (eqb c 1) i
@@ -103,7 +124,7 @@ module _ (s : State) (P : Note → Reply → State → Type 0) where
     pub elect : (n : ℕ) → n ≤ 8 → (t : Term) → t .0 ≡ suc (s .net .mastership .term .0) → P nothing (refusal 0) (withNet s (elected (s .net) n t))
     pub resign : P nothing (refusal 0) (withNet s (resigned (s .net)))
     pub syncing : P nothing (refusal 0) (withNet s (syncing (s .net)))
-    pub synced : P wrote (refusal 0) (withNet s (synced (s .net) (s .applied .values)))
+    pub synced : P wrote (record { answer = 0; event = numbered (differ 32 (s .net .values) (s .applied .values)) }) (withNet s (synced (s .net) (s .applied .values)))
     pub job1 : (i : ℕ) → s .log .folded .0 < i → i ≤ last (s .log) → (first second : Bool)
         → CommitChange (entryOf (s .log) i) (s .committed .head) i (Does true i first second) (s .change) (restOf s) (presentOf s (entryOf (s .log) i))
     pub job2 : (n i : ℕ) → s .log .folded .0 < i → i ≤ last (s .log) → (first second : Bool)
@@ -142,7 +163,7 @@ module _ (s : State) (P : Note → Reply → State → Type 0) where
       where
         go : (r : Bool) → s .net .target .running ≡ r → (l : Bool)
             → (let t = s .net .target in
-            let x = cond r (outside.targeted 7 t) (cond l (outside.targeted 9 t) (outside.targeted 0 (record { id = t .id + 1; running = true }))) in
+            let x = cond r (outside.targeted 7 t) (cond l (outside.targeted 9 t) (outside.targeted 0 (record { id = t .id + 1; running = true; remembers = t .remembers }))) in
             Of nothing (answers (x .answer) (target (x .target) ∷ [])))
         go true e l = refuses nothing 7 (omega arith)
         go false e true = refuses nothing 9 (omega arith)
@@ -150,14 +171,15 @@ module _ (s : State) (P : Note → Reply → State → Type 0) where
 
     pub stop-of : Of nothing (decide s stop)
     unfolding decide afters after
-    stop-of = go (s .net .target .running)
+    stop-of = go (s .net .target .running) (s .net .target .remembers) (k .stop)
       where
-        go : (r : Bool)
+        go : (r m : Bool) → P nothing (refusal 0) (withNet s (stoppedWith (s .net) (remembered (s .net) m)))
             → (let t = s .net .target in
-            let x = cond r (outside.targeted 0 (record { id = t .id; running = false })) (outside.targeted 7 t) in
-            Of nothing (answers (x .answer) (target (x .target) ∷ targetValues absent ∷ connections (map outside.off (s .net .connections)) ∷ [])))
-        go true = k .stop
-        go false = refuses nothing 7 (omega arith)
+            let x = cond r (outside.targeted 0 (record { id = t .id; running = false; remembers = t .remembers })) (outside.targeted 7 t) in
+            Of nothing (answers (x .answer) (target (x .target) ∷ (clearRow m ++ (connections (map outside.off (s .net .connections)) ∷ [])))))
+        go true true h = h
+        go true false h = h
+        go false m h = refuses nothing 7 (omega arith)
 
     pub connect-of : (n : ℕ) → Of nothing (decide s (connect n))
     unfolding decide afters after
@@ -205,9 +227,9 @@ module _ (s : State) (P : Note → Reply → State → Type 0) where
         go e false l f true false = k .resign
         go e false l f false h = refuses nothing 11 (omega arith)
 
-    pub sync-of : (n : ℕ) → Of (syncNote (s .net .configuration .state)) (decide s (sync n))
+    pub sync-of : Tables s → (n : ℕ) → Of (syncNote (s .net .configuration .state)) (decide s (sync n))
     unfolding decide afters after
-    sync-of n =
+    sync-of y n =
         unless-of _ 2 (omega arith) (isNode n) _
         (λ e. go (isMaster (s .net) n) (ltb (s .net .configuration .term .0) (s .net .mastership .term .0)) (s .net .configuration .state) (reachesTarget (s .net) n))
       where
@@ -216,12 +238,15 @@ module _ (s : State) (P : Note → Reply → State → Type 0) where
             let x = cond m
             (cond l (outside.synchroniseBy p g (s .net .mastership .term) r) (outside.synchronised 11 g false))
             (outside.synchronised 10 g false) in
-            Of (syncNote p) (answers (x .answer) (configuration (x .configuration) ∷ copyRow (x .copies) (s .applied .values))))
+            let ws = s .net .values in
+            let vs = s .applied .values in
+            Of (syncNote p) (counts (x .answer) (copyCount (x .copies) ws vs) (configuration (x .configuration) ∷ copyRow (x .copies) ws vs)))
         go false l p r = refuses (syncNote p) 10 (omega arith)
         go true false p r = refuses (syncNote p) 11 (omega arith)
         go true true Pending r = k .syncing
         go true true Complete r = k .syncing
-        go true true InProgress true = k .synced
+        go true true InProgress true =
+            subst (P wrote _) (sym (row-copying (withNet s (withConfiguration (s .net) _)) (s .applied .values) (y .0) (y .1))) (k .synced)
         go true true InProgress false = refuses wrote 12 (omega arith)
 
     performs : (j : ℕ) (p : Plan) (i c : ℕ) → Does (commits j) i (eqb c 1) (eqb c 2) p → Of (noteAt p i c) (planned j p i c)
@@ -279,17 +304,17 @@ module _ (s : State) (P : Note → Reply → State → Type 0) where
   abbrev pub HasRoom : List Pair → Type 0
   HasRoom ps = (length (s .log .entries) < 128) × (last (s .log) < 65535)
 
-  decide-of : Calls HasRoom → Folds → (c : Call) → Of (noteOf s c) (decide s c)
-  decide-of k w (append ps) = append-of k ps (λ x y. (x, y))
-  decide-of k w (rollback i) = rollback-of k i
-  decide-of k w start = start-of k
-  decide-of k w stop = stop-of k
-  decide-of k w (connect n) = connect-of k n
-  decide-of k w (disconnect n) = disconnect-of k n
-  decide-of k w (master n) = master-of k n
-  decide-of k w (sync n) = sync-of k n
-  decide-of k w (work n j i r c) = work-of k n j i r c
-  decide-of k w (foldTo b) = fold-of k w b
+  decide-of : Tables s → Calls HasRoom → Folds → (c : Call) → Of (noteOf s c) (decide s c)
+  decide-of y k w (append ps) = append-of k ps (λ x y. (x, y))
+  decide-of y k w (rollback i) = rollback-of k i
+  decide-of y k w start = start-of k
+  decide-of y k w stop = stop-of k
+  decide-of y k w (connect n) = connect-of k n
+  decide-of y k w (disconnect n) = disconnect-of k n
+  decide-of y k w (master n) = master-of k n
+  decide-of y k w (sync n) = sync-of k y n
+  decide-of y k w (work n j i r c) = work-of k n j i r c
+  decide-of y k w (foldTo b) = fold-of k w b
 
   -- any call, in any state: where it is not well-formed, refusal 1
   pub by-call : (wellFormed s ≡ false → P nothing (refusal 1) s) → (wellFormed s ≡ true → Calls HasRoom) → (wellFormed s ≡ true → Folds) → (c : Call)
@@ -298,5 +323,5 @@ module _ (s : State) (P : Note → Reply → State → Type 0) where
   by-call r k w c = go (wellFormed s) refl
     where
       go : (b : Bool) → wellFormed s ≡ b → Of (noteOf s c) (unless 1 b (decide s c))
-      go true e = decide-of (k e) (w e) c
+      go true e = decide-of (formed-tables s e) (k e) (w e) c
       go false e = r e

@@ -12,6 +12,7 @@ use Rattle.rules.specs.Sides.{untouched}
 use Rattle.machine.specs.State.{State}
 use Rattle.machine.specs.Stores.{after, afters}
 use Rattle.machine.specs.Rows.{overlay, rowsOf}
+use Rattle.machine.specs.Differ.{differ, differRow}
 use Rattle.machine.specs.WellFormed.{allFrom, allAtMost, pairsOk, entryOk, headOk, wellFormed}
 use Rattle.machine.specs.LiveList.{hops}
 use Rattle.machine.specs.Folding.{baseRow}
@@ -45,7 +46,7 @@ limits =
     && (holds (logged (log 65536 [])) malformed && (holds (logged (log 0 (replicate 128 unmoved))) formed && holds (logged (log 0 (replicate 129 unmoved))) malformed))))
 
 pub limits-hold : limits ≡ true
-unfolding limits holds ended agrees sameList step outcome decide wellFormed allFrom allAtMost entryOk headOk pairsOk valuesOk planOf rowsOf overlay present after afters hops baseRow
+unfolding limits holds ended agrees sameList step outcome decide differ differRow wellFormed allFrom allAtMost entryOk headOk pairsOk valuesOk planOf rowsOf overlay present after afters hops baseRow
 limits-hold = refl
 
 -- ---- room for later appends, where 128 are kept and the first of them is taken
@@ -55,7 +56,7 @@ room =
     (says (refuses 4 (append (record { path = 3; value = 7 } ∷ [])) ∷ accepts (foldTo 1) ∷ adds 129 3 8 ∷ refuses 4 (append (record { path = 3; value = 7 } ∷ [])) ∷ []) ∷ [])
 
 pub room-hold : room ≡ true
-unfolding room holds ended agrees sameList step outcome decide wellFormed allFrom allAtMost entryOk headOk pairsOk valuesOk planOf rowsOf overlay present after afters hops baseRow
+unfolding room holds ended agrees sameList step outcome decide differ differRow wellFormed allFrom allAtMost entryOk headOk pairsOk valuesOk planOf rowsOf overlay present after afters hops baseRow
 room-hold = refl
 
 -- ---- ordinals to 131,070, in both heads and on both sides of an entry; a commit past it is 9
@@ -74,7 +75,7 @@ ordinals =
     && holds (committing 131070) (says (mastered ++ (refuses 9 (work 1 1 1 0 0) ∷ [])) ∷ [])))))
 
 pub ordinals-hold : ordinals ≡ true
-unfolding ordinals holds ended agrees sameList step outcome decide wellFormed allFrom allAtMost entryOk headOk pairsOk valuesOk planOf rowsOf overlay present after afters hops baseRow
+unfolding ordinals holds ended agrees sameList step outcome decide differ differRow wellFormed allFrom allAtMost entryOk headOk pairsOk valuesOk planOf rowsOf overlay present after afters hops baseRow
 ordinals-hold = refl
 
 -- ---- index, change, target and revision go to the highest number given, though nothing is kept; r.index stays below its number
@@ -87,7 +88,7 @@ reach =
     && (holds (logged (log 5 (entry 1 untouched untouched 5 ∷ []))) formed && holds (logged (log 5 (entry 1 untouched untouched 6 ∷ []))) malformed))
 
 pub reach-hold : reach ≡ true
-unfolding reach holds ended agrees sameList step outcome decide wellFormed allFrom allAtMost entryOk headOk pairsOk valuesOk planOf rowsOf overlay present after afters hops baseRow
+unfolding reach holds ended agrees sameList step outcome decide differ differRow wellFormed allFrom allAtMost entryOk headOk pairsOk valuesOk planOf rowsOf overlay present after afters hops baseRow
 reach-hold = refl
 
 -- ---- the base has 32 values
@@ -97,7 +98,7 @@ sizes =
     && (holds (logged (record { folded = num 5; base = replicate 31 7; entries = [] })) malformed && holds (logged (record { folded = num 5; base = replicate 33 7; entries = [] })) malformed)
 
 pub sizes-hold : sizes ≡ true
-unfolding sizes holds ended agrees sameList step outcome decide wellFormed allFrom allAtMost entryOk headOk pairsOk valuesOk planOf rowsOf overlay present after afters hops baseRow
+unfolding sizes holds ended agrees sameList step outcome decide differ differRow wellFormed allFrom allAtMost entryOk headOk pairsOk valuesOk planOf rowsOf overlay present after afters hops baseRow
 sizes-hold = refl
 
 -- ---- the base takes the live ones, and not each that the switch took: in a reached state these are the same
@@ -107,5 +108,5 @@ living =
     && holds (stateOf (log 0 (taken ∷ [])) 1 (head 1 1 0 1) (head 1 1 1 1)) (lists [] ∷ says (accepts (foldTo 1) ∷ []) ∷ bases 3 0 ∷ [])
 
 pub living-hold : living ≡ true
-unfolding living holds ended agrees sameList step outcome decide wellFormed allFrom allAtMost entryOk headOk pairsOk valuesOk planOf rowsOf overlay present after afters hops baseRow
+unfolding living holds ended agrees sameList step outcome decide differ differRow wellFormed allFrom allAtMost entryOk headOk pairsOk valuesOk planOf rowsOf overlay present after afters hops baseRow
 living-hold = refl

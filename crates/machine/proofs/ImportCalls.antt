@@ -173,15 +173,15 @@ module _ (s : State) (w : wellFormed s ≡ true) (fold : s .log .folded .0 ≡ 0
         ∙ ap (λ p. record { reply = record { answer = p .answer; event = eventOf p false }; next = performed true a2 p i false false }) lands
         ∙ ap (λ l. record { reply = record { answer = 0; event = event 1 1 (num i) Complete }; next = withLog (changed s ps) l }) (put-grown (s .log) t1 _)
 
-    pub change-done : (cs : List Call) → run cs .state ≡ s → Accepted cs
-        → (run (work 1 1 i 0 0 ∷ work 1 1 i 0 0 ∷ append ps ∷ cs) .state ≡ changed s ps) × Accepted (work 1 1 i 0 0 ∷ work 1 1 i 0 0 ∷ append ps ∷ cs)
+    pub change-done : (cs : List Call) → run false cs .state ≡ s → Accepted cs
+        → (run false (work 1 1 i 0 0 ∷ work 1 1 i 0 0 ∷ append ps ∷ cs) .state ≡ changed s ps) × Accepted (work 1 1 i 0 0 ∷ work 1 1 i 0 0 ∷ append ps ∷ cs)
     unfolding run Accepted
     change-done cs e k =
-        let x : step (run cs .state) (append ps) ≡ record { reply = record { answer = 0; event = numbered (last (s .log) + 1) }; next = a1 } = ap (λ u. step u (append ps)) e ∙ appends in
-        let e1 : run (append ps ∷ cs) .state ≡ a1 = ap (λ o. o .next) x in
-        let y = ap (λ u. step u (work 1 1 i 0 0)) e1 ∙ begins (subst (λ u. wellFormed u ≡ true) e1 (reached-well-formed (append ps ∷ cs))) in
-        let e2 : run (work 1 1 i 0 0 ∷ append ps ∷ cs) .state ≡ a2 = ap (λ o. o .next) y in
-        let z = ap (λ u. step u (work 1 1 i 0 0)) e2 ∙ commits-change (subst (λ u. wellFormed u ≡ true) e2 (reached-well-formed (work 1 1 i 0 0 ∷ append ps ∷ cs))) in
+        let x : step (run false cs .state) (append ps) ≡ record { reply = record { answer = 0; event = numbered (last (s .log) + 1) }; next = a1 } = ap (λ u. step u (append ps)) e ∙ appends in
+        let e1 : run false (append ps ∷ cs) .state ≡ a1 = ap (λ o. o .next) x in
+        let y = ap (λ u. step u (work 1 1 i 0 0)) e1 ∙ begins (subst (λ u. wellFormed u ≡ true) e1 (reached-well-formed false (append ps ∷ cs))) in
+        let e2 : run false (work 1 1 i 0 0 ∷ append ps ∷ cs) .state ≡ a2 = ap (λ o. o .next) y in
+        let z = ap (λ u. step u (work 1 1 i 0 0)) e2 ∙ commits-change (subst (λ u. wellFormed u ≡ true) e2 (reached-well-formed false (work 1 1 i 0 0 ∷ append ps ∷ cs))) in
         (ap (λ o. o .next) z, (ap (λ o. o .reply .answer) z, (ap (λ o. o .reply .answer) y, (ap (λ o. o .reply .answer) x, k))))
 
   -- the newest live change undone
@@ -249,13 +249,13 @@ module _ (s : State) (w : wellFormed s ≡ true) (fold : s .log .folded .0 ≡ 0
         ∙ ap (λ p. record { reply = record { answer = p .answer; event = eventOf p false }; next = performed true b2 p k false false }) lands-back
         ∙ ap (λ l. record { reply = record { answer = 0; event = event 2 1 (num k) Complete }; next = withLog (undone s) l }) (put-twice (s .log) k u2 _)
 
-    pub rollback-done : (cs : List Call) → run cs .state ≡ s → Accepted cs
-        → (run (work 1 3 k 0 0 ∷ work 1 3 k 0 0 ∷ rollback k ∷ cs) .state ≡ undone s) × Accepted (work 1 3 k 0 0 ∷ work 1 3 k 0 0 ∷ rollback k ∷ cs)
+    pub rollback-done : (cs : List Call) → run false cs .state ≡ s → Accepted cs
+        → (run false (work 1 3 k 0 0 ∷ work 1 3 k 0 0 ∷ rollback k ∷ cs) .state ≡ undone s) × Accepted (work 1 3 k 0 0 ∷ work 1 3 k 0 0 ∷ rollback k ∷ cs)
     unfolding run Accepted
     rollback-done cs e a =
         let x = ap (λ u. step u (rollback k)) e ∙ rolls in
-        let e1 : run (rollback k ∷ cs) .state ≡ b1 = ap (λ o. o .next) x in
-        let y = ap (λ u. step u (work 1 3 k 0 0)) e1 ∙ begins-back (subst (λ u. wellFormed u ≡ true) e1 (reached-well-formed (rollback k ∷ cs))) in
-        let e2 : run (work 1 3 k 0 0 ∷ rollback k ∷ cs) .state ≡ b2 = ap (λ o. o .next) y in
-        let z = ap (λ u. step u (work 1 3 k 0 0)) e2 ∙ commits-back (subst (λ u. wellFormed u ≡ true) e2 (reached-well-formed (work 1 3 k 0 0 ∷ rollback k ∷ cs))) in
+        let e1 : run false (rollback k ∷ cs) .state ≡ b1 = ap (λ o. o .next) x in
+        let y = ap (λ u. step u (work 1 3 k 0 0)) e1 ∙ begins-back (subst (λ u. wellFormed u ≡ true) e1 (reached-well-formed false (rollback k ∷ cs))) in
+        let e2 : run false (work 1 3 k 0 0 ∷ rollback k ∷ cs) .state ≡ b2 = ap (λ o. o .next) y in
+        let z = ap (λ u. step u (work 1 3 k 0 0)) e2 ∙ commits-back (subst (λ u. wellFormed u ≡ true) e2 (reached-well-formed false (work 1 3 k 0 0 ∷ rollback k ∷ cs))) in
         (ap (λ o. o .next) z, (ap (λ o. o .reply .answer) z, (ap (λ o. o .reply .answer) y, (ap (λ o. o .reply .answer) x, a))))

@@ -72,7 +72,7 @@ ended-later es k p t f (undone n x y z) = undone (named-before n) x y z
 
 -- ---- after k entries: the live changes are those at places ls
 record Ready (es : List Entry) (k : ℕ) (ls : List ℕ) (s : State) : Type 0 where
-  is : run (callsUpTo es k) .state ≡ s
+  is : run false (callsUpTo es k) .state ≡ s
   all : Accepted (callsUpTo es k)
   kept : Kept es k ls
   fold : s .log .folded .0 ≡ 0
@@ -88,7 +88,7 @@ record Ready (es : List Entry) (k : ℕ) (ls : List ℕ) (s : State) : Type 0 wh
   index : s .committed .head .index .0 ≤ numberAt es k
   commits : (j : ℕ) (ps : List Pair) → j < k → entryAfter es j ≡ adds ps → Became es k j ps (entryOf (s .log) (numberAt es (suc j)))
   applied : s .applied ≡ freshPart
-  net : s .net ≡ run opening .state .net
+  net : s .net ≡ run false opening .state .net
   values : s .net .values ≡ absent
 
 next-is : (s : State) → isFull (s .committed .head .ordinal .0) ≡ false → nextOrdinal (s .committed .head .ordinal) .0 ≡ suc (s .committed .head .ordinal .0)
@@ -97,7 +97,7 @@ next-is s e = ap (λ b. ordinalUnless b (s .committed .head .ordinal .0) .0) e �
 module _ {es : List Entry} {k : ℕ} {s : State} (inside : k < length es) (short : length es ≤ 256) where
   module _ {ls : List ℕ} (r : Ready es k ls s) where
     formed : wellFormed s ≡ true
-    formed = subst (λ u. wellFormed u ≡ true) (r .is) (reached-well-formed (callsUpTo es k))
+    formed = subst (λ u. wellFormed u ≡ true) (r .is) (reached-well-formed false (callsUpTo es k))
 
     room : isFull (s .committed .head .ordinal .0) ≡ false
     room = lt-leb 131070 (s .committed .head .ordinal .0) (omega (arith, r .ordinal))
@@ -150,7 +150,7 @@ module _ {es : List Entry} {k : ℕ} {s : State} (inside : k < length es) (short
           change-done s formed (r .fold) (r .master) room ps v (lt-ltb (length (s .log .entries)) 128 (omega (arith, r .size))) (r .change ∙ sym size) (omega (arith, r .target, r .size))
           (rested-rest (withLog s (grown (s .log) (appended ps))) (grown-rests (r .rests))) (callsUpTo es k) (r .is) (r .all) in
           record {
-            is = ap (λ cs. run cs .state) calls-change ∙ x .0;
+            is = ap (λ cs. run false cs .state) calls-change ∙ x .0;
             all = subst Accepted (sym calls-change) (x .1);
             kept = kept-change e (r .kept);
             fold = r .fold;
@@ -265,7 +265,7 @@ module _ {es : List Entry} {k : ℕ} {s : State} (inside : k < length es) (short
         (λ z. let a = r .aim in omega (arith, low, a, z)) (rested-rest (putting s v (outside.rolledBack (entryOf (s .log) v))) (put-rests (r .rests))) (callsUpTo es k) (r .is) (r .all) in
         let n = number-rollback es k inside e in
         record {
-          is = ap (λ cs. run cs .state) calls-rollback ∙ x .0;
+          is = ap (λ cs. run false cs .state) calls-rollback ∙ x .0;
           all = subst Accepted (sym calls-rollback) (x .1);
           kept = kept-rollback e (r .kept);
           fold = r .fold;
@@ -297,7 +297,7 @@ unfolding run step outcome decide afters after wellFormed allFrom allAtMost head
 opened es =
     record {
       places = [];
-      state = run (callsUpTo es 0) .state;
+      state = run false (callsUpTo es 0) .state;
       ready =
           record {
             is = refl;
@@ -338,14 +338,14 @@ module _ (es : List Entry) (short : length es ≤ 256) (good : GoodUpTo es (leng
           let h = newest-kept es k (g .places) (g .ready .kept) p n in
           record { places = h .rest; state = _; ready = ready-rollback l short (subst (λ ls. Ready es k ls (g .state)) (h .is) (g .ready)) e }
 
-  pub imported-good : Imported es (run (importCalls es) .state)
+  pub imported-good : Imported es (run false (importCalls es) .state)
   imported-good =
       let g = goes (length es) (omega arith) in
       let r = g .ready in
       subst (Imported es) (sym (r .is))
       (record {
         calls = r .all;
-        formed = subst (λ u. wellFormed u ≡ true) (r .is) (reached-well-formed (importCalls es));
+        formed = subst (λ u. wellFormed u ≡ true) (r .is) (reached-well-formed false (importCalls es));
         fold = r .fold;
         size = r .size;
         commits = r .commits;
@@ -359,10 +359,10 @@ module _ (es : List Entry) (short : length es ≤ 256) (good : GoodUpTo es (leng
       })
 
   -- a rollback undoes the revision
-  pub revision-named : (k p : ℕ) → k < length es → entryAfter es k ≡ undoes p → run (callsUpTo es k) .state .committed .head .revision .0 ≡ numberAt es p
+  pub revision-named : (k p : ℕ) → k < length es → entryAfter es k ≡ undoes p → run false (callsUpTo es k) .state .committed .head .revision .0 ≡ numberAt es p
   revision-named k p l e = go (entryAfter es k) e (good k l) (goes k (omega arith))
     where
-      go : (x : Entry) → x ≡ undoes p → Good es k x → Goes es k → run (callsUpTo es k) .state .committed .head .revision .0 ≡ numberAt es p
+      go : (x : Entry) → x ≡ undoes p → Good es k x → Goes es k → run false (callsUpTo es k) .state .committed .head .revision .0 ≡ numberAt es p
       go (adds ps) z (change v m) g = no-change refl z
       go (undoes q) z (rollback n) g =
           let h = newest-kept es k (g .places) (g .ready .kept) q n in
@@ -370,7 +370,7 @@ module _ (es : List Entry) (short : length es ≤ 256) (good : GoodUpTo es (leng
 
   -- what each entry's calls come to, and where it finds the log
   pub entered-change : (k : ℕ) (ps : List Pair) → k < length es → entryAfter es k ≡ adds ps
-      → (run (callsUpTo es (suc k)) .state ≡ changed (run (callsUpTo es k) .state) ps) × (validChange ps ≡ true) × (last (run (callsUpTo es k) .state .log) < 128)
+      → (run false (callsUpTo es (suc k)) .state ≡ changed (run false (callsUpTo es k) .state) ps) × (validChange ps ≡ true) × (last (run false (callsUpTo es k) .state .log) < 128)
   entered-change k ps l e = go (entryAfter es k) refl (good k l) (goes k (omega arith))
     where
       pairsIn : Entry → List Pair
@@ -379,7 +379,7 @@ module _ (es : List Entry) (short : length es ≤ 256) (good : GoodUpTo es (leng
       pairsIn neither = []
 
       go : (x : Entry) → entryAfter es k ≡ x → Good es k x → Goes es k
-          → (run (callsUpTo es (suc k)) .state ≡ changed (run (callsUpTo es k) .state) ps) × (validChange ps ≡ true) × (last (run (callsUpTo es k) .state .log) < 128)
+          → (run false (callsUpTo es (suc k)) .state ≡ changed (run false (callsUpTo es k) .state) ps) × (validChange ps ≡ true) × (last (run false (callsUpTo es k) .state .log) < 128)
       go (adds qs) x (change v m) g =
           let same : qs ≡ ps = ap pairsIn (sym x ∙ e) in
           let r = g .ready in
@@ -391,13 +391,13 @@ module _ (es : List Entry) (short : length es ≤ 256) (good : GoodUpTo es (leng
       go (undoes p) x (rollback n) g = no-change e x
 
   pub entered-rollback : (k p : ℕ) → k < length es → entryAfter es k ≡ undoes p
-      → (let s = run (callsUpTo es k) .state in
-      (run (callsUpTo es (suc k)) .state ≡ one.undone s) × (1 ≤ s .committed .head .revision .0) × (s .committed .head .revision .0 ≤ last (s .log)))
+      → (let s = run false (callsUpTo es k) .state in
+      (run false (callsUpTo es (suc k)) .state ≡ one.undone s) × (1 ≤ s .committed .head .revision .0) × (s .committed .head .revision .0 ≤ last (s .log)))
   entered-rollback k p l e = go (entryAfter es k) e refl (good k l) (goes k (omega arith))
     where
       go : (x : Entry) → x ≡ undoes p → entryAfter es k ≡ x → Good es k x → Goes es k
-          → (let s = run (callsUpTo es k) .state in
-          (run (callsUpTo es (suc k)) .state ≡ one.undone s) × (1 ≤ s .committed .head .revision .0) × (s .committed .head .revision .0 ≤ last (s .log)))
+          → (let s = run false (callsUpTo es k) .state in
+          (run false (callsUpTo es (suc k)) .state ≡ one.undone s) × (1 ≤ s .committed .head .revision .0) × (s .committed .head .revision .0 ≤ last (s .log)))
       go (adds ps) z x (change v m) g = no-change refl z
       go (undoes q) z x (rollback n) g =
           let h = newest-kept es k (g .places) (g .ready .kept) q n in
@@ -406,7 +406,7 @@ module _ (es : List Entry) (short : length es ≤ 256) (good : GoodUpTo es (leng
           let b = ap (λ s. last (s .log)) (r .is) in
           (ready-rollback l short r x .is ∙ ap one.undone (sym (r .is)), omega (arith, a, low l short r x), omega (arith, a, b, within l short r x))
 
-  pub entered-fold : (k : ℕ) → k ≤ length es → run (callsUpTo es k) .state .log .folded .0 ≡ 0
+  pub entered-fold : (k : ℕ) → k ≤ length es → run false (callsUpTo es k) .state .log .folded .0 ≡ 0
   entered-fold k l = let r = goes k l .ready in ap (λ s. s .log .folded .0) (r .is) ∙ r .fold
 
 -- ---- of a list that is accepted
@@ -428,5 +428,5 @@ taken es e = go (judged es) (judged-so es) e
     go v (long l) e = absurd (omega arith)
     go v (refused l f) e = absurd (none-bad (f .bad) e)
 
-pub imported-leaves : (es : List Entry) → judged es .answer ≡ 0 → Imported es (run (importCalls es) .state)
+pub imported-leaves : (es : List Entry) → judged es .answer ≡ 0 → Imported es (run false (importCalls es) .state)
 imported-leaves es e = let t = taken es e in imported-good es (t .short) (t .good)

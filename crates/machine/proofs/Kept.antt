@@ -44,7 +44,7 @@ use Rattle.machine.specs.Notes.{Note}
 use Rattle.machine.proofs.Cases.{and-left, and-right}
 use Rattle.machine.proofs.Entries.{put-all, add-all, last-fold, entry-fold, length-base, length-place, last-put, length-add, last-add, entry-add, entries-true, true-entries, and-both, length-laid, length-owned}
 use Rattle.machine.proofs.AtMost.{Most, Recalls, most-true, true-most, recalls-true, true-recalls, most-recalls, most-set, most-back, most-present}
-use Rattle.machine.proofs.ByCall.{Calls, HasRoom, by-call, syncing, synced}
+use Rattle.machine.proofs.ByCall.{Calls, HasRoom, by-call, remembered, syncing, synced}
 
 -- ---- a refusal changes nothing, and 1 is for a state that is not well-formed
 pub record Answered (s : State) (r : Reply) (next : State) : Type 0 where
@@ -465,6 +465,10 @@ module _ (s : State) (f : Formed s) where
     gone : HeadFormed (last (s .log)) (passed (s .committed .head) (num i))
     gone = record { index = q; target = f .committed .target; revision = f .committed .revision; ordinal = f .committed .ordinal }
 
+  remembered-32 : (m : Bool) → length (remembered (s .net) m) ≡ 32
+  remembered-32 true = f .net .values
+  remembered-32 false = refl
+
   calls : Calls s Next (HasRoom s Next)
   calls =
       record {
@@ -472,7 +476,7 @@ module _ (s : State) (f : Formed s) where
         append = λ ps e r. append-formed ps e (r .0) (r .1);
         rollback = λ i p q e. put-formed s f i _ (let g = f .entries i p q in record { phase = (omega arith, omega arith); below = g .below; change = g .change; rollback = g .rollback; pairs = g .pairs; recalls = g .recalls });
         start = λ e. net-formed s f _ (record { master = f .net .master; values = f .net .values; connections = f .net .connections });
-        stop = net-formed s f _ (record { master = f .net .master; values = refl; connections = length-map (s .net .connections) outside.off ∙ f .net .connections });
+        stop = net-formed s f _ (record { master = f .net .master; values = remembered-32 (s .net .target .remembers); connections = length-map (s .net .connections) outside.off ∙ f .net .connections });
         connect = λ n p e. net-formed s f _ (record { master = f .net .master; values = f .net .values; connections = length-node (s .net .connections) n _ ∙ f .net .connections });
         disconnect = λ n. net-formed s f _ (record { master = f .net .master; values = f .net .values; connections = length-node (s .net .connections) n _ ∙ f .net .connections });
         elect = λ n b t e. net-formed s f _ (record { master = b; values = f .net .values; connections = f .net .connections });
@@ -527,12 +531,12 @@ pub step-keeps-well-formed : (s : State) (c : Call) → wellFormed s ≡ true �
 step-keeps-well-formed s c w =
     well-formed _ (by-call s Next (λ e. formed s w) (λ e. calls s (formed s w)) (λ e b p q x. fold-formed s (formed s w) b p q) c)
 
-pub fresh-well-formed : wellFormed fresh ≡ true
+pub fresh-well-formed : (m : Bool) → wellFormed (fresh m) ≡ true
 unfolding wellFormed allFrom allAtMost headOk
-fresh-well-formed = refl
+fresh-well-formed m = refl
 
 -- so refusal 1 never occurs in a state reached from fresh
-pub reached-well-formed : (cs : List Call) → wellFormed (run cs .state) ≡ true
+pub reached-well-formed : (m : Bool) (cs : List Call) → wellFormed (run m cs .state) ≡ true
 unfolding run
-reached-well-formed [] = fresh-well-formed
-reached-well-formed (c ∷ cs) = step-keeps-well-formed (run cs .state) c (reached-well-formed cs)
+reached-well-formed m [] = fresh-well-formed m
+reached-well-formed m (c ∷ cs) = step-keeps-well-formed (run m cs .state) c (reached-well-formed m cs)

@@ -15,10 +15,12 @@ pub mod NightWitnesses
 pub mod PushWitnesses
 pub mod ImportWitnesses
 pub mod OwnerWitnesses
+pub mod RememberWitnesses
 pub mod Worked
 pub mod Traps
 pub mod Reconnected
 pub mod Retried
+pub mod Remembered
 pub mod Waits
 pub mod Turns
 pub mod Judged

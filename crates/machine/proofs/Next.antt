@@ -1,10 +1,13 @@
 -- The state after each row of stores, as a record (Stores, Rows, Calls say which rows there are). Assumes nothing.
-use Prim.Native.Nat.{ℕ, _-_}
-use mathlib.Core.List.{List, [], _∷_, _++_}
-use mathlib.Core.Bool.{Bool, true, false, _&&_, cond}
-use mathlib.Core.Path.{_≡_, refl, ap, _∙_}
-use lib.Dec.{ltb, leb}
-use lib.ListN.{getD, set, drop}
+use Prim.Native.Nat.{ℕ, zero, suc, _-_, _≤_, _<_}
+use native.Mathlib.Omega.{arith}
+use mathlib.Core.List.{List, [], _∷_, _++_, append-nil}
+use mathlib.Core.Bool.{Bool, true, false, not, _&&_, cond}
+use mathlib.Core.Path.{_≡_, refl, sym, ap, _∙_}
+use lib.Dec.{eqb, ltb, leb}
+use lib.ListN.{length, getD, set, take, drop, drop-of-length-le}
+use lib.Seq.{take-all, take-suc, drop-cons, append-snoc, set-at, length-take-le}
+use borrow.Author.Tests.{eqb-true}
 use Rattle.kinds.specs.declared.Transaction.{Transaction}
 use Rattle.kinds.specs.declared.Number.{Number}
 use Rattle.kinds.specs.declared.Configuration.{Configuration}
@@ -23,6 +26,7 @@ use Rattle.machine.specs.Stores.{Table, ofCommitted, ofApplied, ofTarget
 use Rattle.machine.specs.LiveList.{live}
 use Rattle.machine.specs.Folding.{baseIf, baseRow}
 use Rattle.machine.specs.Laid.{laying, layingAt, over, laidOver, ownedOver}
+use Rattle.machine.specs.Differ.{differsAt, differRow}
 use Rattle.machine.specs.Rows.{layOne, layAt, overlay, laid, owned, changeRow, headRow, targetRow, entryRow, rowsBy, rowsOf, eventOf}
 
 -- ---- a plan's event, where the call is not cut at its first store
@@ -63,6 +67,10 @@ heading false s p i =
       applied = record { head = p .head; values = laidOver (p .lay) (p .entry) (s .applied .values) };
       net = s .net;
     }
+
+pub heading-net : (b : Bool) (s : State) (p : Plan) (i : ℕ) → heading b s p i .net ≡ s .net
+heading-net true s p i = refl
+heading-net false s p i = refl
 
 -- the push itself
 abbrev pub targeting : State → Plan → State
@@ -255,3 +263,28 @@ pub row-folding : (s : State) (b : ℕ) → afters s (baseRow (s .log) b (live s
 unfolding afters after
 row-folding s b =
     afters-append s (baseRow (s .log) b (live s)) _ ∙ ap (λ x. afters x (fold (num b) ∷ [])) (base-over s (s .log) b (live s))
+
+-- what a synchronise's row does: the target's values become the others, in tables of 32. Below k they are those already, and
+-- storing what stands there would change nothing
+module _ (ws vs : List ℕ) where
+  copy-one : (k : ℕ) → k < length ws → k < length vs → laying (differsAt ws vs k) (take k vs ++ drop k ws) k (getD vs k 0) ≡ take (suc k) vs ++ drop (suc k) ws
+  copy-one k p q =
+      ap (λ l. laying (differsAt ws vs k) (take k vs ++ l) k (getD vs k 0)) (drop-cons ws k 0 p) ∙ go (eqb (getD ws k 0) (getD vs k 0)) refl
+      ∙ sym (append-snoc (take k vs) (getD vs k 0) (drop (suc k) ws)) ∙ ap (λ l. l ++ drop (suc k) ws) (sym (take-suc vs k 0 q))
+    where
+      go : (b : Bool) → eqb (getD ws k 0) (getD vs k 0) ≡ b → laying (not b) (take k vs ++ getD ws k 0 ∷ drop (suc k) ws) k (getD vs k 0) ≡ take k vs ++ getD vs k 0 ∷ drop (suc k) ws
+      go true e = ap (λ x. take k vs ++ x ∷ drop (suc k) ws) (eqb-true _ _ e)
+      go false e = set-at (take k vs) (getD ws k 0) (drop (suc k) ws) (getD vs k 0) k (length-take-le k vs (omega arith))
+
+  copy-below : (s : State) (k : ℕ) → k ≤ length ws → k ≤ length vs → afters (withTable s ofTarget ws) (differRow k ws vs) ≡ withTable s ofTarget (take k vs ++ drop k ws)
+  unfolding differRow afters
+  copy-below s zero p q = refl
+  copy-below s (suc k) p q =
+      afters-append (withTable s ofTarget ws) (differRow k ws vs) _ ∙ ap (λ x. afters x (layOne (differsAt ws vs k) ofTarget k (getD vs k 0))) (copy-below s k (omega arith) (omega arith))
+      ∙ lay s ofTarget (differsAt ws vs k) _ k (getD vs k 0) ∙ ap (withTable s ofTarget) (copy-one k (omega arith) (omega arith))
+
+pub row-copying : (s : State) (vs : List ℕ) → length (s .net .values) ≡ 32 → length vs ≡ 32 → afters s (differRow 32 (s .net .values) vs) ≡ withNet s (withTargetValues (s .net) vs)
+row-copying s vs p q =
+    let ws = s .net .values in
+    copy-below ws vs s 32 (omega arith) (omega arith)
+    ∙ ap (withTable s ofTarget) (ap (λ l. take 32 vs ++ l) (drop-of-length-le ws {i = 32} (omega arith)) ∙ append-nil (take 32 vs) ∙ take-all 32 vs (omega arith))

@@ -12,6 +12,7 @@ use Rattle.rules.specs.Sides.{untouched}
 use Rattle.machine.specs.State.{State}
 use Rattle.machine.specs.Stores.{after, afters}
 use Rattle.machine.specs.Rows.{overlay, rowsOf}
+use Rattle.machine.specs.Differ.{differ, differRow}
 use Rattle.machine.specs.WellFormed.{allFrom, allAtMost, pairsOk, entryOk, headOk, wellFormed}
 use Rattle.machine.specs.LiveList.{hops}
 use Rattle.machine.specs.Folding.{baseRow}
@@ -42,7 +43,7 @@ pub foremost : List Row
 foremost = refuses 1 9 accepted ∷ refuses 0 9 accepted ∷ refuses 1 4097 accepted ∷ refuses 1 9 (replicate 255 0) ∷ refuses 2 9 (2 ∷ replicate 255 0) ∷ []
 
 pub foremost-hold : slept foremost ≡ true
-unfolding slept sameCalls sameEvents night turns trials firstDone needsLine bits stateFrom eventsFrom step outcome decide planOf afters after overlay rowsOf allFrom allAtMost pairsOk entryOk headOk wellFormed valuesOk present hops baseRow agrees begins stateNumbers foremost
+unfolding slept sameCalls sameEvents night turns trials firstDone needsLine bits stateFrom eventsFrom step outcome decide differ differRow planOf afters after overlay rowsOf allFrom allAtMost pairsOk entryOk headOk wellFormed valuesOk present hops baseRow agrees begins stateNumbers foremost
 foremost-hold = refl
 
 -- ---- two jobs of one number that could both go
@@ -57,7 +58,7 @@ paired =
     ∷ sleeps (stateOf (log 0 (entry 2 (side Complete Aborted 1) (side Complete Canceled 1) 0 ∷ [])) 1 (head 1 1 1 1) none) 9 1 0 (closes 2 1 0 ∷ []) (stand 1 1 1 1 1 1 1 0 1 ∷ []) ∷ []
 
 pub paired-hold : slept paired ≡ true
-unfolding slept sameCalls sameEvents night turns trials firstDone needsLine bits stateFrom eventsFrom step outcome decide planOf afters after overlay rowsOf allFrom allAtMost pairsOk entryOk headOk wellFormed valuesOk present hops baseRow agrees begins stateNumbers paired
+unfolding slept sameCalls sameEvents night turns trials firstDone needsLine bits stateFrom eventsFrom step outcome decide differ differRow planOf afters after overlay rowsOf allFrom allAtMost pairsOk entryOk headOk wellFormed valuesOk present hops baseRow agrees begins stateNumbers paired
 paired-hold = refl
 
 -- ---- where a counter would pass its limit a job is refused (9): the turn goes on, and the line is not what is missing. A change that
@@ -76,5 +77,5 @@ full =
     ∷ sleeps (stateOf (log 0 (entry 2 (side Complete Complete 0) (side InProgress Pending 0) 0 ∷ ready ∷ [])) 1 (head 1 0 1 131070) none) 9 2 0 (goes 2 2 []) (shows 2 1 1 InProgress ∷ stand 1 1 0 1 131070 2 2 2 1 ∷ []) ∷ []
 
 pub full-hold : slept full ≡ true
-unfolding slept sameCalls sameEvents night turns trials firstDone needsLine bits stateFrom eventsFrom step outcome decide planOf afters after overlay rowsOf allFrom allAtMost pairsOk entryOk headOk wellFormed valuesOk present hops baseRow agrees begins stateNumbers full
+unfolding slept sameCalls sameEvents night turns trials firstDone needsLine bits stateFrom eventsFrom step outcome decide differ differRow planOf afters after overlay rowsOf allFrom allAtMost pairsOk entryOk headOk wellFormed valuesOk present hops baseRow agrees begins stateNumbers full
 full-hold = refl

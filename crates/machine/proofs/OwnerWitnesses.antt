@@ -12,6 +12,7 @@ use Rattle.rules.specs.Sides.{untouched}
 use Rattle.machine.specs.State.{State, absent, four}
 use Rattle.machine.specs.Stores.{withCommitted, after, afters}
 use Rattle.machine.specs.WellFormed.{allFrom, allAtMost, pairsOk, entryOk, headOk, wellFormed}
+use Rattle.machine.specs.Differ.{differ, differRow}
 use Rattle.machine.specs.Calls.{start, decide}
 use Rattle.machine.specs.Step.{outcome, step}
 use Rattle.machine.specs.Built.{log, none, stateOf, logged}
@@ -42,7 +43,7 @@ owners =
     ∷ malformed (owning 5 5 (replicate 31 0)) ∷ malformed (owning 5 5 (replicate 33 0)) ∷ malformed (owning 5 5 []) ∷ []
 
 pub owners-hold : judge owners ≡ true
-unfolding judge step outcome decide wellFormed allFrom allAtMost entryOk headOk pairsOk after afters owners
+unfolding judge step outcome decide differ differRow wellFormed allFrom allAtMost entryOk headOk pairsOk after afters owners
 owners-hold = refl
 
 -- ---- what an entry remembers: each of the four below its own number, those in places that are not in use too
@@ -64,5 +65,5 @@ recalls =
     ∷ malformed (logged (log 0 (recalling (1 ∷ 0 ∷ 0 ∷ 0 ∷ []) ∷ []))) ∷ []
 
 pub recalls-hold : judge recalls ≡ true
-unfolding judge step outcome decide wellFormed allFrom allAtMost entryOk headOk pairsOk after afters recalls
+unfolding judge step outcome decide differ differRow wellFormed allFrom allAtMost entryOk headOk pairsOk after afters recalls
 recalls-hold = refl

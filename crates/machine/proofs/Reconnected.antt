@@ -14,6 +14,7 @@ use Rattle.kinds.specs.Events.{refusal}
 use Rattle.machine.specs.State.{State, Net, fresh, isNode, nodeOf, reachesTarget, lineOpenFor}
 use Rattle.machine.specs.Stores.{withNet, after, afters}
 use Rattle.machine.specs.Rows.{overlay, rowsOf}
+use Rattle.machine.specs.Differ.{differ, differRow}
 use Rattle.machine.specs.WellFormed.{allFrom, allAtMost, pairsOk, entryOk, headOk, wellFormed}
 use Rattle.machine.specs.Calls.{connect, disconnect, master, sync, work, valuesOk, present, planOf, decide}
 use Rattle.machine.specs.Step.{outcome, step}
@@ -85,6 +86,6 @@ comesBack =
     ∷ accepts (master 1) ∷ refuses 12 (work 1 2 1 0 0) ∷ accepts (sync 1) ∷ accepts (sync 1)
     ∷ does 1 2 2 0 1 Complete ∷ reads 3 7 7 7 ∷ refuses 11 (master 1) ∷ [])))
 
-pub comes-back : agrees fresh comesBack ≡ true
-unfolding agrees step outcome decide wellFormed allFrom allAtMost entryOk headOk pairsOk valuesOk planOf rowsOf overlay present after afters comesBack
+pub comes-back : agrees (fresh false) comesBack ≡ true
+unfolding agrees step outcome decide differ differRow wellFormed allFrom allAtMost entryOk headOk pairsOk valuesOk planOf rowsOf overlay present after afters comesBack
 comes-back = refl

@@ -48,7 +48,7 @@ use Rattle.rules.specs.declared.Connected.{Connected}
 use Rattle.machine.specs.Calls.{Call, answers, accepted, append, rollback, start, stop, connect, disconnect, master, sync, work, foldTo, unless, presentOf, job1, job2, job3, job4, planOf, sideIf, commits, workOk, decide}
 use Rattle.machine.specs.Step.{Stepped, outcome, step, run, stateFrom}
 use Rattle.machine.specs.Retry.{leavesLast, elsewhere, allElsewhere, Cut, mayRetry, OneIs, sooner, later, cut, uncut, again, Harmless}
-use Rattle.machine.proofs.Next.{putting, heading, targeting, performedBy, performed, rows-performed, eventOf-whole, withConnections}
+use Rattle.machine.proofs.Next.{putting, heading, heading-net, targeting, performedBy, performed, rows-performed, eventOf-whole, withConnections}
 use Rattle.machine.proofs.Overlay.{laid-again}
 use Rattle.machine.proofs.Cases.{and-left, and-right, or-cases, commit-change, commit-rollback, apply-change, apply-rollback}
 use Rattle.machine.proofs.Entries.{and-both, entry-put, last-put}
@@ -384,10 +384,6 @@ push-twice true s p i l =
 push-twice false s p i l =
     ap (λ vs. putting (heading false (withNet s (withTargetValues (withConnections (s .net) l) vs)) p i) i (p .entry)) (laid-again (p .lay) (p .entry) (s .net .values))
 
-heading-net : (b : Bool) (s : State) (p : Plan) (i : ℕ) → heading b s p i .net ≡ s .net
-heading-net true s p i = refl
-heading-net false s p i = refl
-
 plan-same : (s : State) (w : Net) (n j i : ℕ) (ok : Bool) → lineOpenFor w n ≡ lineOpenFor (s .net) n → planOf (withNet s w) n j i ok ≡ planOf s n j i ok
 unfolding planOf
 plan-same s w n j i ok e =
@@ -524,7 +520,7 @@ module _ (s : State) (n j i r x q c : ℕ) (cs : List Call) where
         by-push (and-left (isPush (p .order)) _ h) (and-left (eqb x 1) _ g) (and-left (eqb q r) _ y) (and-right (eqb q r) _ y))
 
 -- from any reached state
-pub reached-retry : (past : List Call) (n j i r x q c : ℕ) (cs : List Call) → Cut (run past .state) n j i r x → workOk n j q c ≡ true → allElsewhere n cs ≡ true
-    → mayRetry (planOf (run past .state) n j i (eqb r 0) .order) x r q c ≡ true
-    → Harmless (run past .state) n j i r x q c cs
-reached-retry past n j i r x q c cs k a e = retry-harmless (run past .state) n j i r x q c cs (reached-well-formed past) k a e
+pub reached-retry : (m : Bool) (past : List Call) (n j i r x q c : ℕ) (cs : List Call) → Cut (run m past .state) n j i r x → workOk n j q c ≡ true → allElsewhere n cs ≡ true
+    → mayRetry (planOf (run m past .state) n j i (eqb r 0) .order) x r q c ≡ true
+    → Harmless (run m past .state) n j i r x q c cs
+reached-retry m past n j i r x q c cs k a e = retry-harmless (run m past .state) n j i r x q c cs (reached-well-formed m past) k a e

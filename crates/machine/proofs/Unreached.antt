@@ -18,6 +18,7 @@ use Rattle.rules.specs.Sides.{untouched}
 use Rattle.machine.specs.State.{State, Net, absent, four, never, unfolded}
 use Rattle.machine.specs.Stores.{withNet, withApplied, after, afters}
 use Rattle.machine.specs.Rows.{overlay, rowsOf}
+use Rattle.machine.specs.Differ.{differ, differRow}
 use Rattle.machine.specs.WellFormed.{allFrom, allAtMost, pairsOk, entryOk, headOk, wellFormed}
 use Rattle.machine.specs.Reads.{entryNumbers, stateNumbers}
 use Rattle.machine.specs.LiveList.{hops}
@@ -25,7 +26,7 @@ use Rattle.machine.specs.Folding.{baseRow}
 use Rattle.machine.specs.Calls.{rollback, start, stop, connect, master, sync, work, foldTo, valuesOk, present, planOf, decide}
 use Rattle.machine.specs.Step.{outcome, step}
 use Rattle.machine.specs.Built.{side, entry, log, head, none, stateOf, logged}
-use Rattle.machine.specs.Sessions.{Line, reads, marks, heads, nets, nodes, begins, agrees}
+use Rattle.machine.specs.Sessions.{Line, tells, reads, marks, heads, nets, nodes, begins, agrees}
 use Rattle.machine.specs.Witnesses.{no, yes, job1, job2, job3, job4, quiet, wait}
 
 -- ---- a state, and lines that hold of it
@@ -43,7 +44,7 @@ wired g u m t c x r =
       configuration = record { state = g; term = trm u };
       mastership = record { master = m; term = trm t; conn = c };
       connections = x ∷ replicate 7 never;
-      target = record { id = 1; running = r };
+      target = record { id = 1; running = r; remembers = false };
       values = absent;
     }
 
@@ -101,7 +102,7 @@ rested =
     ∷ of (withNet (stateOf (log 1 (plain ∷ unmoved ∷ [])) 2 (head 1 0 0 0) none) (wired progress.Complete 1 1 1 1 (on 1) true)) goes ∷ []
 
 pub rested-hold : all rested ≡ true
-unfolding all agrees begins step outcome decide entryNumbers stateNumbers wellFormed allFrom allAtMost entryOk headOk pairsOk valuesOk planOf rowsOf overlay present after afters rested
+unfolding all agrees begins step outcome decide differ differRow entryNumbers stateNumbers wellFormed allFrom allAtMost entryOk headOk pairsOk valuesOk planOf rowsOf overlay present after afters rested
 rested-hold = refl
 
 -- ---- job 1: 1 with c.commit, or 2 where 1 is Pending; change, then index, target and revision
@@ -128,7 +129,7 @@ committing =
     ∷ of (late 131070) (no 9 (work 1 1 1 0 0) ∷ no 9 (work 1 1 1 0 1) ∷ no 10 (work 2 1 1 0 0) ∷ job1 1 1 0 6 ∷ []) ∷ []
 
 pub committing-hold : all committing ≡ true
-unfolding all agrees begins step outcome decide entryNumbers stateNumbers wellFormed allFrom allAtMost entryOk headOk pairsOk valuesOk planOf rowsOf overlay present after afters committing
+unfolding all agrees begins step outcome decide differ differRow entryNumbers stateNumbers wellFormed allFrom allAtMost entryOk headOk pairsOk valuesOk planOf rowsOf overlay present after afters committing
 committing-hold = refl
 
 -- ---- job 3 on 2, whose r.index is 1: r.commit; index, target, revision and ordinal
@@ -148,7 +149,7 @@ undoing =
     ∷ of (back Canceled 2 1 2 2) (wait 3 2 ∷ []) ∷ of (back Failed 2 1 2 2) (wait 3 2 ∷ []) ∷ []
 
 pub undoing-hold : all undoing ≡ true
-unfolding all agrees begins step outcome decide entryNumbers stateNumbers wellFormed allFrom allAtMost entryOk headOk pairsOk valuesOk planOf rowsOf overlay present after afters undoing
+unfolding all agrees begins step outcome decide differ differRow entryNumbers stateNumbers wellFormed allFrom allAtMost entryOk headOk pairsOk valuesOk planOf rowsOf overlay present after afters undoing
 undoing-hold = refl
 
 -- ---- job 2 on 2, whose r.index is 1 and whose ordinal is o: c.commit, c.apply; r.commit; Applied
@@ -179,7 +180,7 @@ applying =
     ∷ of (lined (forth taken Complete Failed 2 None (head 1 1 1 2))) (wait 2 2 ∷ []) ∷ of (lined (forth taken Complete Pending 0 None (head 1 2 1 0))) (wait 2 2 ∷ []) ∷ []
 
 pub applying-hold : all applying ≡ true
-unfolding all agrees begins step outcome decide entryNumbers stateNumbers wellFormed allFrom allAtMost entryOk headOk pairsOk valuesOk planOf rowsOf overlay present after afters applying
+unfolding all agrees begins step outcome decide differ differRow entryNumbers stateNumbers wellFormed allFrom allAtMost entryOk headOk pairsOk valuesOk planOf rowsOf overlay present after afters applying
 applying-hold = refl
 
 -- ---- job 4 on 2, whose r.index is 1 and whose r.ordinal is 3: c.apply; r.commit, r.apply; Applied
@@ -211,7 +212,7 @@ returning =
     ∷ of (lined (home taken Complete Complete Failed (head 2 2 2 2))) (wait 4 2 ∷ []) ∷ []
 
 pub returning-hold : all returning ≡ true
-unfolding all agrees begins step outcome decide entryNumbers stateNumbers wellFormed allFrom allAtMost entryOk headOk pairsOk valuesOk planOf rowsOf overlay present after afters returning
+unfolding all agrees begins step outcome decide differ differRow entryNumbers stateNumbers wellFormed allFrom allAtMost entryOk headOk pairsOk valuesOk planOf rowsOf overlay present after afters returning
 returning-hold = refl
 
 -- ---- settled: 2 is next, and 1 carries the applied ordinal, or its rollback does
@@ -234,7 +235,7 @@ settled =
     ∷ of (lined (stateOf (log 0 (taken ∷ entry 1 (side Complete Pending 2) untouched 1 ∷ applied Pending ∷ [])) 2 (head 2 2 2 2) (head 1 1 1 1))) (wait 2 2 ∷ []) ∷ []
 
 pub settled-hold : all settled ≡ true
-unfolding all agrees begins step outcome decide entryNumbers stateNumbers wellFormed allFrom allAtMost entryOk headOk pairsOk valuesOk planOf rowsOf overlay present after afters settled
+unfolding all agrees begins step outcome decide differ differRow entryNumbers stateNumbers wellFormed allFrom allAtMost entryOk headOk pairsOk valuesOk planOf rowsOf overlay present after afters settled
 settled-hold = refl
 
 -- ---- the line: each of what it needs is missing alone; and to reach the target
@@ -253,7 +254,7 @@ lines =
     ∷ of (pushing (wired progress.Pending 0 1 1 1 (gone 1) true)) (yes (sync 1) ∷ nets (2 ∷ 0 ∷ 1 ∷ []) ∷ []) ∷ []
 
 pub lines-hold : all lines ≡ true
-unfolding all agrees begins step outcome decide entryNumbers stateNumbers wellFormed allFrom allAtMost entryOk headOk pairsOk valuesOk planOf rowsOf overlay present after afters lines
+unfolding all agrees begins step outcome decide differ differRow entryNumbers stateNumbers wellFormed allFrom allAtMost entryOk headOk pairsOk valuesOk planOf rowsOf overlay present after afters lines
 lines-hold = refl
 
 -- ---- the last ids and terms, 9; before it 7, 8 and 11; and 7 before 8
@@ -267,7 +268,7 @@ powered k r =
       configuration = record { state = progress.Pending; term = trm 0 };
       mastership = record { master = 0; term = trm 0; conn = 0 };
       connections = replicate 8 never;
-      target = record { id = k; running = r };
+      target = record { id = k; running = r; remembers = false };
       values = absent;
     })
 
@@ -283,7 +284,7 @@ lasting =
     ∷ of (withNet (logged (log 0 (entry 1 (side Complete Pending 1) (side None Aborted 5) 0 ∷ []))) (wired progress.Pending 0 0 0 0 never true)) (yes (rollback 1) ∷ marks 1 (2 ∷ 3 ∷ 1 ∷ 1 ∷ 1 ∷ 1 ∷ 5 ∷ 0 ∷ []) ∷ []) ∷ []
 
 pub lasting-hold : all lasting ≡ true
-unfolding all agrees begins step outcome decide entryNumbers stateNumbers wellFormed allFrom allAtMost entryOk headOk pairsOk valuesOk planOf rowsOf overlay present after afters lasting
+unfolding all agrees begins step outcome decide differ differRow entryNumbers stateNumbers wellFormed allFrom allAtMost entryOk headOk pairsOk valuesOk planOf rowsOf overlay present after afters lasting
 lasting-hold = refl
 
 -- ---- well-formed, 7 to stop what is stopped; or not, 1 before it
@@ -309,7 +310,7 @@ sized c a v n m =
         configuration = record { state = progress.Pending; term = trm 0 };
         mastership = record { master = m; term = trm 0; conn = 0 };
         connections = replicate n never;
-        target = record { id = 0; running = false };
+        target = record { id = 0; running = false; remembers = false };
         values = replicate v 0;
       };
     }
@@ -330,7 +331,7 @@ forming =
     ∷ formed (sized 32 32 32 8 8) ∷ malformed (sized 32 32 32 8 9) ∷ []
 
 pub forming-hold : all forming ≡ true
-unfolding all agrees begins step outcome decide entryNumbers stateNumbers wellFormed allFrom allAtMost entryOk headOk pairsOk valuesOk planOf rowsOf overlay present after afters forming
+unfolding all agrees begins step outcome decide differ differRow entryNumbers stateNumbers wellFormed allFrom allAtMost entryOk headOk pairsOk valuesOk planOf rowsOf overlay present after afters forming
 forming-hold = refl
 
 -- ---- a fold: at rest where nothing is committed; 1 alone, at a c.commit, is finished only if it is Failed; and 2 carries the next
@@ -354,7 +355,7 @@ folding =
     ∷ of (nexts Pending) may ∷ of (nexts None) mayNot ∷ of (nexts InProgress) mayNot ∷ of (nexts Complete) mayNot ∷ of (nexts Aborted) mayNot ∷ of (nexts Canceled) mayNot ∷ of (nexts Failed) mayNot ∷ []
 
 pub folding-hold : all folding ≡ true
-unfolding all agrees begins step outcome decide entryNumbers stateNumbers wellFormed allFrom allAtMost entryOk headOk pairsOk valuesOk planOf rowsOf overlay present after afters hops baseRow folding
+unfolding all agrees begins step outcome decide differ differRow entryNumbers stateNumbers wellFormed allFrom allAtMost entryOk headOk pairsOk valuesOk planOf rowsOf overlay present after afters hops baseRow folding
 folding-hold = refl
 
 -- ---- stores that no session shows: a canceled rollback is closed wherever the index is; a rule of one entry's store leaves the
@@ -368,8 +369,8 @@ storing =
     of (lined (home taken Aborted Complete Canceled (head 1 2 2 2))) (quiet 4 2 ∷ heads (2 ∷ 2 ∷ 1 ∷ 1 ∷ 3 ∷ 2 ∷ 1 ∷ 2 ∷ 3 ∷ []) ∷ [])
     ∷ of (one Pending 0 0 1 0) (yes (work 1 1 1 0 0) ∷ heads (0 ∷ 0 ∷ 1 ∷ 0 ∷ 0 ∷ []) ∷ [])
     ∷ of (back Pending 1 1 2 2) (yes (work 1 3 2 0 0) ∷ heads (1 ∷ 3 ∷ 1 ∷ 2 ∷ 2 ∷ []) ∷ [])
-    ∷ of unwritten (yes (sync 1) ∷ reads 3 0 5 0 ∷ yes (sync 1) ∷ reads 3 0 5 5 ∷ reads 31 0 5 5 ∷ []) ∷ []
+    ∷ of unwritten (yes (sync 1) ∷ reads 3 0 5 0 ∷ tells (sync 1) 0 0 0 32 0 ∷ reads 3 0 5 5 ∷ reads 31 0 5 5 ∷ []) ∷ []
 
 pub storing-hold : all storing ≡ true
-unfolding all agrees begins step outcome decide entryNumbers stateNumbers wellFormed allFrom allAtMost entryOk headOk pairsOk valuesOk planOf rowsOf overlay present after afters storing
+unfolding all agrees begins step outcome decide differ differRow entryNumbers stateNumbers wellFormed allFrom allAtMost entryOk headOk pairsOk valuesOk planOf rowsOf overlay present after afters storing
 storing-hold = refl

@@ -12,6 +12,7 @@ use Rattle.rules.specs.Sides.{untouched}
 use Rattle.machine.specs.State.{State}
 use Rattle.machine.specs.Stores.{after, afters}
 use Rattle.machine.specs.Rows.{overlay, rowsOf}
+use Rattle.machine.specs.Differ.{differ, differRow}
 use Rattle.machine.specs.WellFormed.{allFrom, allAtMost, pairsOk, entryOk, headOk, wellFormed}
 use Rattle.machine.specs.LiveList.{hops}
 use Rattle.machine.specs.Folding.{baseRow}
@@ -57,7 +58,7 @@ ended =
     ∷ row (three plain plain (marked Complete None) 0 none) (waits 1 3 1 0 ∷ waits 1 2 3 1 ∷ []) ∷ row (three plain plain (marked Failed None) 0 none) (waits 1 3 1 0 ∷ []) ∷ []
 
 pub ended-hold : all ended ≡ true
-unfolding all agrees why stateFrom step outcome decide planOf afters after overlay rowsOf allFrom allAtMost pairsOk entryOk headOk wellFormed valuesOk present firstOf lowest hops baseRow ended
+unfolding all agrees why stateFrom step outcome decide differ differRow planOf afters after overlay rowsOf allFrom allAtMost pairsOk entryOk headOk wellFormed valuesOk present firstOf lowest hops baseRow ended
 ended-hold = refl
 
 -- ---- 2: asked is r.commit not None, whatever r.apply and the phase
@@ -66,7 +67,7 @@ asking =
     row (back None Pending 0 0) (waits 3 1 2 0 ∷ waits 4 1 2 0 ∷ []) ∷ row (back Pending None 0 0) (waits 4 1 6 0 ∷ []) ∷ row (three (marked None Pending) plain plain 0 none) (waits 4 1 6 0 ∷ []) ∷ []
 
 pub asking-hold : all asking ≡ true
-unfolding all agrees why stateFrom step outcome decide planOf afters after overlay rowsOf allFrom allAtMost pairsOk entryOk headOk wellFormed valuesOk present firstOf lowest hops baseRow asking
+unfolding all agrees why stateFrom step outcome decide differ differRow planOf afters after overlay rowsOf allFrom allAtMost pairsOk entryOk headOk wellFormed valuesOk present firstOf lowest hops baseRow asking
 asking-hold = refl
 
 -- ---- 4: what is named where several are in progress, or none
@@ -79,7 +80,7 @@ flights =
     ∷ row (stateOf (log 2 (plain ∷ marked InProgress None ∷ plain ∷ [])) 4 (head 0 1 0 0) none) (waits 1 5 4 4 ∷ []) ∷ []
 
 pub flights-hold : all flights ≡ true
-unfolding all agrees why stateFrom step outcome decide planOf afters after overlay rowsOf allFrom allAtMost pairsOk entryOk headOk wellFormed valuesOk present firstOf lowest hops baseRow flights
+unfolding all agrees why stateFrom step outcome decide differ differRow planOf afters after overlay rowsOf allFrom allAtMost pairsOk entryOk headOk wellFormed valuesOk present firstOf lowest hops baseRow flights
 flights-hold = refl
 
 -- ---- 5: on top is what is live, and not what was committed last or is aimed at
@@ -88,7 +89,7 @@ above =
     row (three (marked Complete Pending) plain (marked Failed None) 3 (head 3 3 2 0)) (waits 3 1 5 2 ∷ []) ∷ row (three plain (marked Complete Pending) (marked Failed None) 3 (head 3 3 1 0)) (waits 3 2 8 0 ∷ []) ∷ []
 
 pub above-hold : all above ≡ true
-unfolding all agrees why stateFrom step outcome decide planOf afters after overlay rowsOf allFrom allAtMost pairsOk entryOk headOk wellFormed valuesOk present firstOf lowest hops baseRow above
+unfolding all agrees why stateFrom step outcome decide differ differRow planOf afters after overlay rowsOf allFrom allAtMost pairsOk entryOk headOk wellFormed valuesOk present firstOf lowest hops baseRow above
 above-hold = refl
 
 -- ---- 6 and 7: Complete and nothing else is committed; what is below the job's own
@@ -100,7 +101,7 @@ outstanding =
     ∷ row (back Complete Pending 5 3) (waits 4 1 7 4 ∷ []) ∷ row (back Complete Pending 4 4) (waits 4 1 8 0 ∷ []) ∷ row (back Complete Pending 3 4) (waits 4 1 8 0 ∷ []) ∷ []
 
 pub outstanding-hold : all outstanding ≡ true
-unfolding all agrees why stateFrom step outcome decide planOf afters after overlay rowsOf allFrom allAtMost pairsOk entryOk headOk wellFormed valuesOk present firstOf lowest hops baseRow outstanding
+unfolding all agrees why stateFrom step outcome decide differ differRow planOf afters after overlay rowsOf allFrom allAtMost pairsOk entryOk headOk wellFormed valuesOk present firstOf lowest hops baseRow outstanding
 outstanding-hold = refl
 
 -- ---- 8: none fits, of those that the job uses, and nothing is named
@@ -111,7 +112,7 @@ eighth =
     ∷ row (three plain plain (entry 2 (side Complete Complete 0) (side Complete None 1) 0) 0 none) (waits 4 3 8 0 ∷ []) ∷ []
 
 pub eighth-hold : all eighth ≡ true
-unfolding all agrees why stateFrom step outcome decide planOf afters after overlay rowsOf allFrom allAtMost pairsOk entryOk headOk wellFormed valuesOk present firstOf lowest hops baseRow eighth
+unfolding all agrees why stateFrom step outcome decide differ differRow planOf afters after overlay rowsOf allFrom allAtMost pairsOk entryOk headOk wellFormed valuesOk present firstOf lowest hops baseRow eighth
 eighth-hold = refl
 
 -- ---- 1 first of all; 15 where a counter would pass its limit (9)
@@ -121,5 +122,5 @@ barred =
     ∷ row (stateOf (log 0 (marked InProgress None ∷ [])) 0 (head 0 1 0 131070) none) (goes 1 1 ∷ []) ∷ row (stateOf (log 0 (marked Complete InProgress ∷ [])) 1 (head 1 0 1 131070) none) (goes 3 1 ∷ []) ∷ []
 
 pub barred-hold : all barred ≡ true
-unfolding all agrees why stateFrom step outcome decide planOf afters after overlay rowsOf allFrom allAtMost pairsOk entryOk headOk wellFormed valuesOk present firstOf lowest hops baseRow barred
+unfolding all agrees why stateFrom step outcome decide differ differRow planOf afters after overlay rowsOf allFrom allAtMost pairsOk entryOk headOk wellFormed valuesOk present firstOf lowest hops baseRow barred
 barred-hold = refl

@@ -1,6 +1,7 @@
 -- States written down number by number: those that no session reaches, for the witnesses. Assumes nothing.
 use Prim.Native.Nat.{ℕ}
 use mathlib.Core.List.{List, [], _∷_}
+use mathlib.Core.Bool.{false}
 use Rattle.kinds.specs.declared.Transaction.{Transaction}
 use Rattle.kinds.specs.declared.Head.{Head}
 use Rattle.kinds.specs.declared.Side.{Side}
@@ -44,7 +45,7 @@ stateOf l n c a =
       change = num n;
       committed = record { head = c; values = absent; owners = absent };
       applied = record { head = a; values = absent };
-      net = fresh .net;
+      net = fresh false .net;
     }
 
 -- a log alone

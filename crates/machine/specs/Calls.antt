@@ -20,6 +20,7 @@ use Rattle.rules.specs.Outside as outside
 use Rattle.machine.specs.State.{State, absent, four, entryOf, last, inLog, isKept, isNode, nodeOf, putNode, isMaster, reachesTarget, lineOpenFor}
 use Rattle.machine.specs.Stores.{Store, grow, entry, fold, targetValues, configuration, mastership, connections, target}
 use Rattle.machine.specs.Rows.{rowsOf, eventOf}
+use Rattle.machine.specs.Differ.{differ, differRow}
 use Rattle.machine.specs.WellFormed.{pairsOk}
 use Rattle.machine.specs.LiveList.{live}
 use Rattle.machine.specs.Settled.{settled}
@@ -143,10 +144,23 @@ planned j p i cut =
 abbrev pub workOk : ℕ → ℕ → ℕ → ℕ → Bool
 workOk n j r c = (isNode n && (leb 1 j && leb j 4)) && (leb r 1 && leb c 2)
 
--- ---- synchronise: the configuration, and where it copies, the applied values in the target
-abbrev pub copyRow : Bool → List ℕ → List Store
-copyRow true vs = targetValues vs ∷ []
-copyRow false vs = []
+-- ---- stop: the target's values cleared, unless it remembers them (order 13)
+abbrev pub clearRow : Bool → List Store
+clearRow true = []
+clearRow false = targetValues absent ∷ []
+
+-- ---- synchronise: the configuration, and where it copies, the applied values in the target, at the paths that differ; it
+-- shows how many they are, as append its number (order 13)
+abbrev pub copyRow : Bool → (target applied : List ℕ) → List Store
+copyRow true ws vs = differRow 32 ws vs
+copyRow false ws vs = []
+
+abbrev pub copyCount : Bool → (target applied : List ℕ) → ℕ
+copyCount true ws vs = differ 32 ws vs
+copyCount false ws vs = 0
+
+abbrev pub counts : ℕ → (number : ℕ) → List Store → Outcome
+counts a n es = unless a (eqb a 0) (record { reply = record { answer = 0; event = numbered n }; stores = es })
 
 -- ---- what each call decides, the refusals in the paper's order (1 comes first: Step)
 unfoldable pub decide : State → Call → Outcome
@@ -162,7 +176,7 @@ decide s (rollback i) =
 decide s start = let x = outside.start (s .net .target) in answers (x .answer) (target (x .target) ∷ [])
 decide s stop =
     let x = outside.stop (s .net .target) in
-    answers (x .answer) (target (x .target) ∷ targetValues absent ∷ connections (map outside.off (s .net .connections)) ∷ [])
+    answers (x .answer) (target (x .target) ∷ (clearRow (s .net .target .remembers) ++ (connections (map outside.off (s .net .connections)) ∷ [])))
 decide s (connect n) =
     let x = outside.connect (nodeOf (s .net .connections) n) (s .net .target .running) in
     unless 2 (isNode n) (answers (x .answer) (connections (putNode (s .net .connections) n (x .connection)) ∷ []))
@@ -174,7 +188,9 @@ decide s (master n) =
     unless 2 (isNode n) (answers (x .answer) (mastership (x .mastership) ∷ []))
 decide s (sync n) =
     let x = outside.synchronise (s .net .configuration) (s .net .mastership .term) (isMaster (s .net) n) (reachesTarget (s .net) n) in
-    unless 2 (isNode n) (answers (x .answer) (configuration (x .configuration) ∷ copyRow (x .copies) (s .applied .values)))
+    let ws = s .net .values in
+    let vs = s .applied .values in
+    unless 2 (isNode n) (counts (x .answer) (copyCount (x .copies) ws vs) (configuration (x .configuration) ∷ copyRow (x .copies) ws vs))
 decide s (work n j i r c) =
     unless 2 (workOk n j r c)
     (unless 5 (inLog s i) (unless 18 (isKept s i) (unless 10 (isMaster (s .net) n) (planned j (planOf s n j i (eqb r 0)) i c))))

@@ -13,6 +13,7 @@ use Rattle.kinds.specs.Events.{event}
 use Rattle.machine.specs.State.{State, fresh}
 use Rattle.machine.specs.Stores.{after, afters}
 use Rattle.machine.specs.Rows.{overlay, rowsOf}
+use Rattle.machine.specs.Differ.{differ, differRow}
 use Rattle.machine.specs.WellFormed.{allFrom, allAtMost, pairsOk, entryOk, headOk, wellFormed}
 use Rattle.machine.specs.LiveList.{hops, live}
 use Rattle.machine.specs.Folding.{baseRow}
@@ -57,7 +58,7 @@ holds s (keeps b n ∷ ps) = (eqb (s .log .folded .0) b && eqb (length (s .log .
 
 unfoldable pub hold : List (List Piece) → Bool
 hold [] = true
-hold (ps ∷ rest) = holds fresh ps && hold rest
+hold (ps ∷ rest) = holds (fresh false) ps && hold rest
 
 -- ---- lines, shorter
 -- change i committed and applied; rolled back
@@ -99,7 +100,7 @@ pub numbered : List (List Piece)
 numbered = numbers ∷ []
 
 pub numbered-hold : hold numbered ≡ true
-unfolding hold holds ended agrees sameList step outcome decide read entryNumbers stateNumbers wellFormed allFrom allAtMost entryOk headOk pairsOk valuesOk planOf rowsOf overlay present after afters hops baseRow numbered numbers
+unfolding hold holds ended agrees sameList step outcome decide differ differRow read entryNumbers stateNumbers wellFormed allFrom allAtMost entryOk headOk pairsOk valuesOk planOf rowsOf overlay present after afters hops baseRow numbered numbers
 numbered-hold = refl
 
 -- ---- what a fold leaves
@@ -130,7 +131,7 @@ pub left : List (List Piece)
 left = returned ∷ twice ∷ undone ∷ []
 
 pub left-hold : hold left ≡ true
-unfolding hold holds ended agrees sameList step outcome decide read entryNumbers stateNumbers wellFormed allFrom allAtMost entryOk headOk pairsOk valuesOk planOf rowsOf overlay present after afters hops baseRow left returned twice undone
+unfolding hold holds ended agrees sameList step outcome decide differ differRow read entryNumbers stateNumbers wellFormed allFrom allAtMost entryOk headOk pairsOk valuesOk planOf rowsOf overlay present after afters hops baseRow left returned twice undone
 left-hold = refl
 
 -- ---- the commit side at rest
@@ -151,7 +152,7 @@ pub resting : List (List Piece)
 resting = committing ∷ rejected ∷ []
 
 pub resting-hold : hold resting ≡ true
-unfolding hold holds ended agrees sameList step outcome decide wellFormed allFrom allAtMost entryOk headOk pairsOk valuesOk planOf rowsOf overlay present after afters hops baseRow resting committing rejected
+unfolding hold holds ended agrees sameList step outcome decide differ differRow wellFormed allFrom allAtMost entryOk headOk pairsOk valuesOk planOf rowsOf overlay present after afters hops baseRow resting committing rejected
 resting-hold = refl
 
 -- ---- the applied side settled
@@ -176,7 +177,7 @@ pub settling : List (List Piece)
 settling = pushed ∷ returning ∷ []
 
 pub settling-hold : hold settling ≡ true
-unfolding hold holds ended agrees sameList step outcome decide wellFormed allFrom allAtMost entryOk headOk pairsOk valuesOk planOf rowsOf overlay present after afters hops baseRow settling pushed returning
+unfolding hold holds ended agrees sameList step outcome decide differ differRow wellFormed allFrom allAtMost entryOk headOk pairsOk valuesOk planOf rowsOf overlay present after afters hops baseRow settling pushed returning
 settling-hold = refl
 
 -- ---- the next still Pending, and the applied target not moved to it
@@ -237,7 +238,7 @@ pub waiting : List (List Piece)
 waiting = nextChange ∷ changeAimed ∷ nextRollback ∷ rollbackAimed ∷ aborted ∷ canceled ∷ []
 
 pub waiting-hold : hold waiting ≡ true
-unfolding hold holds ended agrees sameList step outcome decide wellFormed allFrom allAtMost entryOk headOk pairsOk valuesOk planOf rowsOf overlay present after afters hops baseRow waiting nextChange changeAimed nextRollback rollbackAimed aborted canceled
+unfolding hold holds ended agrees sameList step outcome decide differ differRow wellFormed allFrom allAtMost entryOk headOk pairsOk valuesOk planOf rowsOf overlay present after afters hops baseRow waiting nextChange changeAimed nextRollback rollbackAimed aborted canceled
 waiting-hold = refl
 
 -- ---- finished
@@ -277,7 +278,7 @@ pub finishing : List (List Piece)
 finishing = failed ∷ asked ∷ invalid ∷ []
 
 pub finishing-hold : hold finishing ≡ true
-unfolding hold holds ended agrees sameList step outcome decide wellFormed allFrom allAtMost entryOk headOk pairsOk valuesOk planOf rowsOf overlay present after afters hops baseRow finishing failed asked invalid
+unfolding hold holds ended agrees sameList step outcome decide differ differRow wellFormed allFrom allAtMost entryOk headOk pairsOk valuesOk planOf rowsOf overlay present after afters hops baseRow finishing failed asked invalid
 finishing-hold = refl
 
 -- ---- the live list: 1 and 3 are live and 2 is not, whatever is applied; then 1, and then none
@@ -296,7 +297,7 @@ pub listing : List (List Piece)
 listing = living ∷ []
 
 pub listing-hold : hold listing ≡ true
-unfolding hold holds ended agrees sameList step outcome decide wellFormed allFrom allAtMost entryOk headOk pairsOk valuesOk planOf rowsOf overlay present after afters hops baseRow listing living
+unfolding hold holds ended agrees sameList step outcome decide differ differRow wellFormed allFrom allAtMost entryOk headOk pairsOk valuesOk planOf rowsOf overlay present after afters hops baseRow listing living
 listing-hold = refl
 
 -- ---- room for later appends
@@ -319,7 +320,7 @@ pub roomy : List (List Piece)
 roomy = room ∷ []
 
 pub roomy-hold : hold roomy ≡ true
-unfolding hold holds ended agrees sameList step outcome decide wellFormed allFrom allAtMost entryOk headOk pairsOk valuesOk planOf rowsOf overlay present after afters hops baseRow filled roomy room
+unfolding hold holds ended agrees sameList step outcome decide differ differRow wellFormed allFrom allAtMost entryOk headOk pairsOk valuesOk planOf rowsOf overlay present after afters hops baseRow filled roomy room
 roomy-hold = refl
 
 -- ---- the table

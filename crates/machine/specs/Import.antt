@@ -86,9 +86,9 @@ importBy v es = record { answer = v .answer; position = v .position; calls = con
 unfoldable pub import : List Entry → Import
 import es = importBy (judged es) es
 
--- what a fresh controller is after it
+-- what a fresh controller is after it; its target forgets (order 13)
 abbrev pub imported : List Entry → State
-imported es = run (import es .calls) .state
+imported es = run false (import es .calls) .state
 
 -- ---- the list as bytes, 20 an entry, each number of two bytes, little-endian: the kind, 1 a change and 2 a rollback; the number
 -- of pairs, or the place named; and four times a path and its value

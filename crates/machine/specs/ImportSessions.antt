@@ -32,7 +32,7 @@ sameEvents (d ∷ ds) [] = false
 sameEvents (d ∷ ds) (e ∷ es) = sameEvent d e && sameEvents ds es
 
 abbrev pub same : Import → (answer position : ℕ) → List Event → List Line → Bool
-same x a q es ls = (eqb (x .answer) a && eqb (x .position) q) && (sameEvents (run (x .calls) .events) es && agrees (run (x .calls) .state) ls)
+same x a q es ls = (eqb (x .answer) a && eqb (x .position) q) && (sameEvents (run false (x .calls) .events) es && agrees (run false (x .calls) .state) ls)
 
 unfoldable pub taken : List Row → Bool
 taken [] = true

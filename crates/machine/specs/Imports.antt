@@ -70,7 +70,7 @@ pub data Verdicts (es : List Entry) : Verdict → Type 0 where
 -- each call is accepted where the ones before it were made from fresh
 unfoldable pub Accepted : List Call → Type 0
 Accepted [] = Unit {0}
-Accepted (c ∷ cs) = (step (run cs .state) c .reply .answer ≡ 0) × Accepted cs
+Accepted (c ∷ cs) = (step (run false cs .state) c .reply .answer ≡ 0) × Accepted cs
 
 -- a change: its pairs, committed and not applied
 pub record Committed (ps : List Pair) (t : Transaction) : Type 0 where
@@ -101,5 +101,5 @@ pub record Imported (es : List Entry) (s : State) : Type 0 where
   pub revision : Revises es (length es) (s .committed .head .revision .0)
   pub rest : restOf s ≡ true
   pub applied : s .applied ≡ freshPart
-  pub net : s .net ≡ run opening .state .net
+  pub net : s .net ≡ run false opening .state .net
   pub target : s .net .values ≡ absent

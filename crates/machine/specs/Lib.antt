@@ -3,6 +3,7 @@ pub mod State
 pub mod Stores
 pub mod Rows
 pub mod Laid
+pub mod Differ
 pub mod WellFormed
 pub mod Settled
 pub mod Rest
@@ -13,6 +14,7 @@ pub mod Reads
 pub mod Calls
 pub mod Step
 pub mod Notes
+pub mod Remember
 pub mod Retry
 pub mod Built
 pub mod Sessions
@@ -28,3 +30,4 @@ pub mod Entered
 pub mod Imports
 pub mod ImportSessions
 pub mod OwnerSessions
+pub mod RememberSessions

@@ -14,6 +14,7 @@ use Rattle.kinds.specs.Events.{event, noEvent}
 use Rattle.machine.specs.State.{State, fresh}
 use Rattle.machine.specs.Stores.{after, afters}
 use Rattle.machine.specs.Rows.{overlay, rowsOf}
+use Rattle.machine.specs.Differ.{differ, differRow}
 use Rattle.machine.specs.WellFormed.{allFrom, allAtMost, pairsOk, entryOk, headOk, wellFormed}
 use Rattle.machine.specs.LiveList.{hops}
 use Rattle.machine.specs.Folding.{baseRow}
@@ -80,10 +81,10 @@ slept (of s cs n b os a k x ts ls ∷ rs) =
 -- ---- nights, shorter
 -- node 1's, from fresh and after a session; one that is refused
 abbrev sleeps : List Call → (budget : ℕ) → List ℕ → (jobs stopped : ℕ) → List Turn → List Line → Row
-sleeps cs b os k x ts ls = of fresh cs 1 b os 0 k x ts ls
+sleeps cs b os k x ts ls = of (fresh false) cs 1 b os 0 k x ts ls
 
 abbrev refuses : (answer : ℕ) → List Call → (node budget : ℕ) → List ℕ → List Line → Row
-refuses a cs n b os ls = of fresh cs n b os a 0 0 [] ls
+refuses a cs n b os ls = of (fresh false) cs n b os a 0 0 [] ls
 
 -- a job begun and ended, its push accepted
 abbrev pub goes : (job number : ℕ) → List Turn → List Turn
@@ -151,12 +152,12 @@ unmoved = shows 1 1 1 Pending ∷ stand 0 0 0 0 0 0 0 0 0 ∷ []
 pub ranges : List Row
 ranges =
     sleeps line 0 accepted 0 0 [] [] ∷ sleeps line 4096 accepted 0 0 [] [] ∷ refuses 2 line 1 4097 accepted []
-    ∷ of fresh (master 8 ∷ connect 8 ∷ start ∷ []) 8 0 accepted 0 0 0 [] [] ∷ refuses 2 line 0 0 accepted [] ∷ refuses 2 line 9 0 accepted [] ∷ refuses 2 [] 0 0 accepted []
+    ∷ of (fresh false) (master 8 ∷ connect 8 ∷ start ∷ []) 8 0 accepted 0 0 0 [] [] ∷ refuses 2 line 0 0 accepted [] ∷ refuses 2 line 9 0 accepted [] ∷ refuses 2 [] 0 0 accepted []
     ∷ sleeps line 0 rejecting 0 0 [] [] ∷ refuses 2 line 1 0 (replicate 255 0) [] ∷ refuses 2 line 1 0 (replicate 257 0) [] ∷ refuses 2 line 1 0 [] []
     ∷ refuses 2 line 1 0 (2 ∷ replicate 255 0) [] ∷ refuses 2 line 1 0 (replicate 255 1 ++ (2 ∷ [])) [] ∷ []
 
 pub ranges-hold : slept ranges ≡ true
-unfolding slept sameCalls sameEvents night turns trials firstDone needsLine bits stateFrom eventsFrom step outcome decide planOf afters after overlay rowsOf allFrom allAtMost pairsOk entryOk headOk wellFormed valuesOk present hops baseRow agrees begins stateNumbers ranges
+unfolding slept sameCalls sameEvents night turns trials firstDone needsLine bits stateFrom eventsFrom step outcome decide differ differRow planOf afters after overlay rowsOf allFrom allAtMost pairsOk entryOk headOk wellFormed valuesOk present hops baseRow agrees begins stateNumbers ranges
 ranges-hold = refl
 
 -- ---- refusals 2 and 10, in this order; a refused night does nothing and tells nothing
@@ -167,7 +168,7 @@ denied =
     ∷ refuses 2 one 2 9 (replicate 255 0) unmoved ∷ refuses 2 line 2 4097 accepted [] ∷ []
 
 pub denied-hold : slept denied ≡ true
-unfolding slept sameCalls sameEvents night turns trials firstDone needsLine bits stateFrom eventsFrom step outcome decide planOf afters after overlay rowsOf allFrom allAtMost pairsOk entryOk headOk wellFormed valuesOk present hops baseRow agrees begins stateNumbers denied
+unfolding slept sameCalls sameEvents night turns trials firstDone needsLine bits stateFrom eventsFrom step outcome decide differ differRow planOf afters after overlay rowsOf allFrom allAtMost pairsOk entryOk headOk wellFormed valuesOk present hops baseRow agrees begins stateNumbers denied
 denied-hold = refl
 
 -- ---- two outcomes for each, in log order, of the validation and of the push of the change
@@ -181,7 +182,7 @@ placed =
     ∷ sleeps two 9 rejecting 4 0 (does 1 2 1 Failed ∷ does 1 2 1 InProgress ∷ does 1 1 1 Failed ∷ does 1 1 1 InProgress ∷ []) (reads 3 0 0 0 ∷ stand 2 2 2 0 0 0 0 0 0 ∷ []) ∷ []
 
 pub placed-hold : slept placed ≡ true
-unfolding slept sameCalls sameEvents night turns trials firstDone needsLine bits stateFrom eventsFrom step outcome decide planOf afters after overlay rowsOf allFrom allAtMost pairsOk entryOk headOk wellFormed valuesOk present hops baseRow agrees begins stateNumbers placed
+unfolding slept sameCalls sameEvents night turns trials firstDone needsLine bits stateFrom eventsFrom step outcome decide differ differRow planOf afters after overlay rowsOf allFrom allAtMost pairsOk entryOk headOk wellFormed valuesOk present hops baseRow agrees begins stateNumbers placed
 placed-hold = refl
 
 -- the last two places are those of the 128th
@@ -203,7 +204,7 @@ keptOnly =
     ∷ sleeps folded 7 accepted 7 2 (does 2 3 0 InProgress ∷ goes 1 3 (takes 2 [])) [] ∷ []
 
 pub kept-only-hold : slept keptOnly ≡ true
-unfolding slept sameCalls sameEvents night turns trials firstDone needsLine bits stateFrom eventsFrom step outcome decide planOf afters after overlay rowsOf allFrom allAtMost pairsOk entryOk headOk wellFormed valuesOk present hops baseRow agrees begins stateNumbers keptOnly
+unfolding slept sameCalls sameEvents night turns trials firstDone needsLine bits stateFrom eventsFrom step outcome decide differ differRow planOf afters after overlay rowsOf allFrom allAtMost pairsOk entryOk headOk wellFormed valuesOk present hops baseRow agrees begins stateNumbers keptOnly
 kept-only-hold = refl
 
 -- ---- rollback pushes count as accepted, whatever the table says
@@ -213,7 +214,7 @@ rollbacks =
     ∷ sleeps (rolling line) 9 (rejectingAt 0) 6 0 (goes 4 1 (goes 3 1 (goes 2 1 []))) (reads 3 0 0 0 ∷ shows 1 2 1 Complete ∷ shows 2 2 1 Complete ∷ stand 1 1 0 0 2 1 0 0 2 ∷ []) ∷ []
 
 pub rollbacks-hold : slept rollbacks ≡ true
-unfolding slept sameCalls sameEvents night turns trials firstDone needsLine bits stateFrom eventsFrom step outcome decide planOf afters after overlay rowsOf allFrom allAtMost pairsOk entryOk headOk wellFormed valuesOk present hops baseRow agrees begins stateNumbers rollbacks
+unfolding slept sameCalls sameEvents night turns trials firstDone needsLine bits stateFrom eventsFrom step outcome decide differ differRow planOf afters after overlay rowsOf allFrom allAtMost pairsOk entryOk headOk wellFormed valuesOk present hops baseRow agrees begins stateNumbers rollbacks
 rollbacks-hold = refl
 
 -- ---- each turn: numbers upward, jobs 1 to 4 for each, the first that isn't refused
@@ -224,7 +225,7 @@ upward =
     ∷ sleeps (rollback 1 ∷ committed) 9 accepted 4 0 (goes 2 2 (goes 2 1 [])) (shows 2 1 1 Pending ∷ shows 2 2 1 Pending ∷ stand 2 2 2 2 2 2 2 2 2 ∷ []) ∷ []
 
 pub upward-hold : slept upward ≡ true
-unfolding slept sameCalls sameEvents night turns trials firstDone needsLine bits stateFrom eventsFrom step outcome decide planOf afters after overlay rowsOf allFrom allAtMost pairsOk entryOk headOk wellFormed valuesOk present hops baseRow agrees begins stateNumbers upward
+unfolding slept sameCalls sameEvents night turns trials firstDone needsLine bits stateFrom eventsFrom step outcome decide differ differRow planOf afters after overlay rowsOf allFrom allAtMost pairsOk entryOk headOk wellFormed valuesOk present hops baseRow agrees begins stateNumbers upward
 upward-hold = refl
 
 -- ---- each turn gives its job's event: none where a job that was cut leaves it one store
@@ -236,7 +237,7 @@ closing =
     ∷ sleeps (work 1 2 1 0 1 ∷ work 1 2 1 0 0 ∷ rolling line) 9 accepted 5 0 (goes 4 1 (goes 3 1 (does 2 1 0 Complete ∷ []))) (reads 3 0 0 0 ∷ shows 1 2 1 Complete ∷ shows 2 2 1 Complete ∷ []) ∷ []
 
 pub closing-hold : slept closing ≡ true
-unfolding slept sameCalls sameEvents night turns trials firstDone needsLine bits stateFrom eventsFrom step outcome decide planOf afters after overlay rowsOf allFrom allAtMost pairsOk entryOk headOk wellFormed valuesOk present hops baseRow agrees begins stateNumbers closing
+unfolding slept sameCalls sameEvents night turns trials firstDone needsLine bits stateFrom eventsFrom step outcome decide differ differRow planOf afters after overlay rowsOf allFrom allAtMost pairsOk entryOk headOk wellFormed valuesOk present hops baseRow agrees begins stateNumbers closing
 closing-hold = refl
 
 -- ---- the jobs done: as many as the budget, or fewer where none is left
@@ -244,10 +245,10 @@ pub counted : List Row
 counted =
     sleeps (rolling line) 0 accepted 0 2 [] (shows 1 2 1 Pending ∷ stand 1 1 1 1 1 0 0 0 0 ∷ []) ∷ sleeps (rolling line) 1 accepted 1 2 (does 2 1 0 InProgress ∷ []) (shows 1 2 1 InProgress ∷ stand 1 1 1 1 1 0 1 0 0 ∷ [])
     ∷ sleeps (rolling line) 5 accepted 5 2 (does 4 1 0 InProgress ∷ goes 3 1 (goes 2 1 [])) (shows 2 2 1 InProgress ∷ []) ∷ sleeps (rolling line) 6 accepted 6 0 (goes 4 1 (goes 3 1 (goes 2 1 []))) []
-    ∷ sleeps (rolling line) 7 accepted 6 0 (goes 4 1 (goes 3 1 (goes 2 1 []))) [] ∷ of fresh (change 7 ∷ master 8 ∷ connect 8 ∷ start ∷ []) 8 2 accepted 0 2 2 (goes 1 1 []) (shows 1 1 1 Complete ∷ []) ∷ []
+    ∷ sleeps (rolling line) 7 accepted 6 0 (goes 4 1 (goes 3 1 (goes 2 1 []))) [] ∷ of (fresh false) (change 7 ∷ master 8 ∷ connect 8 ∷ start ∷ []) 8 2 accepted 0 2 2 (goes 1 1 []) (shows 1 1 1 Complete ∷ []) ∷ []
 
 pub counted-hold : slept counted ≡ true
-unfolding slept sameCalls sameEvents night turns trials firstDone needsLine bits stateFrom eventsFrom step outcome decide planOf afters after overlay rowsOf allFrom allAtMost pairsOk entryOk headOk wellFormed valuesOk present hops baseRow agrees begins stateNumbers counted
+unfolding slept sameCalls sameEvents night turns trials firstDone needsLine bits stateFrom eventsFrom step outcome decide differ differRow planOf afters after overlay rowsOf allFrom allAtMost pairsOk entryOk headOk wellFormed valuesOk present hops baseRow agrees begins stateNumbers counted
 counted-hold = refl
 
 -- ---- why it stopped: 2 where a job could still go; else 1 where some job is refused with 12, at the first number, the last or the
@@ -262,5 +263,5 @@ stopping =
     ∷ sleeps (disconnect 1 ∷ work 1 2 1 0 0 ∷ through 1 1 one) 0 accepted 0 1 [] [] ∷ sleeps (disconnect 1 ∷ through 2 1 (through 1 1 one)) 0 accepted 0 0 [] [] ∷ []
 
 pub stopping-hold : slept stopping ≡ true
-unfolding slept sameCalls sameEvents night turns trials firstDone needsLine bits stateFrom eventsFrom step outcome decide planOf afters after overlay rowsOf allFrom allAtMost pairsOk entryOk headOk wellFormed valuesOk present hops baseRow agrees begins stateNumbers stopping
+unfolding slept sameCalls sameEvents night turns trials firstDone needsLine bits stateFrom eventsFrom step outcome decide differ differRow planOf afters after overlay rowsOf allFrom allAtMost pairsOk entryOk headOk wellFormed valuesOk present hops baseRow agrees begins stateNumbers stopping
 stopping-hold = refl

@@ -44,6 +44,6 @@ abbrev pub note : State → Call → Note
 note s c = cond (eqb (step s c .reply .answer) 0) (noteOf s c) nothing
 
 -- of calls made from fresh, the newest call first
-unfoldable pub notes : List Call → List Note
-notes [] = []
-notes (c ∷ cs) = note (run cs .state) c ∷ notes cs
+unfoldable pub notes : Bool → List Call → List Note
+notes m [] = []
+notes m (c ∷ cs) = note (run m cs .state) c ∷ notes m cs

@@ -11,6 +11,7 @@ use Rattle.rules.specs.declared.Lay.the-variants.{Nothing, Values, Kept}
 use Rattle.machine.specs.State.{State, fresh, entryOf}
 use Rattle.machine.specs.Stores.{after, afters}
 use Rattle.machine.specs.Rows.{overlay, rowsOf}
+use Rattle.machine.specs.Differ.{differ, differRow}
 use Rattle.machine.specs.Laid.{over, ownedOver}
 use Rattle.machine.specs.WellFormed.{allFrom, allAtMost, pairsOk, entryOk, headOk, wellFormed}
 use Rattle.machine.specs.LiveList.{hops}
@@ -41,7 +42,7 @@ allAnswer s os (suc p) = answers s p 0 (named os p) && allAnswer s os p
 
 unfoldable pub owned : List Row → Bool
 owned [] = true
-owned (of cs os ∷ rs) = allAnswer (stateFrom fresh cs) os 32 && owned rs
+owned (of cs os ∷ rs) = allAnswer (stateFrom (fresh false) cs) os 32 && owned rs
 
 -- ---- sessions, the newest first
 abbrev line : List Call
@@ -111,7 +112,7 @@ eachPath =
     ∷ of four (by 0 1 ∷ by 3 2 ∷ by 5 3 ∷ by 31 4 ∷ []) ∷ []
 
 pub eachPath-hold : owned eachPath ≡ true
-unfolding owned allAnswer named read stateFrom step outcome decide planOf afters after overlay rowsOf allFrom allAtMost pairsOk entryOk headOk wellFormed valuesOk present eachPath
+unfolding owned allAnswer named read stateFrom step outcome decide differ differRow planOf afters after overlay rowsOf allFrom allAtMost pairsOk entryOk headOk wellFormed valuesOk present eachPath
 eachPath-hold = refl
 
 -- ---- the number of the newest live change that set it, though it set what was there; whatever is applied
@@ -123,7 +124,7 @@ newest =
     ∷ of (applies 1 two) (by 3 2 ∷ []) ∷ of (applies 2 (applies 1 two)) (by 3 2 ∷ []) ∷ []
 
 pub newest-hold : owned newest ≡ true
-unfolding owned allAnswer named read stateFrom step outcome decide planOf afters after overlay rowsOf allFrom allAtMost pairsOk entryOk headOk wellFormed valuesOk present newest
+unfolding owned allAnswer named read stateFrom step outcome decide differ differRow planOf afters after overlay rowsOf allFrom allAtMost pairsOk entryOk headOk wellFormed valuesOk present newest
 newest-hold = refl
 
 -- ---- a change remembers the earlier numbers of its paths, each in its place, and its rollback brings them back: one after another,
@@ -138,7 +139,7 @@ broughtBack =
     ∷ of (returns 2 (undoes 2 (applies 2 (applies 1 two)))) (by 3 1 ∷ []) ∷ []
 
 pub broughtBack-hold : owned broughtBack ≡ true
-unfolding owned allAnswer named read stateFrom step outcome decide planOf afters after overlay rowsOf allFrom allAtMost pairsOk entryOk headOk wellFormed valuesOk present broughtBack
+unfolding owned allAnswer named read stateFrom step outcome decide differ differRow planOf afters after overlay rowsOf allFrom allAtMost pairsOk entryOk headOk wellFormed valuesOk present broughtBack
 broughtBack-hold = refl
 
 -- ---- what it remembers is what is there when its commit begins: both were appended before 1 is committed, and 1 is undone before
@@ -150,7 +151,7 @@ remembered =
     ∷ of (undoes 2 (work 1 1 2 0 0 ∷ work 1 1 2 0 1 ∷ work 1 1 2 0 0 ∷ sets 3 9 ∷ one)) (by 3 1 ∷ []) ∷ []
 
 pub remembered-hold : owned remembered ≡ true
-unfolding owned allAnswer named read stateFrom step outcome decide planOf afters after overlay rowsOf allFrom allAtMost pairsOk entryOk headOk wellFormed valuesOk present remembered
+unfolding owned allAnswer named read stateFrom step outcome decide differ differRow planOf afters after overlay rowsOf allFrom allAtMost pairsOk entryOk headOk wellFormed valuesOk present remembered
 remembered-hold = refl
 
 -- ---- a path set to absent by a delete has that change's number: over a value, where none was, beside a path that is set, and
@@ -162,7 +163,7 @@ deleted =
     ∷ of (undoes 2 (third 2 0 one)) (by 3 1 ∷ []) ∷ of (undoes 1 (third 1 0 line)) [] ∷ []
 
 pub deleted-hold : owned deleted ≡ true
-unfolding owned allAnswer named read stateFrom step outcome decide planOf afters after overlay rowsOf allFrom allAtMost pairsOk entryOk headOk wellFormed valuesOk present deleted
+unfolding owned allAnswer named read stateFrom step outcome decide differ differRow planOf afters after overlay rowsOf allFrom allAtMost pairsOk entryOk headOk wellFormed valuesOk present deleted
 deleted-hold = refl
 
 -- ---- live from the Complete event of its commit to that of its rollback's: not when it is appended, begun, or its begin cut; with
@@ -177,7 +178,7 @@ live =
     ∷ of (work 1 3 2 0 1 ∷ work 1 3 2 0 0 ∷ rollback 2 ∷ two) (by 3 1 ∷ []) ∷ []
 
 pub live-hold : owned live ≡ true
-unfolding owned allAnswer named read stateFrom step outcome decide planOf afters after overlay rowsOf allFrom allAtMost pairsOk entryOk headOk wellFormed valuesOk present live
+unfolding owned allAnswer named read stateFrom step outcome decide differ differRow planOf afters after overlay rowsOf allFrom allAtMost pairsOk entryOk headOk wellFormed valuesOk present live
 live-hold = refl
 
 -- ---- a change that was rejected owns nothing, its rejection cut or not, and nobody remembers it
@@ -195,17 +196,17 @@ rejected =
     ∷ of (third 3 4 rejects) (by 3 3 ∷ []) ∷ of (undoes 3 (third 3 4 rejects)) (by 3 1 ∷ []) ∷ of (undoes 1 rejects) [] ∷ []
 
 pub rejected-hold : owned rejected ≡ true
-unfolding owned allAnswer named read stateFrom step outcome decide planOf afters after overlay rowsOf allFrom allAtMost pairsOk entryOk headOk wellFormed valuesOk present rejected
+unfolding owned allAnswer named read stateFrom step outcome decide differ differRow planOf afters after overlay rowsOf allFrom allAtMost pairsOk entryOk headOk wellFormed valuesOk present rejected
 rejected-hold = refl
 
 -- ---- a path above 31 is 2
 pub outside : Bool
 outside =
-    (answers fresh 31 0 0 && (answers fresh 32 2 0 && answers fresh 65535 2 0))
-    && (let s = stateFrom fresh (commits 1 (sets 31 7 ∷ line)) in answers s 31 0 1 && (answers s 32 2 0 && (answers s 63 2 0 && answers s 65535 2 0)))
+    (answers (fresh false) 31 0 0 && (answers (fresh false) 32 2 0 && answers (fresh false) 65535 2 0))
+    && (let s = stateFrom (fresh false) (commits 1 (sets 31 7 ∷ line)) in answers s 31 0 1 && (answers s 32 2 0 && (answers s 63 2 0 && answers s 65535 2 0)))
 
 pub outside-hold : outside ≡ true
-unfolding outside read stateFrom step outcome decide planOf afters after overlay rowsOf allFrom allAtMost pairsOk entryOk headOk wellFormed valuesOk present
+unfolding outside read stateFrom step outcome decide differ differRow planOf afters after overlay rowsOf allFrom allAtMost pairsOk entryOk headOk wellFormed valuesOk present
 outside-hold = refl
 
 -- ---- an owner at or below the last fold is answered as 0, and one above it as it is; so is one that a rollback brings back
@@ -228,7 +229,7 @@ folded =
     ∷ of (undoes 3 (foldTo 1 ∷ taken)) (by 4 2 ∷ []) ∷ of (undoes 3 (foldTo 2 ∷ taken)) [] ∷ of (foldTo 1 ∷ undoes 3 taken) (by 4 2 ∷ []) ∷ []
 
 pub folded-hold : owned folded ≡ true
-unfolding owned allAnswer named read stateFrom step outcome decide planOf afters after overlay rowsOf allFrom allAtMost pairsOk entryOk headOk wellFormed valuesOk present hops baseRow folded
+unfolding owned allAnswer named read stateFrom step outcome decide differ differRow planOf afters after overlay rowsOf allFrom allAtMost pairsOk entryOk headOk wellFormed valuesOk present hops baseRow folded
 folded-hold = refl
 
 -- ---- what the stores of owners come to: a job of node 1 after a session, and of which kind it is; path 0 has an owner, so that one
@@ -244,7 +245,7 @@ sameOwners a b (suc p) = eqb (getD a p 0) (getD b p 0) && sameOwners a b p
 unfoldable pub stores : List Stored → Bool
 stores [] = true
 stores (does cs j i v ∷ rest) =
-    let s = stateFrom fresh cs in
+    let s = stateFrom (fresh false) cs in
     sameOwners (step s (work 1 j i 0 0) .next .committed .owners) (ownedOver v (entryOf (s .log) i) i (s .committed .owners)) 32 && stores rest
 
 -- 2 of path 3 is begun over 1 of path 0 and 3
@@ -257,7 +258,7 @@ stored =
     ∷ does (work 1 3 2 0 0 ∷ rollback 2 ∷ work 1 1 2 0 0 ∷ begun) 3 2 Kept ∷ does (work 1 3 5 0 0 ∷ rollback 5 ∷ five) 3 5 Kept ∷ []
 
 pub stored-hold : stores stored ≡ true
-unfolding stores sameOwners over stateFrom step outcome decide planOf afters after overlay rowsOf allFrom allAtMost pairsOk entryOk headOk wellFormed valuesOk present stored
+unfolding stores sameOwners over stateFrom step outcome decide differ differRow planOf afters after overlay rowsOf allFrom allAtMost pairsOk entryOk headOk wellFormed valuesOk present stored
 stored-hold = refl
 
 -- ---- what an entry remembers, which no answer shows: nothing when it is appended, and from its begin on the owners that its paths
@@ -267,7 +268,7 @@ pub data Recalled : Type 0 where
 
 unfoldable pub recalling : List Recalled → Bool
 recalling [] = true
-recalling (of-entry cs i os ∷ rest) = sameOwners (entryOf (stateFrom fresh cs .log) i .owners) os 4 && recalling rest
+recalling (of-entry cs i os ∷ rest) = sameOwners (entryOf (stateFrom (fresh false) cs .log) i .owners) os 4 && recalling rest
 
 pub recalled : List Recalled
 recalled =
@@ -275,5 +276,5 @@ recalled =
     ∷ of-entry five 5 (1 ∷ 2 ∷ 3 ∷ 4 ∷ []) ∷ of-entry (undoes 5 five) 5 (1 ∷ 2 ∷ 3 ∷ 4 ∷ []) ∷ []
 
 pub recalled-hold : recalling recalled ≡ true
-unfolding recalling sameOwners stateFrom step outcome decide planOf afters after overlay rowsOf allFrom allAtMost pairsOk entryOk headOk wellFormed valuesOk present recalled
+unfolding recalling sameOwners stateFrom step outcome decide differ differRow planOf afters after overlay rowsOf allFrom allAtMost pairsOk entryOk headOk wellFormed valuesOk present recalled
 recalled-hold = refl

@@ -10,6 +10,7 @@ use Rattle.rules.specs.declared.Lay.the-variants.{Nothing, Values, Kept}
 use Rattle.machine.specs.State.{State, fresh, entryOf}
 use Rattle.machine.specs.Stores.{after, afters}
 use Rattle.machine.specs.Rows.{overlay, rowsOf}
+use Rattle.machine.specs.Differ.{differ, differRow}
 use Rattle.machine.specs.Laid.{over, laidOver}
 use Rattle.machine.specs.WellFormed.{allFrom, allAtMost, pairsOk, entryOk, headOk, wellFormed}
 use Rattle.machine.specs.LiveList.{hops}
@@ -47,17 +48,17 @@ made (of s cs c a p g i x n ls ∷ rs) =
 -- ---- calls, shorter
 -- node 1 does a job after a session from fresh, and its event has this status; or it gives none
 abbrev gives : List Call → (job number outcome cut status : ℕ) → Note → List Line → Row
-gives cs j i r c x n ls = of fresh cs (work 1 j i r c) 0 (cond (leb j 2) 1 2) (cond (eqb j 1 || eqb j 3) 1 2) i x n ls
+gives cs j i r c x n ls = of (fresh false) cs (work 1 j i r c) 0 (cond (leb j 2) 1 2) (cond (eqb j 1 || eqb j 3) 1 2) i x n ls
 
 abbrev quiet : List Call → (job number outcome cut : ℕ) → Note → List Line → Row
-quiet cs j i r c n ls = of fresh cs (work 1 j i r c) 0 0 0 0 0 n ls
+quiet cs j i r c n ls = of (fresh false) cs (work 1 j i r c) 0 0 0 0 0 n ls
 
 -- a call that gives no event; and one that is refused, which is noted as nothing
 abbrev accepts : List Call → Call → Note → List Line → Row
-accepts cs c n ls = of fresh cs c 0 0 0 0 0 n ls
+accepts cs c n ls = of (fresh false) cs c 0 0 0 0 0 n ls
 
 abbrev refuses : (answer : ℕ) → List Call → Call → List Line → Row
-refuses a cs c ls = of fresh cs c a 0 0 0 0 nothing ls
+refuses a cs c ls = of (fresh false) cs c a 0 0 0 0 nothing ls
 
 -- Committed's index, change, target, revision and ordinal; Applied's index, target, revision and ordinal
 abbrev pub stand : (i n g r o a t v u : ℕ) → Line
@@ -120,7 +121,7 @@ whole =
     ∷ gives liftedOff 4 2 0 0 3 (full 2) (stand 2 2 1 1 3 2 1 1 3 ∷ statuses 2 2 3 3 2 3 3 3 ∷ reads 3 7 7 7 ∷ reads 4 8 8 8 ∷ reads 5 9 9 9 ∷ reads 31 10 10 10 ∷ []) ∷ []
 
 pub whole-hold : made whole ≡ true
-unfolding made stateFrom step outcome decide planOf afters after overlay rowsOf allFrom allAtMost pairsOk entryOk headOk wellFormed valuesOk present agrees begins entryNumbers stateNumbers whole
+unfolding made stateFrom step outcome decide differ differRow planOf afters after overlay rowsOf allFrom allAtMost pairsOk entryOk headOk wellFormed valuesOk present agrees begins entryNumbers stateNumbers whole
 whole-hold = refl
 
 -- ---- cut 1 keeps only the first store, the target's
@@ -134,7 +135,7 @@ firstOnly =
     ∷ quiet liftedOff 4 2 0 1 (half 2) (stand 2 2 1 1 3 2 1 2 2 ∷ statuses 2 2 3 3 2 3 2 3 ∷ reads 3 7 11 7 ∷ reads 4 8 8 8 ∷ reads 5 9 0 9 ∷ reads 31 10 10 10 ∷ []) ∷ []
 
 pub first-only-hold : made firstOnly ≡ true
-unfolding made stateFrom step outcome decide planOf afters after overlay rowsOf allFrom allAtMost pairsOk entryOk headOk wellFormed valuesOk present agrees begins entryNumbers stateNumbers firstOnly
+unfolding made stateFrom step outcome decide differ differRow planOf afters after overlay rowsOf allFrom allAtMost pairsOk entryOk headOk wellFormed valuesOk present agrees begins entryNumbers stateNumbers firstOnly
 first-only-hold = refl
 
 -- ---- cut 2 keeps the first two: the status is left
@@ -148,7 +149,7 @@ firstTwo =
     ∷ gives liftedOff 4 2 0 2 3 (full 2) (stand 2 2 1 1 3 2 1 1 3 ∷ statuses 2 2 3 3 2 3 2 3 ∷ reads 3 7 7 7 ∷ reads 4 8 8 8 ∷ reads 5 9 9 9 ∷ reads 31 10 10 10 ∷ []) ∷ []
 
 pub first-two-hold : made firstTwo ≡ true
-unfolding made stateFrom step outcome decide planOf afters after overlay rowsOf allFrom allAtMost pairsOk entryOk headOk wellFormed valuesOk present agrees begins entryNumbers stateNumbers firstTwo
+unfolding made stateFrom step outcome decide differ differRow planOf afters after overlay rowsOf allFrom allAtMost pairsOk entryOk headOk wellFormed valuesOk present agrees begins entryNumbers stateNumbers firstTwo
 first-two-hold = refl
 
 -- ---- the event comes with the second store of a push, and with the first of every other rule: a rejected one too
@@ -164,7 +165,7 @@ told =
     ∷ gives (undone (applied one)) 4 1 0 1 2 nothing [] ∷ gives (work 1 2 1 0 0 ∷ undone (committed one)) 4 1 0 1 5 nothing [] ∷ []
 
 pub told-hold : made told ≡ true
-unfolding made stateFrom step outcome decide planOf afters after overlay rowsOf allFrom allAtMost pairsOk entryOk headOk wellFormed valuesOk present agrees begins told
+unfolding made stateFrom step outcome decide differ differRow planOf afters after overlay rowsOf allFrom allAtMost pairsOk entryOk headOk wellFormed valuesOk present agrees begins told
 told-hold = refl
 
 -- ---- cut may be 0, 1 or 2; above 2 is 2, before 5, 10, 11, 12 and 13
@@ -178,7 +179,7 @@ cuts =
     ∷ refuses 13 (returning one) (work 1 4 1 1 2) (reads 3 0 7 7 ∷ []) ∷ []
 
 pub cuts-hold : made cuts ≡ true
-unfolding made stateFrom step outcome decide planOf afters after overlay rowsOf allFrom allAtMost pairsOk entryOk headOk wellFormed valuesOk present agrees begins entryNumbers stateNumbers cuts
+unfolding made stateFrom step outcome decide differ differRow planOf afters after overlay rowsOf allFrom allAtMost pairsOk entryOk headOk wellFormed valuesOk present agrees begins entryNumbers stateNumbers cuts
 cuts-hold = refl
 
 -- ---- cut 2 does nothing special in rules with fewer than three stores
@@ -196,7 +197,7 @@ ofTwo =
     ∷ gives (work 1 2 1 0 0 ∷ undone (committed one)) 4 1 0 2 5 nothing (stand 1 1 0 0 2 1 0 0 2 ∷ statuses 1 2 3 4 1 3 5 2 ∷ reads 3 0 0 0 ∷ []) ∷ []
 
 pub of-two-hold : made ofTwo ≡ true
-unfolding made stateFrom step outcome decide planOf afters after overlay rowsOf allFrom allAtMost pairsOk entryOk headOk wellFormed valuesOk present agrees begins entryNumbers stateNumbers ofTwo
+unfolding made stateFrom step outcome decide differ differRow planOf afters after overlay rowsOf allFrom allAtMost pairsOk entryOk headOk wellFormed valuesOk present agrees begins entryNumbers stateNumbers ofTwo
 of-two-hold = refl
 
 -- of one, which is what a cut left: it is made. The status that begins jobs 1 to 4, and the one that ends them; the closing store
@@ -216,7 +217,7 @@ ofOne =
     ∷ quiet (work 1 4 1 0 1 ∷ work 1 2 1 0 0 ∷ undone (committed one)) 4 1 0 2 nothing (stand 1 1 0 0 2 1 0 0 2 ∷ statuses 1 2 3 4 1 3 5 2 ∷ []) ∷ []
 
 pub of-one-hold : made ofOne ≡ true
-unfolding made stateFrom step outcome decide planOf afters after overlay rowsOf allFrom allAtMost pairsOk entryOk headOk wellFormed valuesOk present agrees begins entryNumbers stateNumbers ofOne
+unfolding made stateFrom step outcome decide differ differRow planOf afters after overlay rowsOf allFrom allAtMost pairsOk entryOk headOk wellFormed valuesOk present agrees begins entryNumbers stateNumbers ofOne
 of-one-hold = refl
 
 -- ---- called again: after the first of three stores, with the line open and the same outcome, it ends as the uncut job; cut again, it
@@ -241,7 +242,7 @@ again =
     ∷ quiet (disconnect 1 ∷ work 1 4 2 0 2 ∷ liftedOff) 4 2 1 1 nothing (stand 2 2 1 1 3 2 1 1 3 ∷ statuses 2 2 3 3 2 3 3 3 ∷ reads 3 7 7 7 ∷ reads 5 9 9 9 ∷ []) ∷ []
 
 pub again-hold : made again ≡ true
-unfolding made stateFrom step outcome decide planOf afters after overlay rowsOf allFrom allAtMost pairsOk entryOk headOk wellFormed valuesOk present agrees begins entryNumbers stateNumbers again
+unfolding made stateFrom step outcome decide differ differRow planOf afters after overlay rowsOf allFrom allAtMost pairsOk entryOk headOk wellFormed valuesOk present agrees begins entryNumbers stateNumbers again
 again-hold = refl
 
 -- ---- the line lost after a cut at the first store: the synchronise that wrote puts the applied values there; the pairs come with the
@@ -252,12 +253,12 @@ lost = connect 1 ∷ master 1 ∷ disconnect 1 ∷ work 1 2 1 0 1 ∷ begun one
 pub rewritten : List Row
 rewritten =
     refuses 12 (disconnect 1 ∷ work 1 2 1 0 1 ∷ begun one) (work 1 2 1 0 0) (reads 3 7 0 7 ∷ [])
-    ∷ accepts (master 1 ∷ lost) (sync 1) nothing (nets (2 ∷ 1 ∷ 1 ∷ 2 ∷ []) ∷ reads 3 7 0 7 ∷ []) ∷ accepts (sync 1 ∷ master 1 ∷ lost) (sync 1) wrote (nets (3 ∷ 2 ∷ 1 ∷ 2 ∷ []) ∷ stand 1 1 1 1 1 0 1 0 0 ∷ reads 3 7 0 0 ∷ [])
+    ∷ accepts (master 1 ∷ lost) (sync 1) nothing (nets (2 ∷ 1 ∷ 1 ∷ 2 ∷ []) ∷ reads 3 7 0 7 ∷ []) ∷ of (fresh false) (sync 1 ∷ master 1 ∷ lost) (sync 1) 0 0 0 1 0 wrote (nets (3 ∷ 2 ∷ 1 ∷ 2 ∷ []) ∷ stand 1 1 1 1 1 0 1 0 0 ∷ reads 3 7 0 0 ∷ [])
     ∷ gives (sync 1 ∷ sync 1 ∷ master 1 ∷ lost) 2 1 0 0 3 (full 1) (stand 1 1 1 1 1 1 1 1 1 ∷ statuses 1 1 3 3 1 0 0 0 ∷ reads 3 7 7 7 ∷ [])
     ∷ accepts (work 1 2 1 0 1 ∷ begun one) stop nothing (reads 3 7 0 0 ∷ []) ∷ []
 
 pub rewritten-hold : made rewritten ≡ true
-unfolding made stateFrom step outcome decide planOf afters after overlay rowsOf allFrom allAtMost pairsOk entryOk headOk wellFormed valuesOk present agrees begins entryNumbers stateNumbers rewritten
+unfolding made stateFrom step outcome decide differ differRow planOf afters after overlay rowsOf allFrom allAtMost pairsOk entryOk headOk wellFormed valuesOk present agrees begins entryNumbers stateNumbers rewritten
 rewritten-hold = refl
 
 -- ---- a fold beside a cut push: not while it is the next, and of what lies below it once it has ended Failed
@@ -268,7 +269,7 @@ cutAbove =
     ∷ refuses 17 (work 1 2 2 1 0 ∷ work 1 2 2 0 1 ∷ laidOn) (foldTo 2) (reads 3 11 7 11 ∷ []) ∷ []
 
 pub cut-above-hold : made cutAbove ≡ true
-unfolding made stateFrom step outcome decide planOf afters after overlay rowsOf allFrom allAtMost pairsOk entryOk headOk wellFormed valuesOk present hops baseRow agrees begins entryNumbers stateNumbers cutAbove
+unfolding made stateFrom step outcome decide differ differRow planOf afters after overlay rowsOf allFrom allAtMost pairsOk entryOk headOk wellFormed valuesOk present hops baseRow agrees begins entryNumbers stateNumbers cutAbove
 cut-above-hold = refl
 
 -- ---- the target holds the applied values, or those overlaid with a transaction's pairs or with its rollback values
@@ -289,7 +290,7 @@ sameBool false b = not b
 unfoldable pub held : List Held → Bool
 held [] = true
 held (by cs k a p v ∷ hs) =
-    let s = stateFrom fresh cs in
+    let s = stateFrom (fresh false) cs in
     (sameBool (laidBy s k Nothing) a && (sameBool (laidBy s k Values) p && sameBool (laidBy s k Kept) v)) && held hs
 
 -- 2 beside what 1 has set, path 0 among it: pairs in unused places would show
@@ -313,7 +314,7 @@ shapes =
     ∷ by (sync 1 ∷ sync 1 ∷ master 1 ∷ lost) 1 true false true ∷ []
 
 pub shapes-hold : held shapes ≡ true
-unfolding held over stateFrom step outcome decide planOf afters after overlay rowsOf allFrom allAtMost pairsOk entryOk headOk wellFormed valuesOk present begins shapes
+unfolding held over stateFrom step outcome decide differ differRow planOf afters after overlay rowsOf allFrom allAtMost pairsOk entryOk headOk wellFormed valuesOk present begins shapes
 shapes-hold = refl
 
 -- ---- what the calls of a session are noted as: its calls with the notes, the newest first
@@ -328,7 +329,7 @@ sameNotes (m ∷ ms) (n ∷ ns) = sameNote m n && sameNotes ms ns
 
 unfoldable pub remembered : List Noted → Bool
 remembered [] = true
-remembered (of cs ns ∷ rs) = sameNotes (notes cs) ns && remembered rs
+remembered (of cs ns ∷ rs) = sameNotes (notes false cs) ns && remembered rs
 
 -- nothing, so many times
 unfoldable pub silent : ℕ → List Note → List Note
@@ -356,7 +357,7 @@ pushing =
     ∷ of (work 2 2 1 0 0 ∷ work 2 2 1 0 1 ∷ work 2 2 1 0 0 ∷ work 2 1 1 0 0 ∷ work 2 1 1 0 0 ∷ append (pair 3 7 ∷ []) ∷ sync 2 ∷ sync 2 ∷ master 2 ∷ connect 2 ∷ start ∷ []) (full 1 ∷ half 1 ∷ atBegun) ∷ []
 
 pub pushing-hold : remembered pushing ≡ true
-unfolding remembered sameNotes silent notes run step outcome decide planOf afters after overlay rowsOf allFrom allAtMost pairsOk entryOk headOk wellFormed valuesOk present begins pushing
+unfolding remembered sameNotes silent notes run step outcome decide differ differRow planOf afters after overlay rowsOf allFrom allAtMost pairsOk entryOk headOk wellFormed valuesOk present begins pushing
 pushing-hold = refl
 
 -- every other call: each of the others, accepted; jobs of one store and of two, whatever their cut; a rejected push
@@ -369,7 +370,7 @@ quietly =
     ∷ of (work 1 4 1 0 0 ∷ work 1 4 1 0 2 ∷ returning one) (nothing ∷ full 1 ∷ atReturning) ∷ of (sync 2 ∷ master 2 ∷ master 1 ∷ disconnect 1 ∷ connect 2 ∷ line) (silent 5 onLine) ∷ []
 
 pub quietly-hold : remembered quietly ≡ true
-unfolding remembered sameNotes silent notes run step outcome decide planOf afters after overlay rowsOf allFrom allAtMost pairsOk entryOk headOk wellFormed valuesOk present hops baseRow begins quietly
+unfolding remembered sameNotes silent notes run step outcome decide differ differRow planOf afters after overlay rowsOf allFrom allAtMost pairsOk entryOk headOk wellFormed valuesOk present hops baseRow begins quietly
 quietly-hold = refl
 
 -- a refused call: a push of a cut or a node out of range or by another node, without a line, rejected; a synchronise by another node
@@ -384,7 +385,7 @@ unnoted =
     ∷ of (sync 2 ∷ waiting) (silent 6 []) ∷ of (sync 9 ∷ waiting) (silent 6 []) ∷ of (sync 1 ∷ disconnect 1 ∷ waiting) (silent 7 []) ∷ of (sync 1 ∷ line) (nothing ∷ onLine) ∷ of (sync 1 ∷ []) (nothing ∷ []) ∷ []
 
 pub unnoted-hold : remembered unnoted ≡ true
-unfolding remembered sameNotes silent notes run step outcome decide planOf afters after overlay rowsOf allFrom allAtMost pairsOk entryOk headOk wellFormed valuesOk present begins unnoted
+unfolding remembered sameNotes silent notes run step outcome decide differ differRow planOf afters after overlay rowsOf allFrom allAtMost pairsOk entryOk headOk wellFormed valuesOk present begins unnoted
 unnoted-hold = refl
 
 -- ---- which retries are promised (Retry): of each order of stores, cut after the first or the second, with outcome 0 or 1, called

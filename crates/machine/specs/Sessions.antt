@@ -17,6 +17,7 @@ use Rattle.kinds.specs.Events.{event, numbered, refusal}
 use Rattle.machine.specs.State.{State, fresh, entryOf, nodeOf}
 use Rattle.machine.specs.Stores.{after, afters}
 use Rattle.machine.specs.Rows.{overlay, rowsOf}
+use Rattle.machine.specs.Differ.{differ, differRow}
 use Rattle.machine.specs.WellFormed.{allFrom, allAtMost, pairsOk, entryOk, headOk, wellFormed}
 use Rattle.machine.specs.Reads.{Query, entryNumbers, stateNumbers, nodeNumbers, read}
 use Rattle.machine.specs.Calls.{Call, append, rollback, start, connect, master, sync, work, valuesOk, present, planOf, decide}
@@ -78,7 +79,7 @@ agrees s (asks q a v ∷ ls) = let x = read s q in (eqb (x .answer) a && eqb (x 
 
 unfoldable pub agree : List (List Line) → Bool
 agree [] = true
-agree (ls ∷ rest) = agrees fresh ls && agree rest
+agree (ls ∷ rest) = agrees (fresh false) ls && agree rest
 
 -- ---- lines, shorter
 abbrev pub accepts : Call → Line
@@ -203,5 +204,5 @@ pub sessions : List (List Line)
 sessions = p1 ∷ p2 ∷ p3 ∷ p4 ∷ p5 ∷ p6 ∷ p7 ∷ p8 ∷ p9 ∷ p10 ∷ p11 ∷ p12 ∷ example ∷ []
 
 pub sessions-hold : agree sessions ≡ true
-unfolding agree agrees step outcome decide wellFormed allFrom allAtMost entryOk headOk pairsOk valuesOk planOf rowsOf overlay present after afters sessions filled p1 p2 p3 p4 p5 p6 p7 p8 p9 p10 p11 p12 example
+unfolding agree agrees step outcome decide differ differRow wellFormed allFrom allAtMost entryOk headOk pairsOk valuesOk planOf rowsOf overlay present after afters sessions filled p1 p2 p3 p4 p5 p6 p7 p8 p9 p10 p11 p12 example
 sessions-hold = refl

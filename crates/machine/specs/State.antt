@@ -51,10 +51,11 @@ pub record State : Type 0 where
   pub committed : Ledger
   -- its ordinal ≤ Committed's; its values are those of the changes taken by the switch and not undone
   pub applied : Part
-  -- line open: the target's values are the applied values; nobody is connected to a stopped target
+  -- line open: the target's values are the applied ones, or those with one cut push laid over; nobody is connected to a stopped
+  -- target
   pub net : Net
 
--- ---- fresh
+-- ---- fresh, of either kind: m says whether the target remembers its values (order 13)
 abbrev pub absent : List ℕ
 absent = replicate 32 0
 
@@ -67,13 +68,13 @@ freshLedger = record { head = freshPart .head; values = absent; owners = absent 
 abbrev pub never : Connection
 never = record { id = 0; connected = false }
 
-abbrev pub freshNet : Net
-freshNet =
+abbrev pub freshNet : Bool → Net
+freshNet m =
     record {
       configuration = record { state = Pending; term = trm 0 };
       mastership = record { master = 0; term = trm 0; conn = 0 };
       connections = replicate 8 never;
-      target = record { id = 0; running = false };
+      target = record { id = 0; running = false; remembers = m };
       values = absent;
     }
 
@@ -81,8 +82,8 @@ freshNet =
 abbrev pub unfolded : List Transaction → Log
 unfolded ts = record { folded = num 0; base = absent; entries = ts }
 
-abbrev pub fresh : State
-fresh = record { log = unfolded []; change = num 0; committed = freshLedger; applied = freshPart; net = freshNet }
+abbrev pub fresh : Bool → State
+fresh m = record { log = unfolded []; change = num 0; committed = freshLedger; applied = freshPart; net = freshNet m }
 
 -- ---- entries of the log and nodes, both counted from 1
 abbrev pub four : List ℕ

@@ -1,5 +1,6 @@
--- One call: refusal 1 first, then what is decided, and its stores made. And any calls from fresh. Assumes nothing.
+-- One call: refusal 1 first, then what is decided, and its stores made. And any calls from fresh of either kind. Assumes nothing.
 use mathlib.Core.List.{List, [], _∷_}
+use mathlib.Core.Bool.{Bool}
 use Rattle.kinds.specs.declared.Reply.{Reply}
 use Rattle.kinds.specs.declared.Event.{Event}
 use Rattle.machine.specs.State.{State, fresh}
@@ -17,14 +18,14 @@ pub record Stepped : Type 0 where
 unfoldable pub step : State → Call → Stepped
 step s c = let o = outcome s c in record { reply = o .reply; next = afters s (o .stores) }
 
--- the state after calls made from fresh, and the events given, the newest call first
+-- the state after calls made from fresh, its target remembering or not, and the events given, the newest call first
 pub record Past : Type 0 where
   pub state : State
   pub events : List Event
 
-unfoldable pub run : List Call → Past
-run [] = record { state = fresh; events = [] }
-run (c ∷ cs) = let o = step (run cs .state) c in record { state = o .next; events = o .reply .event ∷ run cs .events }
+unfoldable pub run : Bool → List Call → Past
+run m [] = record { state = fresh m; events = [] }
+run m (c ∷ cs) = let o = step (run m cs .state) c in record { state = o .next; events = o .reply .event ∷ run m cs .events }
 
 -- the state after calls made from any state, and the events that they give, the newest first
 unfoldable pub stateFrom : State → List Call → State

@@ -2,12 +2,13 @@
 -- answer is also held to the job's own, accepted and rejected. Assumes nothing.
 use Prim.Native.Nat.{ℕ}
 use mathlib.Core.List.{List, [], _∷_}
-use mathlib.Core.Bool.{Bool, true, not, _&&_}
+use mathlib.Core.Bool.{Bool, true, false, not, _&&_}
 use mathlib.Core.Path.{_≡_, refl}
 use lib.Dec.{eqb}
 use Rattle.machine.specs.State.{State, fresh}
 use Rattle.machine.specs.Stores.{after, afters}
 use Rattle.machine.specs.Rows.{overlay, rowsOf}
+use Rattle.machine.specs.Differ.{differ, differRow}
 use Rattle.machine.specs.WellFormed.{allFrom, allAtMost, pairsOk, entryOk, headOk, wellFormed}
 use Rattle.machine.specs.LiveList.{hops}
 use Rattle.machine.specs.Folding.{baseRow}
@@ -91,7 +92,7 @@ abbrev returned : List Call
 returned = through 3 2 (rollback 2 ∷ committed)
 
 abbrev row : List Call → List Line → Row
-row cs ls = of fresh cs ls
+row cs ls = of (fresh false) cs ls
 
 -- ---- 1 already finished: Done, with no closing store left
 pub finished : List Row
@@ -106,7 +107,7 @@ finished =
     ∷ row (job 4 2 ∷ job 2 2 ∷ through 2 1 returned) (waits 4 2 1 0 ∷ waits 2 2 1 0 ∷ []) ∷ row (cut 4 2 ∷ job 2 2 ∷ through 2 1 returned) (closes 4 2 ∷ []) ∷ []
 
 pub finished-hold : all finished ≡ true
-unfolding all agrees why stateFrom step outcome decide planOf afters after overlay rowsOf allFrom allAtMost pairsOk entryOk headOk wellFormed valuesOk present firstOf lowest hops baseRow finished
+unfolding all agrees why stateFrom step outcome decide differ differRow planOf afters after overlay rowsOf allFrom allAtMost pairsOk entryOk headOk wellFormed valuesOk present firstOf lowest hops baseRow finished
 finished-hold = refl
 
 -- ---- 2 no rollback asked
@@ -116,7 +117,7 @@ unasked =
     ∷ row (rollback 2 ∷ committed) (goes 3 2 ∷ waits 4 2 6 0 ∷ waits 3 1 2 0 ∷ waits 4 1 2 0 ∷ []) ∷ []
 
 pub unasked-hold : all unasked ≡ true
-unfolding all agrees why stateFrom step outcome decide planOf afters after overlay rowsOf allFrom allAtMost pairsOk entryOk headOk wellFormed valuesOk present firstOf lowest hops baseRow unasked
+unfolding all agrees why stateFrom step outcome decide differ differRow planOf afters after overlay rowsOf allFrom allAtMost pairsOk entryOk headOk wellFormed valuesOk present firstOf lowest hops baseRow unasked
 unasked-hold = refl
 
 -- ---- 3 an earlier change not yet through commit: change + 1, if below the number
@@ -127,7 +128,7 @@ earlier =
     ∷ row (change 4 ∷ returned) (goes 1 3 ∷ waits 1 4 3 3 ∷ []) ∷ row (change 4 ∷ through 3 1 (rollback 1 ∷ returned)) (goes 1 3 ∷ waits 1 4 3 3 ∷ []) ∷ []
 
 pub earlier-hold : all earlier ≡ true
-unfolding all agrees why stateFrom step outcome decide planOf afters after overlay rowsOf allFrom allAtMost pairsOk entryOk headOk wellFormed valuesOk present firstOf lowest hops baseRow earlier
+unfolding all agrees why stateFrom step outcome decide differ differRow planOf afters after overlay rowsOf allFrom allAtMost pairsOk entryOk headOk wellFormed valuesOk present firstOf lowest hops baseRow earlier
 earlier-hold = refl
 
 -- ---- 4 another commit in flight: the target if above change, else the lowest in progress, else the revision
@@ -140,7 +141,7 @@ flying =
     ∷ row (cut 3 1 ∷ rollback 1 ∷ returned) (goes 3 1 ∷ waits 1 3 4 1 ∷ []) ∷ row (through 3 1 (rollback 1 ∷ returned)) (goes 1 3 ∷ []) ∷ []
 
 pub flying-hold : all flying ≡ true
-unfolding all agrees why stateFrom step outcome decide planOf afters after overlay rowsOf allFrom allAtMost pairsOk entryOk headOk wellFormed valuesOk present firstOf lowest hops baseRow flying
+unfolding all agrees why stateFrom step outcome decide differ differRow planOf afters after overlay rowsOf allFrom allAtMost pairsOk entryOk headOk wellFormed valuesOk present firstOf lowest hops baseRow flying
 flying-hold = refl
 
 -- ---- 5 a later live change on top: the revision, if above the number
@@ -150,7 +151,7 @@ covered =
     ∷ row (rollback 2 ∷ rollback 1 ∷ through 1 3 committed) (waits 3 1 5 3 ∷ waits 3 2 5 3 ∷ []) ∷ row (rollback 1 ∷ returned) (goes 3 1 ∷ []) ∷ []
 
 pub covered-hold : all covered ≡ true
-unfolding all agrees why stateFrom step outcome decide planOf afters after overlay rowsOf allFrom allAtMost pairsOk entryOk headOk wellFormed valuesOk present firstOf lowest hops baseRow covered
+unfolding all agrees why stateFrom step outcome decide differ differRow planOf afters after overlay rowsOf allFrom allAtMost pairsOk entryOk headOk wellFormed valuesOk present firstOf lowest hops baseRow covered
 covered-hold = refl
 
 -- ---- 6 not yet committed
@@ -161,7 +162,7 @@ uncommitted =
     ∷ row (cut 3 2 ∷ job 3 2 ∷ rollback 2 ∷ committed) (waits 4 2 6 0 ∷ []) ∷ []
 
 pub uncommitted-hold : all uncommitted ≡ true
-unfolding all agrees why stateFrom step outcome decide planOf afters after overlay rowsOf allFrom allAtMost pairsOk entryOk headOk wellFormed valuesOk present firstOf lowest hops baseRow uncommitted
+unfolding all agrees why stateFrom step outcome decide differ differRow planOf afters after overlay rowsOf allFrom allAtMost pairsOk entryOk headOk wellFormed valuesOk present firstOf lowest hops baseRow uncommitted
 uncommitted-hold = refl
 
 -- ---- 7 an earlier ordinal not settled: the applied one, or where it is settled the one after, if below the job's own
@@ -173,7 +174,7 @@ unsettled =
     ∷ row (through 3 2 (rollback 2 ∷ unmarked 2 2 ∷ job 2 2 ∷ through 2 1 committed)) (goes 2 2 ∷ waits 4 2 7 2 ∷ []) ∷ row (job 2 2 ∷ through 2 1 returned) (goes 4 2 ∷ []) ∷ []
 
 pub unsettled-hold : all unsettled ≡ true
-unfolding all agrees why stateFrom step outcome decide planOf afters after overlay rowsOf allFrom allAtMost pairsOk entryOk headOk wellFormed valuesOk present firstOf lowest hops baseRow unsettled
+unfolding all agrees why stateFrom step outcome decide differ differRow planOf afters after overlay rowsOf allFrom allAtMost pairsOk entryOk headOk wellFormed valuesOk present firstOf lowest hops baseRow unsettled
 unsettled-hold = refl
 
 -- ---- the first of those that fit, in the order of the job: two or more fit
@@ -185,7 +186,7 @@ firsts =
     ∷ row (job 3 2 ∷ rollback 2 ∷ rollback 1 ∷ committed) (waits 3 1 4 2 ∷ []) ∷ []
 
 pub firsts-hold : all firsts ≡ true
-unfolding all agrees why stateFrom step outcome decide planOf afters after overlay rowsOf allFrom allAtMost pairsOk entryOk headOk wellFormed valuesOk present firstOf lowest hops baseRow firsts
+unfolding all agrees why stateFrom step outcome decide differ differRow planOf afters after overlay rowsOf allFrom allAtMost pairsOk entryOk headOk wellFormed valuesOk present firstOf lowest hops baseRow firsts
 firsts-hold = refl
 
 -- ---- refusals: 2, 5 and 10 as in a job; 15 where it would not answer 11: it goes, has no line (12) or is rejected (13)
@@ -197,7 +198,7 @@ refusing =
     ∷ row (job 2 1 ∷ through 1 1 (change 7 ∷ led)) (goes 2 1 ∷ []) ∷ row (job 4 2 ∷ through 3 2 (rollback 2 ∷ through 2 2 (through 2 1 committed))) (goes 4 2 ∷ []) ∷ []
 
 pub refusing-hold : all refusing ≡ true
-unfolding all agrees why stateFrom step outcome decide planOf afters after overlay rowsOf allFrom allAtMost pairsOk entryOk headOk wellFormed valuesOk present firstOf lowest hops baseRow refusing
+unfolding all agrees why stateFrom step outcome decide differ differRow planOf afters after overlay rowsOf allFrom allAtMost pairsOk entryOk headOk wellFormed valuesOk present firstOf lowest hops baseRow refusing
 refusing-hold = refl
 
 -- 1 applied and folded away, 2 and 3 after it
@@ -212,5 +213,5 @@ kept =
     ∷ row (change 6 ∷ cut 3 3 ∷ job 3 3 ∷ rollback 3 ∷ through 1 3 (through 1 2 folded)) (waits 1 4 4 3 ∷ waits 4 3 6 0 ∷ []) ∷ []
 
 pub kept-hold : all kept ≡ true
-unfolding all agrees why stateFrom step outcome decide planOf afters after overlay rowsOf allFrom allAtMost pairsOk entryOk headOk wellFormed valuesOk present firstOf lowest hops baseRow kept
+unfolding all agrees why stateFrom step outcome decide differ differRow planOf afters after overlay rowsOf allFrom allAtMost pairsOk entryOk headOk wellFormed valuesOk present firstOf lowest hops baseRow kept
 kept-hold = refl

@@ -3,11 +3,12 @@
 -- for each part of the paper, computed: the one that fails tells which sentence a definition breaks. Assumes nothing.
 use Prim.Native.Nat.{ℕ}
 use mathlib.Core.List.{List, [], _∷_, _++_, map}
-use mathlib.Core.Bool.{Bool, true, _&&_}
+use mathlib.Core.Bool.{Bool, true, false, _&&_}
 use mathlib.Core.Path.{_≡_, refl}
 use Rattle.kinds.specs.declared.Event.{Event}
 use Rattle.machine.specs.Stores.{after, afters}
 use Rattle.machine.specs.Rows.{overlay, rowsOf}
+use Rattle.machine.specs.Differ.{differ, differRow}
 use Rattle.machine.specs.WellFormed.{allFrom, allAtMost, pairsOk, entryOk, headOk, wellFormed}
 use Rattle.machine.specs.Reads.{ofTable, ofEntry, ofState, ofNode, entryNumbers, stateNumbers, read}
 use Rattle.machine.specs.Calls.{Pair, Call, append, rollback, start, stop, connect, disconnect, master, sync, work, valuesOk, present, planOf, decide}
@@ -90,7 +91,7 @@ pub appending : List (List Line)
 appending = entered ∷ invalid ∷ []
 
 pub appending-hold : agree appending ≡ true
-unfolding agree agrees begins step outcome decide entryNumbers stateNumbers wellFormed allFrom allAtMost entryOk headOk pairsOk valuesOk planOf rowsOf overlay present after afters appending entered invalid
+unfolding agree agrees begins step outcome decide differ differRow entryNumbers stateNumbers wellFormed allFrom allAtMost entryOk headOk pairsOk valuesOk planOf rowsOf overlay present after afters appending entered invalid
 appending-hold = refl
 
 -- ---- start, stop, connect, disconnect: 2, 7, 8, and what each leaves
@@ -104,7 +105,7 @@ switched =
     ∷ yes stop ∷ nets (1 ∷ 0 ∷ 0 ∷ 0 ∷ 0 ∷ 1 ∷ 0 ∷ []) ∷ nodes 1 (2 ∷ 0 ∷ []) ∷ nodes 8 (1 ∷ 0 ∷ []) ∷ no 7 (disconnect 8) ∷ no 8 (connect 8)
     ∷ yes start ∷ nets (1 ∷ 0 ∷ 0 ∷ 0 ∷ 0 ∷ 2 ∷ 1 ∷ []) ∷ []
 
--- stop empties the target and nothing else; a synchronise brings the applied values back
+-- stop empties a target that forgets, and nothing else; a synchronise brings the applied values back
 emptied : List Line
 emptied =
     adding 1 (pair 3 7 ∷ []) ∷ adding 2 (pair 4 9 ∷ [])
@@ -114,13 +115,13 @@ emptied =
     ++ (commit 2
     ++ (reads 3 7 7 7 ∷ yes stop ∷ reads 3 7 7 0 ∷ reads 4 9 0 0 ∷ yes start ∷ yes (connect 1) ∷ reads 3 7 7 0
     ∷ yes (master 1) ∷ yes (master 1) ∷ yes (sync 1) ∷ reads 3 7 7 0 ∷ nets (2 ∷ 1 ∷ 1 ∷ 2 ∷ 2 ∷ 2 ∷ 1 ∷ [])
-    ∷ yes (sync 1) ∷ reads 3 7 7 7 ∷ reads 4 9 0 0 ∷ nets (3 ∷ 2 ∷ 1 ∷ 2 ∷ 2 ∷ 2 ∷ 1 ∷ []) ∷ [])))))
+    ∷ tells (sync 1) 0 0 0 1 0 ∷ reads 3 7 7 7 ∷ reads 4 9 0 0 ∷ nets (3 ∷ 2 ∷ 1 ∷ 2 ∷ 2 ∷ 2 ∷ 1 ∷ []) ∷ [])))))
 
 pub switching : List (List Line)
 switching = switched ∷ emptied ∷ []
 
 pub switching-hold : agree switching ≡ true
-unfolding agree agrees begins step outcome decide entryNumbers stateNumbers wellFormed allFrom allAtMost entryOk headOk pairsOk valuesOk planOf rowsOf overlay present after afters switching switched emptied
+unfolding agree agrees begins step outcome decide differ differRow entryNumbers stateNumbers wellFormed allFrom allAtMost entryOk headOk pairsOk valuesOk planOf rowsOf overlay present after afters switching switched emptied
 switching-hold = refl
 
 -- ---- mastership and synchronise: 2, 10, 11, 12
@@ -145,7 +146,7 @@ pub leading : List (List Line)
 leading = elected ∷ synchronised ∷ []
 
 pub leading-hold : agree leading ≡ true
-unfolding agree agrees begins step outcome decide entryNumbers stateNumbers wellFormed allFrom allAtMost entryOk headOk pairsOk valuesOk planOf rowsOf overlay present after afters leading elected synchronised
+unfolding agree agrees begins step outcome decide differ differRow entryNumbers stateNumbers wellFormed allFrom allAtMost entryOk headOk pairsOk valuesOk planOf rowsOf overlay present after afters leading elected synchronised
 leading-hold = refl
 
 -- ---- the order of a job's refusals, and of a rollback request's: each line is met by two of them, or by one alone
@@ -165,7 +166,7 @@ pub ordering : List (List Line)
 ordering = ordered ∷ []
 
 pub ordering-hold : agree ordering ≡ true
-unfolding agree agrees begins step outcome decide entryNumbers stateNumbers wellFormed allFrom allAtMost entryOk headOk pairsOk valuesOk planOf rowsOf overlay present after afters ordering ordered
+unfolding agree agrees begins step outcome decide differ differRow entryNumbers stateNumbers wellFormed allFrom allAtMost entryOk headOk pairsOk valuesOk planOf rowsOf overlay present after afters ordering ordered
 ordering-hold = refl
 
 -- ---- the four jobs on a change of four pairs, every rule with a "then" cut, and then closed: it is repeated with cut and another
@@ -221,7 +222,7 @@ pub jobs : List (List Line)
 jobs = cut ∷ whole ∷ []
 
 pub jobs-hold : agree jobs ≡ true
-unfolding agree agrees begins step outcome decide entryNumbers stateNumbers wellFormed allFrom allAtMost entryOk headOk pairsOk valuesOk planOf rowsOf overlay present after afters jobs cut whole
+unfolding agree agrees begins step outcome decide differ differRow entryNumbers stateNumbers wellFormed allFrom allAtMost entryOk headOk pairsOk valuesOk planOf rowsOf overlay present after afters jobs cut whole
 jobs-hold = refl
 
 -- ---- what does not go through: each cut and closed, and whole
@@ -283,7 +284,7 @@ pub failing : List (List Line)
 failing = rejected ∷ dropped ∷ stopped ∷ overtaken ∷ []
 
 pub failing-hold : agree failing ≡ true
-unfolding agree agrees begins step outcome decide entryNumbers stateNumbers wellFormed allFrom allAtMost entryOk headOk pairsOk valuesOk planOf rowsOf overlay present after afters failing rejected dropped stopped overtaken
+unfolding agree agrees begins step outcome decide differ differRow entryNumbers stateNumbers wellFormed allFrom allAtMost entryOk headOk pairsOk valuesOk planOf rowsOf overlay present after afters failing rejected dropped stopped overtaken
 failing-hold = refl
 
 -- ---- the reads: 2, 5, and each kind
@@ -308,12 +309,12 @@ pub reading : List (List Line)
 reading = asked ∷ tabled ∷ []
 
 pub reading-hold : agree reading ≡ true
-unfolding agree agrees begins step outcome decide read entryNumbers stateNumbers wellFormed allFrom allAtMost entryOk headOk pairsOk valuesOk planOf rowsOf overlay present after afters reading asked tabled
+unfolding agree agrees begins step outcome decide differ differRow read entryNumbers stateNumbers wellFormed allFrom allAtMost entryOk headOk pairsOk valuesOk planOf rowsOf overlay present after afters reading asked tabled
 reading-hold = refl
 
 -- ---- a run from fresh: the newest call first, and its events so too
 abbrev ran : Past
-ran = run (work 1 1 1 0 0 ∷ master 1 ∷ connect 1 ∷ start ∷ append (pair 3 7 ∷ []) ∷ [])
+ran = run false (work 1 1 1 0 0 ∷ master 1 ∷ connect 1 ∷ start ∷ append (pair 3 7 ∷ []) ∷ [])
 
 abbrev phaseOf : Event → ℕ
 phaseOf e = e .phase
@@ -327,7 +328,7 @@ running =
     && (begins (map phaseOf (ran .events)) (1 ∷ 0 ∷ 0 ∷ 0 ∷ 0 ∷ []) && begins (map numberOf (ran .events)) (1 ∷ 0 ∷ 0 ∷ 0 ∷ 1 ∷ []))
 
 pub running-hold : running ≡ true
-unfolding running run agrees begins step outcome decide entryNumbers stateNumbers wellFormed allFrom allAtMost entryOk headOk pairsOk valuesOk planOf rowsOf overlay present after afters
+unfolding running run agrees begins step outcome decide differ differRow entryNumbers stateNumbers wellFormed allFrom allAtMost entryOk headOk pairsOk valuesOk planOf rowsOf overlay present after afters
 running-hold = refl
 
 -- ---- r.values: the present value of each path in its place, and 0 in unused ones, though path 0 has a value
@@ -354,5 +355,5 @@ pub keeping : List (List Line)
 keeping = keeps ∷ stay ∷ []
 
 pub keeping-hold : agree keeping ≡ true
-unfolding agree agrees begins step outcome decide read entryNumbers stateNumbers wellFormed allFrom allAtMost entryOk headOk pairsOk valuesOk planOf rowsOf overlay present after afters keeping keeps stay
+unfolding agree agrees begins step outcome decide differ differRow read entryNumbers stateNumbers wellFormed allFrom allAtMost entryOk headOk pairsOk valuesOk planOf rowsOf overlay present after afters keeping keeps stay
 keeping-hold = refl

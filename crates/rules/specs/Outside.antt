@@ -38,17 +38,18 @@ rolledBack t =
       owners = t .owners;
     }
 
--- ---- start and stop: the target. Stop also clears its values and disconnects every node
+-- ---- start and stop: the target. Its kind stays (order 13). Stop also clears the values of one that
+-- forgets, and disconnects every node
 abbrev pub targeted : ℕ → Target → Targeted
 targeted a t = record { answer = a; target = t }
 
 abbrev pub start : Target → Targeted
 start t =
     cond (t .running) (targeted 7 t)
-    (cond (isLast (t .id)) (targeted 9 t) (targeted 0 (record { id = t .id + 1; running = true })))
+    (cond (isLast (t .id)) (targeted 9 t) (targeted 0 (record { id = t .id + 1; running = true; remembers = t .remembers })))
 
 abbrev pub stop : Target → Targeted
-stop t = cond (t .running) (targeted 0 (record { id = t .id; running = false })) (targeted 7 t)
+stop t = cond (t .running) (targeted 0 (record { id = t .id; running = false; remembers = t .remembers })) (targeted 7 t)
 
 -- ---- connect and disconnect: one node's connection
 abbrev pub answered : ℕ → Connection → Connected

@@ -55,6 +55,7 @@ pub fn start(t: Target) -> Targeted
     let target = Target {
         id: t.id + 1,
         running: true,
+        remembers: t.remembers,
     };
     Targeted { answer: 0, target }
 }
@@ -67,6 +68,7 @@ pub fn stop(t: Target) -> Targeted
         let target = Target {
             id: t.id,
             running: false,
+            remembers: t.remembers,
         };
         return Targeted { answer: 0, target };
     }
