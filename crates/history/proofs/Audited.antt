@@ -281,12 +281,12 @@ module _ (s : State) (es : List Event) (r : Reached s es) (marks : Marked (s .lo
           (entry-folded (kn .log) k (omega (arith, leb-false (suc b) k e))))
 
 -- ---- the theorems
-pub log-shows : (cs : List Call) (k : ℕ) → run cs .state .log .folded .0 < k → Shown (run cs .state) (run cs .events) k
-log-shows cs k =
-    let x = folded cs in
-    subst (λ s. s .log .folded .0 < k → Shown s (run cs .events) k) (sym (x .shows)) (shows (whole cs) (run cs .events) (x .reached) (marked cs) (x .fold) (x .base) (x .front) k)
+pub log-shows : (m : Bool) (cs : List Call) (k : ℕ) → run m cs .state .log .folded .0 < k → Shown (run m cs .state) (run m cs .events) k
+log-shows m cs k =
+    let x = folded m cs in
+    subst (λ s. s .log .folded .0 < k → Shown s (run m cs .events) k) (sym (x .shows)) (shows (whole m cs) (run m cs .events) (x .reached) (marked m cs) (x .fold) (x .base) (x .front) k)
 
-pub audited : (cs : List Call) → Audited (run cs .state) (run cs .events)
-audited cs =
-    let x = folded cs in
-    subst (λ s. Audited s (run cs .events)) (sym (x .shows)) (audits (whole cs) (run cs .events) (x .reached) (marked cs) (x .fold) (x .base) (x .front))
+pub audited : (m : Bool) (cs : List Call) → Audited (run m cs .state) (run m cs .events)
+audited m cs =
+    let x = folded m cs in
+    subst (λ s. Audited s (run m cs .events)) (sym (x .shows)) (audits (whole m cs) (run m cs .events) (x .reached) (marked m cs) (x .fold) (x .base) (x .front))

@@ -262,34 +262,34 @@ append-cases s ps Q f g =
     go a false o p x = f a p
 
 -- ---- the whole has the pairs given
-module _ (cs : List Call) (r : Alike (unfolded (given cs)) (whole cs .log)) where
+module _ (m : Bool) (cs : List Call) (r : Alike (unfolded (given m cs)) (whole m cs .log)) where
   -- no call but append gives any
-  other : (c : Call) → ((ps : List Pair) → c ≡ append ps → ⊥) → givenBy c (step (run cs .state) c .reply .answer) ≡ [] → Alike (unfolded (given (c ∷ cs))) (whole (c ∷ cs) .log)
+  other : (c : Call) → ((ps : List Pair) → c ≡ append ps → ⊥) → givenBy c (step (run m cs .state) c .reply .answer) ≡ [] → Alike (unfolded (given m (c ∷ cs))) (whole m (c ∷ cs) .log)
   unfolding given
   other c n e =
-      subst (λ ts. Alike (unfolded ts) (whole (c ∷ cs) .log)) (sym (ap (λ ts. given cs ++ ts) e ∙ append-nil (given cs)))
-      (alike-then r (by-history cs (Pairs (whole cs) c n) (λ a. alike (whole cs .log)) c (calls (whole cs) c n)))
+      subst (λ ts. Alike (unfolded ts) (whole m (c ∷ cs) .log)) (sym (ap (λ ts. given m cs ++ ts) e ∙ append-nil (given m cs)))
+      (alike-then r (by-history m cs (Pairs (whole m cs) c n) (λ a. alike (whole m cs .log)) c (calls (whole m cs) c n)))
 
-  appends : (ps : List Pair) → Alike (unfolded (given (append ps ∷ cs))) (whole (append ps ∷ cs) .log)
+  appends : (ps : List Pair) → Alike (unfolded (given m (append ps ∷ cs))) (whole m (append ps ∷ cs) .log)
   unfolding given whole step afters after
   appends ps =
-      append-cases (run cs .state) ps (λ o. Alike (unfolded (given cs ++ cond (eqb (o .reply .answer) 0) (appended ps ∷ []) [])) (afters (whole cs) (o .stores) .log))
-      (λ a p. subst (λ ts. Alike (unfolded ts) (whole cs .log)) (sym (ap (λ b. given cs ++ cond b (appended ps ∷ []) []) (ne-eqb a 0 (λ z. omega arith)) ∙ append-nil (given cs))) r)
+      append-cases (run m cs .state) ps (λ o. Alike (unfolded (given m cs ++ cond (eqb (o .reply .answer) 0) (appended ps ∷ []) [])) (afters (whole m cs) (o .stores) .log))
+      (λ a p. subst (λ ts. Alike (unfolded ts) (whole m cs .log)) (sym (ap (λ b. given m cs ++ cond b (appended ps ∷ []) []) (ne-eqb a 0 (λ z. omega arith)) ∙ append-nil (given m cs))) r)
       (grow-alike (appended ps) r)
 
-pub given-pairs : (cs : List Call) → Alike (unfolded (given cs)) (whole cs .log)
+pub given-pairs : (m : Bool) (cs : List Call) → Alike (unfolded (given m cs)) (whole m cs .log)
 unfolding given whole
-given-pairs [] = alike (unfolded [])
-given-pairs (append ps ∷ cs) = appends cs (given-pairs cs) ps
-given-pairs (rollback i ∷ cs) = other cs (given-pairs cs) (rollback i) (λ ps e. crash (ap isAppend e)) refl
-given-pairs (start ∷ cs) = other cs (given-pairs cs) start (λ ps e. crash (ap isAppend e)) refl
-given-pairs (stop ∷ cs) = other cs (given-pairs cs) stop (λ ps e. crash (ap isAppend e)) refl
-given-pairs (connect n ∷ cs) = other cs (given-pairs cs) (connect n) (λ ps e. crash (ap isAppend e)) refl
-given-pairs (disconnect n ∷ cs) = other cs (given-pairs cs) (disconnect n) (λ ps e. crash (ap isAppend e)) refl
-given-pairs (master n ∷ cs) = other cs (given-pairs cs) (master n) (λ ps e. crash (ap isAppend e)) refl
-given-pairs (sync n ∷ cs) = other cs (given-pairs cs) (sync n) (λ ps e. crash (ap isAppend e)) refl
-given-pairs (work n j i r c ∷ cs) = other cs (given-pairs cs) (work n j i r c) (λ ps e. crash (ap isAppend e)) refl
-given-pairs (foldTo b ∷ cs) = other cs (given-pairs cs) (foldTo b) (λ ps e. crash (ap isAppend e)) refl
+given-pairs m [] = alike (unfolded [])
+given-pairs m (append ps ∷ cs) = appends m cs (given-pairs m cs) ps
+given-pairs m (rollback i ∷ cs) = other m cs (given-pairs m cs) (rollback i) (λ ps e. crash (ap isAppend e)) refl
+given-pairs m (start ∷ cs) = other m cs (given-pairs m cs) start (λ ps e. crash (ap isAppend e)) refl
+given-pairs m (stop ∷ cs) = other m cs (given-pairs m cs) stop (λ ps e. crash (ap isAppend e)) refl
+given-pairs m (connect n ∷ cs) = other m cs (given-pairs m cs) (connect n) (λ ps e. crash (ap isAppend e)) refl
+given-pairs m (disconnect n ∷ cs) = other m cs (given-pairs m cs) (disconnect n) (λ ps e. crash (ap isAppend e)) refl
+given-pairs m (master n ∷ cs) = other m cs (given-pairs m cs) (master n) (λ ps e. crash (ap isAppend e)) refl
+given-pairs m (sync n ∷ cs) = other m cs (given-pairs m cs) (sync n) (λ ps e. crash (ap isAppend e)) refl
+given-pairs m (work n j i r c ∷ cs) = other m cs (given-pairs m cs) (work n j i r c) (λ ps e. crash (ap isAppend e)) refl
+given-pairs m (foldTo b ∷ cs) = other m cs (given-pairs m cs) (foldTo b) (λ ps e. crash (ap isAppend e)) refl
 
 -- ---- the values, by what was given
 highest-alike : (l m : Log) (f : ℕ → Bool) (n p : ℕ) → Alike l m → l .base ≡ m .base → highest m f n p ≡ highest l f n p
@@ -299,20 +299,20 @@ highest-alike l m f (suc n) p a e =
     let x = a .pairs (suc n) in
     rw (x .count, x .paths, x .values, highest-alike l m f n p a e) refl
 
-pub by-given : (cs : List Call) → ByGiven cs
-by-given cs =
-    let x = folded cs in
-    let d = demand-3-whole cs in
+pub by-given : (m : Bool) (cs : List Call) → ByGiven m cs
+by-given m cs =
+    let x = folded m cs in
+    let d = demand-3-whole m cs in
     record {
-      committed = λ p q. ap (λ s. getD (s .committed .values) p 0) (x .shows) ∙ d .committed p q ∙ read (live (run cs .events) 1) p;
-      applied = λ p q. ap (λ s. getD (s .applied .values) p 0) (x .shows) ∙ d .applied p q ∙ read (live (run cs .events) 2) p;
+      committed = λ p q. ap (λ s. getD (s .committed .values) p 0) (x .shows) ∙ d .committed p q ∙ read (live (run m cs .events) 1) p;
+      applied = λ p q. ap (λ s. getD (s .applied .values) p 0) (x .shows) ∙ d .applied p q ∙ read (live (run m cs .events) 2) p;
     }
   where
-    read : (g : ℕ → Bool) (p : ℕ) → highest (whole cs .log) (kept (whole cs) g) (last (whole cs .log)) p ≡ highest (unfolded (given cs)) g (length (given cs)) p
+    read : (g : ℕ → Bool) (p : ℕ) → highest (whole m cs .log) (kept (whole m cs) g) (last (whole m cs .log)) p ≡ highest (unfolded (given m cs)) g (length (given m cs)) p
     read g p =
-        let f = folded cs .front in
-        let a = given-pairs cs in
-        let z : last (whole cs .log) ≡ length (given cs) = omega (arith, a .last) in
-        highest-same (whole cs .log) (kept (whole cs) g) g (last (whole cs .log)) p (λ k u v. ap (λ b. b && g k) (le-leb (suc (whole cs .log .folded .0)) k (omega (arith, f .whole))))
-        ∙ highest-alike (unfolded (given cs)) (whole cs .log) g (last (whole cs .log)) p a (sym (f .absent))
-        ∙ ap (λ n. highest (unfolded (given cs)) g n p) z
+        let f = folded m cs .front in
+        let a = given-pairs m cs in
+        let z : last (whole m cs .log) ≡ length (given m cs) = omega (arith, a .last) in
+        highest-same (whole m cs .log) (kept (whole m cs) g) g (last (whole m cs .log)) p (λ k u v. ap (λ b. b && g k) (le-leb (suc (whole m cs .log .folded .0)) k (omega (arith, f .whole))))
+        ∙ highest-alike (unfolded (given m cs)) (whole m cs .log) g (last (whole m cs .log)) p a (sym (f .absent))
+        ∙ ap (λ n. highest (unfolded (given m cs)) g n p) z

@@ -246,8 +246,8 @@ module _ {w : State} {ops acts : List Op} {bad : List ℕ} (inv : Invariant w op
           }
 
 -- ---- the theorem
-pub next-carried : (cs : List Call) → (let s = run cs .state in suc (s .applied .head .ordinal .0) < s .committed .head .ordinal .0 → Carried s (suc (s .applied .head .ordinal .0)))
-next-carried cs =
-    let x = folded cs in
+pub next-carried : (m : Bool) (cs : List Call) → (let s = run m cs .state in suc (s .applied .head .ordinal .0) < s .committed .head .ordinal .0 → Carried s (suc (s .applied .head .ordinal .0)))
+next-carried m cs =
+    let x = folded m cs in
     subst (λ s. suc (s .applied .head .ordinal .0) < s .committed .head .ordinal .0 → Carried s (suc (s .applied .head .ordinal .0))) (sym (x .shows))
-    (λ q. after-carried (x .reached .inv) (staged cs) (x .fold) (x .base) (x .front) (x .passed) (omega (arith, x .reached .inv .committed .count)))
+    (λ q. after-carried (x .reached .inv) (staged m cs) (x .fold) (x .base) (x .front) (x .passed) (omega (arith, x .reached .inv .committed .count)))

@@ -22,20 +22,20 @@ use Rattle.rules.specs.ApplyChange.{applyChange}
 use Rattle.rules.specs.ApplyRollback.{applyRollback}
 use Rattle.rules.specs.Outside as outside
 use Rattle.machine.specs.State.{Log, State, blank, putPlace, entryOf, putEntry, grown, last, inLog, isKept, isNode, isMaster, nodeOf, putNode, reachesTarget, lineOpenFor, absent}
-use Rattle.machine.specs.Stores.{Store, entry, targetValues, configuration, mastership, connections, target, withLog, after, afters}
+use Rattle.machine.specs.Stores.{Store, entry, configuration, mastership, connections, target, withLog, withNet, after, afters}
 use Rattle.machine.specs.WellFormed.{wellFormed}
 use Rattle.machine.specs.Settled.{settled}
 use Rattle.machine.specs.Rest.{restOf}
 use Rattle.machine.specs.LiveList.{live}
 use Rattle.machine.specs.Folding.{stays, finished, mayFold}
-use Rattle.machine.specs.Calls.{Pair, Call, Outcome, append, rollback, start, stop, connect, disconnect, master, sync, work, foldTo, refused, accepted, unless, answers, validChange, appended, presentOf, planOf, commits, planned, workOk, copyRow, decide}
+use Rattle.machine.specs.Calls.{Pair, Call, Outcome, append, rollback, start, stop, connect, disconnect, master, sync, work, foldTo, refused, accepted, unless, answers, validChange, appended, presentOf, planOf, commits, planned, workOk, clearRow, copyRow, copyCount, counts, decide}
 use Rattle.machine.specs.Step.{outcome, step}
 use Rattle.machine.specs.Notes.{Note, nothing, pushNote, syncNote, noteOf, note}
-use Rattle.machine.proofs.Next.{putting, heading, targeting, performedBy, performed, rows-performed, baseOver, folding, row-folding}
+use Rattle.machine.proofs.Next.{putting, heading, targeting, performedBy, performed, rows-performed, baseOver, folding, row-folding, row-copying, withConfiguration}
 use Rattle.machine.proofs.Cases.{and-left, and-right}
 use Rattle.machine.proofs.Onward.{Onward, onward}
 use Rattle.machine.proofs.Entries.{put-all, add-all, entry-fold, last-fold, last-put, last-add}
-use Rattle.machine.proofs.ByCall.{noteAt, Calls, Of, start-of, stop-of, connect-of, disconnect-of, master-of, sync-of, job-of}
+use Rattle.machine.proofs.ByCall.{noteAt, Tables, formed-tables, Calls, Of, start-of, stop-of, connect-of, disconnect-of, master-of, sync-of, job-of}
 use Rattle.history.specs.Demand3.{highest}
 use Rattle.history.proofs.ByNumber.{highest-entries}
 use Rattle.history.specs.Whole.{unlessFold, shownLog, shown, Front, EntryPassed, Passed}
@@ -241,10 +241,23 @@ module _ (w : State) (b : ℕ) (vs : List ℕ) (f : Front (w .log) b vs) (done :
   answers-apart : (a : ℕ) (es : List Store) → Apart es → Apart (answers a es .stores)
   answers-apart a es g = apart-unless a (eqb a 0) (accepted es) g
 
-  copy-apart : (g : Rattle.kinds.specs.declared.Configuration.Configuration) (c : Bool) (us : List ℕ) → Apart (configuration g ∷ copyRow c us)
+  clear-apart : (t : Rattle.kinds.specs.declared.Target.Target) (m : Bool) (cs : List Rattle.kinds.specs.declared.Connection.Connection) → Apart (target t ∷ (clearRow m ++ (connections cs ∷ [])))
   unfolding afters after
-  copy-apart g true us = record { shows = refl; log = refl; stays = λ x. record { change = x .change; entries = x .entries } }
-  copy-apart g false us = record { shows = refl; log = refl; stays = λ x. record { change = x .change; entries = x .entries } }
+  clear-apart t true cs = record { shows = refl; log = refl; stays = λ x. record { change = x .change; entries = x .entries } }
+  clear-apart t false cs = record { shows = refl; log = refl; stays = λ x. record { change = x .change; entries = x .entries } }
+
+  -- a synchronise's row does the same to both, their tables being the same
+  copy-apart : Tables w → (g : Rattle.kinds.specs.declared.Configuration.Configuration) (c : Bool) → Apart (configuration g ∷ copyRow c (w .net .values) (w .applied .values))
+  unfolding afters after
+  copy-apart y g true =
+      let u = withNet w (withConfiguration (w .net) g) in
+      let e = row-copying u (w .applied .values) (y .0) (y .1) in
+      record {
+        shows = row-copying (shown u b vs) (w .applied .values) (y .0) (y .1) ∙ ap (λ x. shown x b vs) (sym e);
+        log = ap (λ x. x .log) e;
+        stays = λ x. subst (λ z. Passed z b) (sym e) (record { change = x .change; entries = x .entries });
+      }
+  copy-apart y g false = record { shows = refl; log = refl; stays = λ x. record { change = x .change; entries = x .entries } }
 
   start-both : Both nothing (decide (shown w b vs) start)
   unfolding decide afters after
@@ -257,7 +270,7 @@ module _ (w : State) (b : ℕ) (vs : List ℕ) (f : Front (w .log) b vs) (done :
   stop-both =
       let x = outside.stop (w .net .target) in
       apart-both nothing (decide w stop)
-      (answers-apart (x .answer) (target (x .target) ∷ targetValues absent ∷ connections (map outside.off (w .net .connections)) ∷ []) (record { shows = refl; log = refl; stays = λ x. record { change = x .change; entries = x .entries } }))
+      (answers-apart (x .answer) _ (clear-apart (x .target) (w .net .target .remembers) (map outside.off (w .net .connections))))
       (stop-of w P k)
 
   -- where the node is in range
@@ -282,11 +295,13 @@ module _ (w : State) (b : ℕ) (vs : List ℕ) (f : Front (w .log) b vs) (done :
       let x = outside.master (w .net .mastership) n (nodeOf (w .net .connections) n) in
       node-both nothing n (x .answer) (mastership (x .mastership) ∷ []) (record { shows = refl; log = refl; stays = λ x. record { change = x .change; entries = x .entries } }) (master-of w P k n)
 
-  sync-both : (n : ℕ) → Both (syncNote (w .net .configuration .state)) (decide (shown w b vs) (sync n))
+  sync-both : Tables w → (n : ℕ) → Both (syncNote (w .net .configuration .state)) (decide (shown w b vs) (sync n))
   unfolding decide
-  sync-both n =
+  sync-both y n =
       let x = outside.synchronise (w .net .configuration) (w .net .mastership .term) (isMaster (w .net) n) (reachesTarget (w .net) n) in
-      node-both (syncNote (w .net .configuration .state)) n (x .answer) (configuration (x .configuration) ∷ copyRow (x .copies) (w .applied .values)) (copy-apart (x .configuration) (x .copies) (w .applied .values)) (sync-of w P k n)
+      let o = counts (x .answer) (copyCount (x .copies) (w .net .values) (w .applied .values)) (configuration (x .configuration) ∷ copyRow (x .copies) (w .net .values) (w .applied .values)) in
+      apart-both (syncNote (w .net .configuration .state)) (unless 2 (isNode n) o)
+      (apart-unless 2 (isNode n) o (apart-unless (x .answer) (eqb (x .answer) 0) _ (copy-apart y (x .configuration) (x .copies)))) (sync-of w P k y n)
 
   -- ---- the log
   append-both : (ps : List Pair) → call ≡ append ps → Both nothing (decide (shown w b vs) (append ps))
@@ -377,18 +392,18 @@ module _ (w : State) (b : ℕ) (vs : List ℕ) (f : Front (w .log) b vs) (done :
           holds = same 0;
         }))
 
-    decided : (c : Call) → call ≡ c → Followed P (cond (eqb (decide (shown w b vs) c .reply .answer) 0) (noteOf (shown w b vs) c) nothing) (decide (shown w b vs) c .reply) (afters (shown w b vs) (decide (shown w b vs) c .stores)) (afters w (unlessFold c (decide (shown w b vs) c .stores)))
+    decided : Tables w → (c : Call) → call ≡ c → Followed P (cond (eqb (decide (shown w b vs) c .reply .answer) 0) (noteOf (shown w b vs) c) nothing) (decide (shown w b vs) c .reply) (afters (shown w b vs) (decide (shown w b vs) c .stores)) (afters w (unlessFold c (decide (shown w b vs) c .stores)))
     unfolding afters
-    decided (append ps) z = append-both ps z
-    decided (rollback i) z = rollback-both i
-    decided start z = start-both
-    decided stop z = stop-both
-    decided (connect n) z = connect-both n
-    decided (disconnect n) z = disconnect-both n
-    decided (master n) z = master-both n
-    decided (sync n) z = sync-both n
-    decided (work n j i r c) z = work-both n j i r c
-    decided (foldTo c) z = fold-still c
+    decided y (append ps) z = append-both ps z
+    decided y (rollback i) z = rollback-both i
+    decided y start z = start-both
+    decided y stop z = stop-both
+    decided y (connect n) z = connect-both n
+    decided y (disconnect n) z = disconnect-both n
+    decided y (master n) z = master-both n
+    decided y (sync n) z = sync-both y n
+    decided y (work n j i r c) z = work-both n j i r c
+    decided y (foldTo c) z = fold-still c
 
     none-made : (c : Call) → unlessFold c [] ≡ []
     none-made (append ps) = refl
@@ -404,8 +419,8 @@ module _ (w : State) (b : ℕ) (vs : List ℕ) (f : Front (w .log) b vs) (done :
 
     pub follow : Followed P (note (shown w b vs) call) (step (shown w b vs) call .reply) (step (shown w b vs) call .next) (afters w (unlessFold call (outcome (shown w b vs) call .stores)))
     unfolding step outcome afters
-    follow = go (wellFormed (shown w b vs))
+    follow = go (wellFormed (shown w b vs)) refl
       where
-        go : (t : Bool) → (let o = unless 1 t (decide (shown w b vs) call) in Followed P (cond (eqb (o .reply .answer) 0) (noteOf (shown w b vs) call) nothing) (o .reply) (afters (shown w b vs) (o .stores)) (afters w (unlessFold call (o .stores))))
-        go true = decided call refl
-        go false = subst (λ es. Followed P nothing (refusal 1) (shown w b vs) (afters w es)) (sym (none-made call)) (record { fold = b; base = vs; shows = refl; front = f; passed = done; holds = same 1 })
+        go : (t : Bool) → wellFormed (shown w b vs) ≡ t → (let o = unless 1 t (decide (shown w b vs) call) in Followed P (cond (eqb (o .reply .answer) 0) (noteOf (shown w b vs) call) nothing) (o .reply) (afters (shown w b vs) (o .stores)) (afters w (unlessFold call (o .stores))))
+        go true e = decided (formed-tables (shown w b vs) e) call refl
+        go false e = subst (λ es. Followed P nothing (refusal 1) (shown w b vs) (afters w es)) (sym (none-made call)) (record { fold = b; base = vs; shows = refl; front = f; passed = done; holds = same 1 })

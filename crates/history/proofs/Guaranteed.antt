@@ -144,8 +144,8 @@ each-tells s =
       };
     }
 
-step-tells : (cs : List Call) (c : Call) → Tells (whole cs) (step (run cs .state) c .reply .event)
-step-tells cs c = by-history cs (λ x r next. Tells (whole cs) (r .event)) (λ a. quiet (whole cs) _ (λ k. refl) (λ k. refl)) c (each-tells (whole cs))
+step-tells : (m : Bool) (cs : List Call) (c : Call) → Tells (whole m cs) (step (run m cs .state) c .reply .event)
+step-tells m cs c = by-history m cs (λ x r next. Tells (whole m cs) (r .event)) (λ a. quiet (whole m cs) _ (λ k. refl) (λ k. refl)) c (each-tells (whole m cs))
 
 -- ---- lists
 push-pushed : (x : Op) (xs : List Op) (k : ℕ) → x ≡ push k → pushed k (x ∷ xs) ≡ true
@@ -379,9 +379,9 @@ module _ (s : State) (es : List Event) (r : Reached s es) (marks : Marked (s .lo
       }
 
 -- ---- the theorems
-pub always-in-order : (cs : List Call) → Always (run cs .events)
-always-in-order cs = always (whole cs) (run cs .events) (reached cs)
+pub always-in-order : (m : Bool) (cs : List Call) → Always (run m cs .events)
+always-in-order m cs = always (whole m cs) (run m cs .events) (reached m cs)
 
-pub each-event : (cs : List Call) (c : Call) → Then (run cs .events) (step (run cs .state) c .reply .event)
+pub each-event : (m : Bool) (cs : List Call) (c : Call) → Then (run m cs .events) (step (run m cs .state) c .reply .event)
 unfolding run
-each-event cs c = thens (whole cs) (run cs .events) (reached cs) (marked cs) _ (step-tells cs c) (whole (c ∷ cs)) (reached (c ∷ cs))
+each-event m cs c = thens (whole m cs) (run m cs .events) (reached m cs) (marked m cs) _ (step-tells m cs c) (whole m (c ∷ cs)) (reached m (c ∷ cs))

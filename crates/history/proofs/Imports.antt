@@ -1,6 +1,7 @@
 -- Order 6: a history that an import begins, with any calls and nights behind it, is the history of its calls, so that every
 -- theorem over calls speaks of it: demand 3 with the events of the import's calls among the others. Assumes nothing.
 use mathlib.Core.List.{List}
+use mathlib.Core.Bool.{false}
 use mathlib.Core.Path.{_≡_, sym, subst}
 use Rattle.machine.specs.Step.{Past, run}
 use Rattle.machine.specs.Notes.{notes}
@@ -14,10 +15,10 @@ module _ (es : List Entry) (xs : List Act) where
   abbrev past : Past
   past = acted (imports es) xs
 
-  pub import-run : past ≡ run (callsIn (imports es) xs)
+  pub import-run : past ≡ run false (callsIn (imports es) xs)
   import-run = acted-run (imports es) xs
 
-  pub import-demand-3 : Demand3 (past .state) (past .events) (notes (callsIn (imports es) xs))
+  pub import-demand-3 : Demand3 (past .state) (past .events) (notes false (callsIn (imports es) xs))
   import-demand-3 =
       let cs = callsIn (imports es) xs in
-      subst (λ (p : Past). Demand3 (p .state) (p .events) (notes cs)) (sym import-run) (demand-3 cs)
+      subst (λ (p : Past). Demand3 (p .state) (p .events) (notes false cs)) (sym import-run) (demand-3 false cs)

@@ -3,7 +3,7 @@
 use Prim.Native.Nat.{ℕ, zero, suc, _≤_}
 use native.Mathlib.Omega.{arith}
 use mathlib.Core.List.{List, [], _∷_, map}
-use mathlib.Core.Bool.{true, false, _&&_}
+use mathlib.Core.Bool.{Bool, true, false, _&&_}
 use mathlib.Core.Path.{_≡_, refl, sym, ap, _∙_, subst}
 use lib.Dec.{eqb}
 use lib.ListN.{getD, replicate}
@@ -165,9 +165,9 @@ never-there zero k = refl
 never-there (suc n) zero = refl
 never-there (suc n) (suc k) = never-there n k
 
-pub fresh-wired : (H : List ℕ → Type 0) → Wired freshNet H
-fresh-wired H = record { nodes = λ n. record { ids = λ p x. omega arith; holds = λ o. absurd (omega (arith, o .some, o .master)); stopped = λ x. off n }; older = omega arith }
+pub fresh-wired : (m : Bool) (H : List ℕ → Type 0) → Wired (freshNet m) H
+fresh-wired m H = record { nodes = λ n. record { ids = λ p x. omega arith; holds = λ o. absurd (omega (arith, o .some, o .master)); stopped = λ x. off n }; older = omega arith }
   where
-    off : (n : ℕ) → nodeOf (freshNet .connections) n .connected ≡ false
+    off : (n : ℕ) → nodeOf (freshNet m .connections) n .connected ≡ false
     off zero = refl
     off (suc n) = ap (λ x. x .connected) (never-there 8 n)

@@ -565,7 +565,7 @@ module _ (s : State) (es : List Event) (bad : List ℕ) (inv : Invariant s (opsO
         elect = λ n b t e. idle;
         resign = idle;
         syncing = idle;
-        synced = idle;
+        synced = rests _ refl (λ k. refl) refl;
         job1 = λ i p q cut second. record {
           wait = idle;
           full = λ a b d. idle;
@@ -610,9 +610,9 @@ module _ (s : State) (es : List Event) (bad : List ℕ) (inv : Invariant s (opsO
       }
 
 -- after any calls from fresh
-pub marked : (cs : List Call) → Marked (whole cs .log) (whole cs .applied .head) (run cs .events)
+pub marked : (m : Bool) (cs : List Call) → Marked (whole m cs .log) (whole m cs .applied .head) (run m cs .events)
 unfolding run whole opsOf told first popped
-marked [] =
+marked m [] =
     none-all (λ k u. Mark 0 0 [] [] k u) (λ k. record {
       rejected = refl;
       failed = refl;
@@ -624,7 +624,7 @@ marked [] =
       tried = λ x. crash x;
       gone = λ x. crash x;
     })
-marked (c ∷ cs) =
-    let r = reached cs in
-    by-history cs (Keeps (whole cs) (run cs .events) (r .bad) (r .inv) (marked cs)) (λ a. idle (whole cs) (run cs .events) (r .bad) (r .inv) (marked cs)) c
-    (calls (whole cs) (run cs .events) (r .bad) (r .inv) (marked cs))
+marked m (c ∷ cs) =
+    let r = reached m cs in
+    by-history m cs (Keeps (whole m cs) (run m cs .events) (r .bad) (r .inv) (marked m cs)) (λ a. idle (whole m cs) (run m cs .events) (r .bad) (r .inv) (marked m cs)) c
+    (calls (whole m cs) (run m cs .events) (r .bad) (r .inv) (marked m cs))

@@ -249,25 +249,25 @@ module _ {w : State} {ops acts : List Op} {bad : List ℕ} (inv : Invariant w op
   not-itself o n i (suc (suc (suc (suc (suc j))))) k g x = absurd (omega (arith, k .job .1))
 
 -- reason 4: a commit is in flight, it is kept, and it is another
-pub another : (cs : List Call) (n i j : ℕ) → why (run cs .state) n j i .answer ≡ 0 → why (run cs .state) n j i .reason ≡ 4
-    → InFlight (run cs .state) (why (run cs .state) n j i .named) × (why (run cs .state) n j i .named ≡ i → ⊥)
-another cs n i j e g =
-    let x = folded cs in
+pub another : (m : Bool) (cs : List Call) (n i j : ℕ) → why (run m cs .state) n j i .answer ≡ 0 → why (run m cs .state) n j i .reason ≡ 4
+    → InFlight (run m cs .state) (why (run m cs .state) n j i .named) × (why (run m cs .state) n j i .named ≡ i → ⊥)
+another m cs n i j e g =
+    let x = folded m cs in
     subst (λ s. wellFormed s ≡ true → (a : why s n j i .answer ≡ 0) → why s n j i .reason ≡ 4 → Given s j i 4 → InFlight s (why s n j i .named) × (why s n j i .named ≡ i → ⊥)) (sym (x .shows))
-    (seen x) (reached-well-formed cs) e g (subst (Given (run cs .state) j i) g (reason-given cs n j i e))
+    (seen x) (reached-well-formed m cs) e g (subst (Given (run m cs .state) j i) g (reason-given m cs n j i e))
   where
-    seen : (x : Folded cs)
-        → (let s = shown (whole cs) (x .fold) (x .base) in
+    seen : (x : Folded m cs)
+        → (let s = shown (whole m cs) (x .fold) (x .base) in
         wellFormed s ≡ true → (a : why s n j i .answer ≡ 0) → why s n j i .reason ≡ 4 → Given s j i 4 → InFlight s (why s n j i .named) × (why s n j i .named ≡ i → ⊥))
     seen x o a r h =
-        let s = shown (whole cs) (x .fold) (x .base) in
+        let s = shown (whole m cs) (x .fold) (x .base) in
         let i4 = x .reached .inv in
         let k = reasons.asked s n j i a in
         let name : why s n j i .named ≡ inFlight s = k .names ∙ ap (named s j i) (sym (k .gives) ∙ r) in
         let flight : InFlight s (inFlight s)
-        = in-flight i4 (staged cs) (x .fold) (x .base) (x .front) (x .passed) (sym (rest-seen i4 (x .fold) (x .base) (x .front)) ∙ moving (restOf s) (h .fits)) in (
+        = in-flight i4 (staged m cs) (x .fold) (x .base) (x .front) (x .passed) (sym (rest-seen i4 (x .fold) (x .base) (x .front)) ∙ moving (restOf s) (h .fits)) in (
           subst (InFlight s) (sym name) flight,
-          (λ z. not-itself i4 (staged cs) (x .fold) (x .base) (x .front) o n i j k h (subst (InFlight s) (sym name ∙ z) flight .flies)),
+          (λ z. not-itself i4 (staged m cs) (x .fold) (x .base) (x .front) o n i j k h (subst (InFlight s) (sym name ∙ z) flight .flies)),
         )
       where
         moving : (b : Bool) → not b ≡ true → b ≡ false
@@ -275,17 +275,17 @@ another cs n i j e g =
         moving false e = refl
 
 -- reason 5: the revision above a number is the newest live change
-pub newest-on-top : (cs : List Call) (i k : ℕ) → (let s = run cs .state in k ≡ s .committed .head .revision .0 → i < k → OnTop s (run cs .events) i k)
-newest-on-top cs i k e b =
-    let x = folded cs in
-    let v : k ≡ whole cs .committed .head .revision .0 = e ∙ ap (λ s. s .committed .head .revision .0) (x .shows) in
+pub newest-on-top : (m : Bool) (cs : List Call) (i k : ℕ) → (let s = run m cs .state in k ≡ s .committed .head .revision .0 → i < k → OnTop s (run m cs .events) i k)
+newest-on-top m cs i k e b =
+    let x = folded m cs in
+    let v : k ≡ whole m cs .committed .head .revision .0 = e ∙ ap (λ s. s .committed .head .revision .0) (x .shows) in
     let co = x .reached .inv .committed in
-    let ks = stack (opsOf Complete 1 (run cs .events)) in
-    let on : (n : ℕ) → mem n ks ≡ live (run cs .events) 1 n = live-committed (whole cs) (run cs .events) (x .reached) in
+    let ks = stack (opsOf Complete 1 (run m cs .events)) in
+    let on : (n : ℕ) → mem n ks ≡ live (run m cs .events) 1 n = live-committed (whole m cs) (run m cs .events) (x .reached) in
     record {
       revision = e;
       later = b;
-      stands = sym (on k) ∙ subst (λ n. mem n ks ≡ true) (sym v) (revision-stands (x .reached .inv) (staged cs) i (omega arith));
+      stands = sym (on k) ∙ subst (λ n. mem n ks ≡ true) (sym v) (revision-stands (x .reached .inv) (staged m cs) i (omega arith));
       newest = λ n l. omega (arith, mem-low ks (stack-falls _ (co .rising)) n (on n ∙ l), co .tip);
     }
 
@@ -313,10 +313,10 @@ unsettled-some s =
         by-zero zero h = absurd (h refl)
         by-zero (suc a) h = omega arith
 
-earlier-ordinal : (cs : List Call) (j i k : ℕ) → (let s = run cs .state in k ≡ unsettled s → k < ordinal s j i → EarlierOrdinal s j i k)
-earlier-ordinal cs j i k e p =
-    let s = run cs .state in
-    let low : k < s .committed .head .ordinal .0 = omega (arith, own-low s j i (ordinals-at-most-twice cs)) in
+earlier-ordinal : (m : Bool) (cs : List Call) (j i k : ℕ) → (let s = run m cs .state in k ≡ unsettled s → k < ordinal s j i → EarlierOrdinal s j i k)
+earlier-ordinal m cs j i k e p =
+    let s = run m cs .state in
+    let low : k < s .committed .head .ordinal .0 = omega (arith, own-low s j i (ordinals-at-most-twice m cs)) in
     let applied : settled s ≡ false → k ≡ s .applied .head .ordinal .0 = λ u. e ∙ rw u in
     let after : settled s ≡ true → k ≡ suc (s .applied .head .ordinal .0) = λ u. e ∙ rw u (omega arith) in
     record {
@@ -325,40 +325,40 @@ earlier-ordinal cs j i k e p =
       applied = applied;
       after = after;
       carried =
-          by-bool (settled s) (λ u. subst (Carried s) (sym (after u)) (next-carried cs (omega (arith, after u))))
+          by-bool (settled s) (λ u. subst (Carried s) (sym (after u)) (next-carried m cs (omega (arith, after u))))
           (λ u. subst (Carried s) (sym (applied u)) (applied-carried s u));
     }
 
 -- ---- all of them
-pub names : (cs : List Call) (n j i : ℕ) → (let s = run cs .state in why s n j i .answer ≡ 0 → Names s (run cs .events) j i (why s n j i .reason) (why s n j i .named))
-names cs n j i e =
-    let s = run cs .state in
+pub names : (m : Bool) (cs : List Call) (n j i : ℕ) → (let s = run m cs .state in why s n j i .answer ≡ 0 → Names s (run m cs .events) j i (why s n j i .reason) (why s n j i .named))
+names m cs n j i e =
+    let s = run m cs .state in
     let k = reasons.asked s n j i e in
     let r = why s n j i .reason in
-    let g : Given s j i r = reason-given cs n j i e in
+    let g : Given s j i r = reason-given m cs n j i e in
     let name : (q : ℕ) → r ≡ q → why s n j i .named ≡ named s j i q = λ q x. k .names ∙ ap (named s j i) (sym (k .gives) ∙ x) in
     let fits : (q : ℕ) → r ≡ q → holds s j i q ≡ true = λ q x. subst (λ y. holds s j i y ≡ true) x (g .fits) in
     record {
       earlier = λ x. (omega (arith, name 3 x), omega (arith, name 3 x, ltb-true (s .change .0 + 1) i (fits 3 x)));
-      flight = λ x. another cs n i j e x;
-      top = λ x. newest-on-top cs i _ (name 5 x) (omega (arith, name 5 x, ltb-true i (s .committed .head .revision .0) (fits 5 x)));
-      ordinal = λ x. earlier-ordinal cs j i _ (name 7 x) (omega (arith, name 7 x, ltb-true (unsettled s) (ordinal s j i) (fits 7 x)));
+      flight = λ x. another m cs n i j e x;
+      top = λ x. newest-on-top m cs i _ (name 5 x) (omega (arith, name 5 x, ltb-true i (s .committed .head .revision .0) (fits 5 x)));
+      ordinal = λ x. earlier-ordinal m cs j i _ (name 7 x) (omega (arith, name 7 x, ltb-true (unsettled s) (ordinal s j i) (fits 7 x)));
     }
 
 -- ---- two readings that come to the same in a reached state
 -- no rollback asked: r.commit None, or phase Change
-pub unasked-phase : (cs : List Call) (k : ℕ) → run cs .state .log .folded .0 < k → k ≤ last (run cs .state .log)
-    → (entryOf (run cs .state .log) k .rollback .commit ≡ None → entryOf (run cs .state .log) k .phase ≡ 1)
-    × (entryOf (run cs .state .log) k .phase ≡ 1 → entryOf (run cs .state .log) k .rollback .commit ≡ None)
-unasked-phase cs k =
-    let x = folded cs in
+pub unasked-phase : (m : Bool) (cs : List Call) (k : ℕ) → run m cs .state .log .folded .0 < k → k ≤ last (run m cs .state .log)
+    → (entryOf (run m cs .state .log) k .rollback .commit ≡ None → entryOf (run m cs .state .log) k .phase ≡ 1)
+    × (entryOf (run m cs .state .log) k .phase ≡ 1 → entryOf (run m cs .state .log) k .rollback .commit ≡ None)
+unasked-phase m cs k =
+    let x = folded m cs in
     subst (λ s. wellFormed s ≡ true → s .log .folded .0 < k → k ≤ last (s .log) → (entryOf (s .log) k .rollback .commit ≡ None → entryOf (s .log) k .phase ≡ 1) × (entryOf (s .log) k .phase ≡ 1 → entryOf (s .log) k .rollback .commit ≡ None)) (sym (x .shows))
     (λ o p q.
-    let s = shown (whole cs) (x .fold) (x .base) in
-    let y : entryOf (s .log) k ≡ entryOf (whole cs .log) k = entry-seen (whole cs) (x .fold) (x .base) (x .front) k p in (
-      (λ e. omega (arith, staged cs .entries k .plain (sym (ap (λ t. t .rollback .commit) y) ∙ e), formed s o .entries k p q .phase .0, ap (λ t. t .phase) y)),
+    let s = shown (whole m cs) (x .fold) (x .base) in
+    let y : entryOf (s .log) k ≡ entryOf (whole m cs .log) k = entry-seen (whole m cs) (x .fold) (x .base) (x .front) k p in (
+      (λ e. omega (arith, staged m cs .entries k .plain (sym (ap (λ t. t .rollback .commit) y) ∙ e), formed s o .entries k p q .phase .0, ap (λ t. t .phase) y)),
       (λ e. ap (λ t. t .rollback .commit) y ∙ x .reached .inv .sides k .unasked (sym (ap (λ t. t .phase) y) ∙ e)),
-    )) (reached-well-formed cs)
+    )) (reached-well-formed m cs)
 
 -- an earlier ordinal: "if below the job's own" said of both ordinals, or of the one after alone; the same reason is given
 before-last : (a : Bool) (r x y : ℕ) → ((x ≡ 8 → ⊥) → y ≡ x) → (cond a r x ≡ 8 → ⊥) → cond a r y ≡ cond a r x
@@ -390,5 +390,5 @@ module _ (s : State) (j i : ℕ) where
       go false false false n =
           before-last (holds s j i 1) 1 _ _ (before-last (holds s j i 2) 2 _ _ (before-last (holds s j i 6) 6 _ _ (last-fits (holds s j i 7) (otherwise s j i 7) 7 8 wider))) n
 
-pub same-reason : (cs : List Call) (n j i : ℕ) → (let s = run cs .state in why s n j i .answer ≡ 0 → firstOf (otherwise s j i) (tried j) ≡ why s n j i .reason)
-same-reason cs n j i e = let k = reasons.asked (run cs .state) n j i e in unless-eighth (run cs .state) j i (λ x. no-eighth cs n j i e (k .gives ∙ x)) ∙ sym (k .gives)
+pub same-reason : (m : Bool) (cs : List Call) (n j i : ℕ) → (let s = run m cs .state in why s n j i .answer ≡ 0 → firstOf (otherwise s j i) (tried j) ≡ why s n j i .reason)
+same-reason m cs n j i e = let k = reasons.asked (run m cs .state) n j i e in unless-eighth (run m cs .state) j i (λ x. no-eighth m cs n j i e (k .gives ∙ x)) ∙ sym (k .gives)

@@ -37,7 +37,7 @@ use Rattle.history.specs.Ops.{Op, stack, stack-falls, Falls, mem, mem-lo
 use Rattle.history.specs.Invariant.{Invariant}
 use Rattle.history.specs.Whole.{whole, shown, Front, Passed}
 use Rattle.history.specs.Stages.{Stages}
-use Rattle.history.specs.Finished.{Rollback, unasked, finished, under, Ended, Slept, IsJobs, Start, Act, call, nightly, acted, callsIn}
+use Rattle.history.specs.Finished.{Rollback, unasked, finished, under, Ended, Slept, IsJobs, Start, startKind, Act, call, nightly, acted, callsIn}
 use Rattle.history.proofs.ByNumber.{above}
 use Rattle.history.proofs.Follow.{entry-seen, last-seen, plan-seen}
 use Rattle.history.proofs.Fronts.{ways, rest-seen, settled-seen, live-above}
@@ -51,15 +51,15 @@ use Rattle.history.proofs.Left.{leftIn, falls, at-most-six}
 use Rattle.history.proofs.Ends.{ended}
 
 -- ---- calls from a reached state on
-pub from-state : (cs ds : List Call) → stateFrom (run cs .state) ds ≡ run (ds ++ cs) .state
+pub from-state : (m : Bool) (cs ds : List Call) → stateFrom (run m cs .state) ds ≡ run m (ds ++ cs) .state
 unfolding stateFrom run
-from-state cs [] = refl
-from-state cs (d ∷ ds) = ap (λ s. step s d .next) (from-state cs ds)
+from-state m cs [] = refl
+from-state m cs (d ∷ ds) = ap (λ s. step s d .next) (from-state m cs ds)
 
-pub from-events : (cs ds : List Call) → eventsFrom (run cs .state) ds ++ run cs .events ≡ run (ds ++ cs) .events
+pub from-events : (m : Bool) (cs ds : List Call) → eventsFrom (run m cs .state) ds ++ run m cs .events ≡ run m (ds ++ cs) .events
 unfolding eventsFrom run
-from-events cs [] = refl
-from-events cs (d ∷ ds) = ap (λ es. step (stateFrom (run cs .state) ds) d .reply .event ∷ es) (from-events cs ds) ∙ ap (λ s. step s d .reply .event ∷ run (ds ++ cs) .events) (from-state cs ds)
+from-events m cs [] = refl
+from-events m cs (d ∷ ds) = ap (λ es. step (stateFrom (run m cs .state) ds) d .reply .event ∷ es) (from-events m cs ds) ∙ ap (λ s. step s d .reply .event ∷ run m (ds ++ cs) .events) (from-state m cs ds)
 
 -- ---- the first that is not refused
 unfoldable Every : (Call → Type 0) → List Call → Type 0
@@ -255,9 +255,9 @@ module _ (s : State) (os : List ℕ) (n : ℕ) where
       turn-grows b (λ e g. subst (AllGo s n) (sym g) (turns-go b)) (λ c t h g. subst (AllGo s n) (sym g) (h, turns-go b))
 
 -- ---- the turns from a reached state
-module _ (cs : List Call) (os : List ℕ) (n : ℕ) where
+module _ (m : Bool) (cs : List Call) (os : List ℕ) (n : ℕ) where
   abbrev s : State
-  s = run cs .state
+  s = run m cs .state
 
   abbrev made : ℕ → List Call
   made b = turns s os n b
@@ -267,7 +267,7 @@ module _ (cs : List Call) (os : List ℕ) (n : ℕ) where
   history b = made b ++ cs
 
   abbrev after : ℕ → State
-  after b = run (history b) .state
+  after b = run m (history b) .state
 
   abbrev fold : ℕ → ℕ
   fold b = after b .log .folded .0
@@ -279,39 +279,39 @@ module _ (cs : List Call) (os : List ℕ) (n : ℕ) where
   unfolding turns
   grows {R} b f g =
       first-cases (Tried os (fold b) n) (after b) (all (after b) os n) (all-tried os (fold b) n 1 (length (after b .log .entries)))
-      (λ e. f e (ap (λ ds. ds ++ made b) (ap (λ x. turn x os n) (from-state cs (made b)) ∙ e)))
+      (λ e. f e (ap (λ ds. ds ++ made b) (ap (λ x. turn x os n) (from-state m cs (made b)) ∙ e)))
       (λ c t e a. g (t .job) (t .place) (λ x. let z : _≡_ {A = ℕ} 0 1 = ap length (sym x ∙ e) in omega arith) (subst (λ d. step (after b) d .reply .answer ≡ 0) (t .is) a)
-      (ap (λ ds. ds ++ made b) (ap (λ x. turn x os n) (from-state cs (made b)) ∙ e) ∙ ap (λ d. d ∷ made b) (t .is)))
+      (ap (λ ds. ds ++ made b) (ap (λ x. turn x os n) (from-state m cs (made b)) ∙ e) ∙ ap (λ d. d ∷ made b) (t .is)))
 
   -- what is left, of the whole
   abbrev rest : List Call → ℕ
-  rest ds = leftIn (whole ds)
+  rest ds = leftIn (whole m ds)
 
   -- after a job: less is left, the line is kept
-  module _ (ds : List Call) (j i r : ℕ) (e : step (run ds .state) (work n j i r 0) .reply .answer ≡ 0) where
-    done : Worked (run ds .state) n j i r 0
-    done = worked (run ds .state) n j i r 0 e
+  module _ (ds : List Call) (j i r : ℕ) (e : step (run m ds .state) (work n j i r 0) .reply .answer ≡ 0) where
+    done : Worked (run m ds .state) n j i r 0
+    done = worked (run m ds .state) n j i r 0 e
 
     -- the whole does the same
-    same-job : whole (work n j i r 0 ∷ ds) ≡ performed (commits j) (whole ds) (planOf (run ds .state) n j i (eqb r 0)) i false false
+    same-job : whole m (work n j i r 0 ∷ ds) ≡ performed (commits j) (whole m ds) (planOf (run m ds .state) n j i (eqb r 0)) i false false
     unfolding whole
-    same-job = ap (afters (whole ds)) (done .stores) ∙ rows-performed (commits j) (whole ds) (planOf (run ds .state) n j i (eqb r 0)) i false false
+    same-job = ap (afters (whole m ds)) (done .stores) ∙ rows-performed (commits j) (whole m ds) (planOf (run m ds .state) n j i (eqb r 0)) i false false
 
     less : rest (work n j i r 0 ∷ ds) < rest ds
     less =
-        let x = folded ds in
+        let x = folded m ds in
         let v = x .reached .inv in
         let b : x .fold < i = subst (λ s. s .log .folded .0 < i) (x .shows) (done .number .0) in
-        let l : i ≤ last (whole ds .log) = subst (λ m. i ≤ m) (ap (λ s. last (s .log)) (x .shows) ∙ last-seen (whole ds) (x .fold) (x .base) (x .front)) (done .number .1) in
-        let p : planOf (run ds .state) n j i (eqb r 0) ≡ planOf (whole ds) n j i (eqb r 0)
+        let l : i ≤ last (whole m ds .log) = subst (λ m. i ≤ m) (ap (λ s. last (s .log)) (x .shows) ∙ last-seen (whole m ds) (x .fold) (x .base) (x .front)) (done .number .1) in
+        let p : planOf (run m ds .state) n j i (eqb r 0) ≡ planOf (whole m ds) n j i (eqb r 0)
         = ap (λ s. planOf s n j i (eqb r 0)) (x .shows)
-        ∙ plan-seen (whole ds) (x .fold) (x .base) (x .front) (rest-seen v (x .fold) (x .base) (x .front)) (settled-seen v (x .fold) (x .base) (x .front)) n j i (eqb r 0) b in
-        subst (λ u. leftIn u < rest ds) (sym (same-job ∙ ap (λ y. performed (commits j) (whole ds) y i false false) p))
+        ∙ plan-seen (whole m ds) (x .fold) (x .base) (x .front) (rest-seen v (x .fold) (x .base) (x .front)) (settled-seen v (x .fold) (x .base) (x .front)) n j i (eqb r 0) b in
+        subst (λ u. leftIn u < rest ds) (sym (same-job ∙ ap (λ y. performed (commits j) (whole m ds) y i false false) p))
         (falls v i (omega (arith, x .front .whole)) l n j (eqb r 0) (sym (ap (λ y. y .answer) p) ∙ done .plan))
 
-    leaves : Leaves (run ds .state) (run (work n j i r 0 ∷ ds) .state)
+    leaves : Leaves (run m ds .state) (run m (work n j i r 0 ∷ ds) .state)
     unfolding run
-    leaves = worked-leaves (run ds .state) n j i r 0 done
+    leaves = worked-leaves (run m ds .state) n j i r 0 done
 
   -- what is left and what is done
   spent : (b : ℕ) → rest (history b) + length (made b) ≤ rest cs
@@ -325,7 +325,7 @@ module _ (cs : List Call) (os : List ℕ) (n : ℕ) where
   made-low = turns-low s os n
 
   full : (b : ℕ) → (turn (after b) os n ≡ [] → ⊥) → length (made b) ≡ b
-  full b f = turns-full s os n b (λ e. f (ap (λ x. turn x os n) (sym (from-state cs (made b))) ∙ e))
+  full b f = turns-full s os n b (λ e. f (ap (λ x. turn x os n) (sym (from-state m cs (made b))) ∙ e))
 
   -- as many turns as is left are enough
   enough : (b : ℕ) → rest cs ≤ b → turn (after b) os n ≡ []
@@ -336,8 +336,8 @@ module _ (cs : List Call) (os : List ℕ) (n : ℕ) where
   unfolding turns
   line-kept e zero = e
   line-kept e (suc b) =
-      grows b (λ x f. subst (λ x. lineOpenFor (run (x ++ cs) .state .net) n ≡ true) (sym f) (line-kept e b))
-      (λ j i t a f. subst (λ x. lineOpenFor (run (x ++ cs) .state .net) n ≡ true) (sym f) (leaves (history b) j (fold b + i) (outcomeAt os j i) a .line n ∙ line-kept e b))
+      grows b (λ x f. subst (λ x. lineOpenFor (run m (x ++ cs) .state .net) n ≡ true) (sym f) (line-kept e b))
+      (λ j i t a f. subst (λ x. lineOpenFor (run m (x ++ cs) .state .net) n ≡ true) (sym f) (leaves (history b) j (fold b + i) (outcomeAt os j i) a .line n ∙ line-kept e b))
 
 -- ---- where no turn can be made, the line being open, every job answers 11
 -- the pushes of rollbacks are accepted
@@ -440,9 +440,9 @@ module _ {w : State} {ops acts : List Op} {bad : List ℕ} (inv : Invariant w op
           under (ap (λ t. t .rollback .commit) same ∙ e) (ap (λ t. t .rollback .apply) same ∙ g)
           (ap (mem k) (live-above inv b vs f) ∙ mem-kept b k (stack ops) p (stack-falls ops (inv .committed .rising)) m) l
 
-module _ (ds : List Call) (os : List ℕ) (n : ℕ) (node : isNode n ≡ true) (table : bits os ≡ true) (line : lineOpenFor (run ds .state .net) n ≡ true) where
+module _ (m : Bool) (ds : List Call) (os : List ℕ) (n : ℕ) (node : isNode n ≡ true) (table : bits os ≡ true) (line : lineOpenFor (run m ds .state .net) n ≡ true) where
   abbrev end : State
-  end = run ds .state
+  end = run m ds .state
 
   -- the last fold
   abbrev b : ℕ
@@ -450,14 +450,14 @@ module _ (ds : List Call) (os : List ℕ) (n : ℕ) (node : isNode n ≡ true) (
 
   plan-says : (j k : ℕ) → 1 ≤ j → j ≤ 4 → 1 ≤ k → k ≤ length (end .log .entries)
       → step end (trial os b n j k) .reply .answer ≡ planOf end n j (b + k) (eqb (outcomeAt os j k) 0) .answer
-  plan-says = plan-answers end os n (reached-well-formed ds) node table (and-left (isMaster (end .net) n) _ line)
+  plan-says = plan-answers end os n (reached-well-formed m ds) node table (and-left (isMaster (end .net) n) _ line)
 
   module _ (e : turn end os n ≡ []) where
     eleven : (j k : ℕ) → 1 ≤ j → j ≤ 4 → 1 ≤ k → k ≤ length (end .log .entries) → planOf end n j (b + k) (eqb (outcomeAt os j k) 0) .answer ≡ 11
     eleven j k p q x y =
         let a = plan-says j k p q x y in
         else-11 end n line j (b + k) (eqb (outcomeAt os j k) 0) (λ z. ap (λ m. eqb m 0) (ap (λ h. outcomeAt os h k) z ∙ accepted-4 os k)) p q
-        (λ z. none-trials end os b n 1 (length (end .log .entries)) e j k p q x (omega arith) (a ∙ z)) (λ z. never-nine ds n j (b + k) (outcomeAt os j k) 0 (a ∙ z))
+        (λ z. none-trials end os b n 1 (length (end .log .entries)) e j k p q x (omega arith) (a ∙ z)) (λ z. never-nine m ds n j (b + k) (outcomeAt os j k) 0 (a ∙ z))
 
     idle : (j i : ℕ) → 1 ≤ j → j ≤ 4 → b < i → i ≤ last (end .log) → (z : Bool) → planOf end n j i z .answer ≡ 11
     idle j i p q x y z =
@@ -474,13 +474,13 @@ module _ (ds : List Call) (os : List ℕ) (n : ℕ) (node : isNode n ≡ true) (
 
     all-ended : (k : ℕ) → b < k → k ≤ last (end .log) → Ended end (list.live end) k
     all-ended k =
-        let x = folded ds in
+        let x = folded m ds in
         subst
         (λ s. wellFormed s ≡ true → lineOpenFor (s .net) n ≡ true → ((j i : ℕ) → 1 ≤ j → j ≤ 4 → s .log .folded .0 < i → i ≤ last (s .log) → (z : Bool) → planOf s n j i z .answer ≡ 11)
         → s .log .folded .0 < k
         → k ≤ last (s .log)
         → Ended s (list.live s) k)
-        (sym (x .shows)) (λ o g h p q. ended-seen (x .reached .inv) (staged ds) (x .fold) (x .base) (x .front) (x .passed) o n g h k p q) (reached-well-formed ds) line idle
+        (sym (x .shows)) (λ o g h p q. ended-seen (x .reached .inv) (staged m ds) (x .fold) (x .base) (x .front) (x .passed) o n g h k p q) (reached-well-formed m ds) line idle
 
     no-twelve : needsLine end (all end os n) ≡ false
     unfolding needsLine trials
@@ -497,67 +497,67 @@ module _ (ds : List Call) (os : List ℕ) (n : ℕ) (node : isNode n ≡ true) (
             (go (suc k) m (omega arith) (omega arith))
 
 -- at most 6 for each that is kept is left
-most : (cs : List Call) → leftIn (whole cs) ≤ 6 * length (run cs .state .log .entries)
-most cs =
-    let x = folded cs in
-    let l : length (run cs .state .log .entries) ≡ length (shown (whole cs) (x .fold) (x .base) .log .entries) = ap (λ s. length (s .log .entries)) (x .shows) in
-    omega (arith, at-most-six (x .reached .inv) (staged cs) (x .fold) (x .base) (x .front) (x .passed), last-seen (whole cs) (x .fold) (x .base) (x .front), l)
+most : (m : Bool) (cs : List Call) → leftIn (whole m cs) ≤ 6 * length (run m cs .state .log .entries)
+most m cs =
+    let x = folded m cs in
+    let l : length (run m cs .state .log .entries) ≡ length (shown (whole m cs) (x .fold) (x .base) .log .entries) = ap (λ s. length (s .log .entries)) (x .shows) in
+    omega (arith, at-most-six (x .reached .inv) (staged m cs) (x .fold) (x .base) (x .front) (x .passed), last-seen (whole m cs) (x .fold) (x .base) (x .front), l)
 
 -- ---- the theorems
 -- a night is the history of the jobs that it does, and answers their count, refused or not
-pub night-is-jobs : (cs : List Call) (n b : ℕ) (os : List ℕ) → IsJobs (night (run cs .state) n b os) cs
-night-is-jobs cs n b os =
-    let k = night-made (run cs .state) n b os in
-    let ds = night (run cs .state) n b os .calls in
+pub night-is-jobs : (m : Bool) (cs : List Call) (n b : ℕ) (os : List ℕ) → IsJobs m (night (run m cs .state) n b os) cs
+night-is-jobs m cs n b os =
+    let k = night-made (run m cs .state) n b os in
+    let ds = night (run m cs .state) n b os .calls in
     record {
       jobs = k .jobs;
-      next = k .next ∙ from-state cs ds;
-      events = ap (λ es. es ++ run cs .events) (k .events) ∙ from-events cs ds;
+      next = k .next ∙ from-state m cs ds;
+      events = ap (λ es. es ++ run m cs .events) (k .events) ∙ from-events m cs ds;
     }
 
 -- demand 3 counts the events of its turns
-pub night-demand-3 : (cs : List Call) (n b : ℕ) (os : List ℕ) → (let w = night (run cs .state) n b os in Demand3 (w .next) (w .events ++ run cs .events) (notes (w .calls ++ cs)))
-night-demand-3 cs n b os =
-    let k = night-is-jobs cs n b os in rw (k .next, k .events) (demand-3 (night (run cs .state) n b os .calls ++ cs))
+pub night-demand-3 : (m : Bool) (cs : List Call) (n b : ℕ) (os : List ℕ) → (let w = night (run m cs .state) n b os in Demand3 (w .next) (w .events ++ run m cs .events) (notes m (w .calls ++ cs)))
+night-demand-3 m cs n b os =
+    let k = night-is-jobs m cs n b os in rw (k .next, k .events) (demand-3 m (night (run m cs .state) n b os .calls ++ cs))
 
 -- with the line open, node, budget and table in range are all that it asks
-pub night-accepted : (cs : List Call) (n b : ℕ) (os : List ℕ) → nightOk n b os ≡ true → lineOpenFor (run cs .state .net) n ≡ true
-    → night (run cs .state) n b os .answer ≡ 0
+pub night-accepted : (m : Bool) (cs : List Call) (n b : ℕ) (os : List ℕ) → nightOk n b os ≡ true → lineOpenFor (run m cs .state .net) n ≡ true
+    → night (run m cs .state) n b os .answer ≡ 0
 unfolding night
-night-accepted cs n b os k line = rw (reached-well-formed cs, k, and-left (isMaster (run cs .state .net) n) _ line) refl
+night-accepted m cs n b os k line = rw (reached-well-formed m cs, k, and-left (isMaster (run m cs .state .net) n) _ line) refl
 
-module _ (cs : List Call) (n b : ℕ) (os : List ℕ) (e : night (run cs .state) n b os .answer ≡ 0) where
+module _ (m : Bool) (cs : List Call) (n b : ℕ) (os : List ℕ) (e : night (run m cs .state) n b os .answer ≡ 0) where
   abbrev w : Night
-  w = night (run cs .state) n b os
+  w = night (run m cs .state) n b os
 
   abbrev made-by : List Call
-  made-by = turns (run cs .state) os n b
+  made-by = turns (run m cs .state) os n b
 
-  awake : Woken (run cs .state) n b os
-  awake = woken (run cs .state) n b os e
+  awake : Woken (run m cs .state) n b os
+  awake = woken (run m cs .state) n b os e
 
   -- accepted, they are the turns of the definition
-  pub night-turns : w .calls ≡ turns (run cs .state) os n b
+  pub night-turns : w .calls ≡ turns (run m cs .state) os n b
   night-turns = awake .calls
 
   count : w .jobs ≡ length made-by
-  count = night-is-jobs cs n b os .jobs ∙ ap length night-turns
+  count = night-is-jobs m cs n b os .jobs ∙ ap length night-turns
 
-  after-it : w .next ≡ run (made-by ++ cs) .state
-  after-it = night-is-jobs cs n b os .next ∙ ap (λ ds. run (ds ++ cs) .state) night-turns
+  after-it : w .next ≡ run m (made-by ++ cs) .state
+  after-it = night-is-jobs m cs n b os .next ∙ ap (λ ds. run m (ds ++ cs) .state) night-turns
 
   -- it does at most 6 jobs for each transaction kept, with the line or without
-  pub at-most-6 : w .jobs ≤ 6 * length (run cs .state .log .entries)
-  at-most-6 = rw count (omega (arith, spent cs os n b, most cs))
+  pub at-most-6 : w .jobs ≤ 6 * length (run m cs .state .log .entries)
+  at-most-6 = rw count (omega (arith, spent m cs os n b, most m cs))
 
   -- it does no more than the budget allows, and 2 is answered only where the budget is spent
   pub within : w .jobs ≤ b
-  within = rw count (made-low cs os n b)
+  within = rw count (made-low m cs os n b)
 
   pub budget-spent : w .stopped ≡ 2 → w .jobs ≡ b
   budget-spent f =
-      let x = from-state cs made-by in
-      count ∙ full cs os n b (λ t. stops-2 (run (made-by ++ cs) .state) t (sym (ap (λ s. whyStopped s os n) x) ∙ sym (awake .stopped) ∙ f))
+      let x = from-state m cs made-by in
+      count ∙ full m cs os n b (λ t. stops-2 (run m (made-by ++ cs) .state) t (sym (ap (λ s. whyStopped s os n) x) ∙ sym (awake .stopped) ∙ f))
     where
       stops-2 : (s : State) → turn s os n ≡ [] → whyStopped s os n ≡ 2 → ⊥
       stops-2 s t f = go (needsLine s (all s os n)) (sym (ap (λ c. stoppedBy c (needsLine s (all s os n))) t) ∙ f)
@@ -568,21 +568,21 @@ module _ (cs : List Call) (n b : ℕ) (os : List ℕ) (e : night (run cs .state)
 
   -- 6 jobs for each transaction kept are enough, the line being open: it stops with 0, no job is possible, and all that is
   -- unfinished is a rollback of a change that is not the newest live one
-  pub night-enough : lineOpenFor (run cs .state .net) n ≡ true → 6 * length (run cs .state .log .entries) ≤ b → Slept w
+  pub night-enough : lineOpenFor (run m cs .state .net) n ≡ true → 6 * length (run m cs .state .log .entries) ≤ b → Slept w
   night-enough line p =
       let ds = made-by ++ cs in
-      let x : stateFrom (run cs .state) made-by ≡ run ds .state = from-state cs made-by in
-      let l : lineOpenFor (run ds .state .net) n ≡ true = line-kept cs os n line b in
-      let t : turn (run ds .state) os n ≡ [] = enough cs os n b (omega (arith, p, most cs)) in
+      let x : stateFrom (run m cs .state) made-by ≡ run m ds .state = from-state m cs made-by in
+      let l : lineOpenFor (run m ds .state .net) n ≡ true = line-kept m cs os n line b in
+      let t : turn (run m ds .state) os n ≡ [] = enough m cs os n b (omega (arith, p, most m cs)) in
       record {
-        stopped = awake .stopped ∙ ap (λ s. whyStopped s os n) x ∙ ap (λ c. stoppedBy c (needsLine (run ds .state) (all (run ds .state) os n))) t
-            ∙ ap (stoppedBy []) (no-twelve ds os n (awake .node) (awake .table) l t);
-        none = rw after-it (none-possible ds os n (awake .node) (awake .table) l t);
-        ended = rw after-it (all-ended ds os n (awake .node) (awake .table) l t);
+        stopped = awake .stopped ∙ ap (λ s. whyStopped s os n) x ∙ ap (λ c. stoppedBy c (needsLine (run m ds .state) (all (run m ds .state) os n))) t
+            ∙ ap (stoppedBy []) (no-twelve m ds os n (awake .node) (awake .table) l t);
+        none = rw after-it (none-possible m ds os n (awake .node) (awake .table) l t);
+        ended = rw after-it (all-ended m ds os n (awake .node) (awake .table) l t);
       }
 
   -- as the order says it
-  pub eight-enough : lineOpenFor (run cs .state .net) n ≡ true → 8 * length (run cs .state .log .entries) ≤ b → Slept w
+  pub eight-enough : lineOpenFor (run m cs .state .net) n ≡ true → 8 * length (run m cs .state .log .entries) ≤ b → Slept w
   eight-enough line p = night-enough line (omega arith)
 
 -- ---- a history of calls and nights is one of calls, so every theorem over calls speaks of it
@@ -592,11 +592,11 @@ same-past s t es fs p q = ap (λ x. record { state = x; events = es }) p ∙ ap 
 abbrev nightPast : Past → ℕ → ℕ → List ℕ → Past
 nightPast p n b os = let o = night (p .state) n b os in record { state = o .next; events = o .events ++ p .events }
 
-pub acted-run : (b : Start) (xs : List Act) → acted b xs ≡ run (callsIn b xs)
+pub acted-run : (b : Start) (xs : List Act) → acted b xs ≡ run (startKind b) (callsIn b xs)
 unfolding acted callsIn run
 acted-run b [] = refl
 acted-run b (call c ∷ xs) = ap (λ p. let o = step (p .state) c in record { state = o .next; events = o .reply .event ∷ p .events }) (acted-run b xs)
 acted-run b (nightly n m os ∷ xs) =
-    let k = night-is-jobs (callsIn b xs) n m os in
+    let k = night-is-jobs (startKind b) (callsIn b xs) n m os in
     ap (λ p. nightPast p n m os) (acted-run b xs) ∙ same-past _ _ _ _ (k .next) (k .events)
-    ∙ ap (λ p. run (night (p .state) n m os .calls ++ callsIn b xs)) (sym (acted-run b xs))
+    ∙ ap (λ p. run (startKind b) (night (p .state) n m os .calls ++ callsIn b xs)) (sym (acted-run b xs))

@@ -141,16 +141,16 @@ unless-not a x false o n f = n
 
 -- ---- the theorems
 -- no job is refused with 9
-pub never-nine : (cs : List Call) (n j i r c : ℕ) → step (run cs .state) (work n j i r c) .reply .answer ≡ 9 → ⊥
+pub never-nine : (m : Bool) (cs : List Call) (n j i r c : ℕ) → step (run m cs .state) (work n j i r c) .reply .answer ≡ 9 → ⊥
 unfolding step outcome decide
-never-nine cs n j i r c =
-    let x = folded cs in
-    subst (λ s. wellFormed s ≡ true → step s (work n j i r c) .reply .answer ≡ 9 → ⊥) (sym (x .shows)) (seen x) (reached-well-formed cs)
+never-nine m cs n j i r c =
+    let x = folded m cs in
+    subst (λ s. wellFormed s ≡ true → step s (work n j i r c) .reply .answer ≡ 9 → ⊥) (sym (x .shows)) (seen x) (reached-well-formed m cs)
   where
-    seen : (x : Folded cs) → wellFormed (shown (whole cs) (x .fold) (x .base)) ≡ true → step (shown (whole cs) (x .fold) (x .base)) (work n j i r c) .reply .answer ≡ 9 → ⊥
+    seen : (x : Folded m cs) → wellFormed (shown (whole m cs) (x .fold) (x .base)) ≡ true → step (shown (whole m cs) (x .fold) (x .base)) (work n j i r c) .reply .answer ≡ 9 → ⊥
     seen x e =
-        let w = whole cs in
-        let s = shown (whole cs) (x .fold) (x .base) in
+        let w = whole m cs in
+        let s = shown (whole m cs) (x .fold) (x .base) in
         let inv = x .reached .inv in
         unless-not 1 9 (wellFormed s) _ (λ e. omega arith)
         (λ _. unless-not 2 9 (workOk n j r c) _ (λ e. omega arith)
@@ -158,22 +158,22 @@ never-nine cs n j i r c =
         (λ y. unless-not 18 9 (isKept s i) _ (λ e. omega arith)
         (λ z. unless-not 10 9 (isMaster (w .net) n) _ (λ e. omega arith)
         (λ _. subst (λ p. p .answer ≡ 9 → ⊥) (sym (plan-seen w (x .fold) (x .base) (x .front) (rest-seen inv (x .fold) (x .base) (x .front)) (settled-seen inv (x .fold) (x .base) (x .front)) n j i (eqb r 0) (ltb-true _ i z)))
-        (plan-not-nine w (run cs .events) (x .reached)
+        (plan-not-nine w (run m cs .events) (x .reached)
         (omega (arith, formed s e .log .last, last-seen w (x .fold) (x .base) (x .front)))
         i (leb-true 1 i (and-left (leb 1 i) _ y)) (omega (arith, leb-true i _ (and-right (leb 1 i) _ y), last-seen w (x .fold) (x .base) (x .front))) n j (eqb r 0)))))))
 
 -- no call is refused with 1
-pub never-one : (cs : List Call) (c : Call) → step (run cs .state) c .reply .answer ≡ 1 → ⊥
-never-one cs c e = clash (sym (reached-well-formed cs) ∙ refusal-one (run cs .state) c e)
+pub never-one : (m : Bool) (cs : List Call) (c : Call) → step (run m cs .state) c .reply .answer ≡ 1 → ⊥
+never-one m cs c e = clash (sym (reached-well-formed m cs) ∙ refusal-one (run m cs .state) c e)
 
 -- an ordinal is at most twice the highest number given
-pub ordinals-at-most-twice : (cs : List Call) → AtMostTwice (run cs .state)
-ordinals-at-most-twice cs = let x = folded cs in subst AtMostTwice (sym (x .shows)) (seen x (at-most-twice (whole cs) (run cs .events) (x .reached)))
+pub ordinals-at-most-twice : (m : Bool) (cs : List Call) → AtMostTwice (run m cs .state)
+ordinals-at-most-twice m cs = let x = folded m cs in subst AtMostTwice (sym (x .shows)) (seen x (at-most-twice (whole m cs) (run m cs .events) (x .reached)))
   where
-    seen : (x : Folded cs) → AtMostTwice (whole cs) → AtMostTwice (shown (whole cs) (x .fold) (x .base))
+    seen : (x : Folded m cs) → AtMostTwice (whole m cs) → AtMostTwice (shown (whole m cs) (x .fold) (x .base))
     seen x a =
-        let w = whole cs in
-        let l = shown (whole cs) (x .fold) (x .base) .log in
+        let w = whole m cs in
+        let l = shown (whole m cs) (x .fold) (x .base) .log in
         record {
           committed = omega (arith, a .committed, last-seen w (x .fold) (x .base) (x .front));
           applied = a .applied;

@@ -130,11 +130,11 @@ unfolding planOf
 plan-idle w inv b d i p q e net n j ok = none-goes w inv i e (omega (arith, d .change)) (d .entries i p q) net n (eqb j 1) (eqb j 2) (eqb j 3) ok
 
 -- ---- for ever: no job on a number folded away would be accepted by the whole, by any node over any line
-pub never-more : (cs : List Call) (net : Net) (n j i : ℕ) (ok : Bool) → 1 ≤ i → i ≤ run cs .state .log .folded .0 → planOf (withNet (whole cs) net) n j i ok .answer ≡ 0 → ⊥
-never-more cs net n j i ok p q =
-    let x = folded cs in
+pub never-more : (m : Bool) (cs : List Call) (net : Net) (n j i : ℕ) (ok : Bool) → 1 ≤ i → i ≤ run m cs .state .log .folded .0 → planOf (withNet (whole m cs) net) n j i ok .answer ≡ 0 → ⊥
+never-more m cs net n j i ok p q =
+    let x = folded m cs in
     let b : i ≤ x .fold = subst (λ s. i ≤ s .log .folded .0) (x .shows) q in
-    plan-idle (whole cs) (x .reached .inv) (x .fold) (x .passed) i p b (x .front .finished i p b) net n j ok .0
+    plan-idle (whole m cs) (x .reached .inv) (x .fold) (x .passed) i p b (x .front .finished i p b) net n j ok .0
 
 -- ---- where a fold is accepted
 unless-held : (a : ℕ) (t : Bool) (o : Outcome) → (a ≡ 0 → ⊥) → unless a t o .reply .answer ≡ 0 → (t ≡ true) × (o .reply .answer ≡ 0)
@@ -150,16 +150,16 @@ fold-accepted s b e =
     (leb-true b _ (and-right (isKept s b) _ (y .0)), z .0, ltb-true _ b (and-left (isKept s b) _ (y .0)))
 
 -- no job on what it folds away would be accepted, by any node over any line
-pub nothing-left : (cs : List Call) (b : ℕ) → step (run cs .state) (foldTo b) .reply .answer ≡ 0 → (net : Net) (n j i : ℕ) (ok : Bool) → run cs .state .log .folded .0 < i → i ≤ b
-    → planOf (withNet (run cs .state) net) n j i ok .answer ≡ 0
+pub nothing-left : (m : Bool) (cs : List Call) (b : ℕ) → step (run m cs .state) (foldTo b) .reply .answer ≡ 0 → (net : Net) (n j i : ℕ) (ok : Bool) → run m cs .state .log .folded .0 < i → i ≤ b
+    → planOf (withNet (run m cs .state) net) n j i ok .answer ≡ 0
     → ⊥
-nothing-left cs b z net n j i ok p q =
-    let x = folded cs in
+nothing-left m cs b z net n j i ok p q =
+    let x = folded m cs in
     subst (λ s. step s (foldTo b) .reply .answer ≡ 0 → s .log .folded .0 < i → planOf (withNet s net) n j i ok .answer ≡ 0 → ⊥) (sym (x .shows)) (seen x) z p
   where
-    seen : (x : Folded cs) → step (shown (whole cs) (x .fold) (x .base)) (foldTo b) .reply .answer ≡ 0 → x .fold < i → planOf (withNet (shown (whole cs) (x .fold) (x .base)) net) n j i ok .answer ≡ 0 → ⊥
+    seen : (x : Folded m cs) → step (shown (whole m cs) (x .fold) (x .base)) (foldTo b) .reply .answer ≡ 0 → x .fold < i → planOf (withNet (shown (whole m cs) (x .fold) (x .base)) net) n j i ok .answer ≡ 0 → ⊥
     seen x e r =
-        let w = whole cs in
+        let w = whole m cs in
         let f = x .front in
         let inv = x .reached .inv in
         let s = shown w (x .fold) (x .base) in

@@ -68,9 +68,9 @@ owned {w} {ops} inv b vs f p q =
     ∙ ap (λ ks. firstSetting (shown w b vs .log) ks p) (sym (live-above inv b vs f))
 
 -- the owner kept is that of the whole live list, after any calls from fresh
-pub owners-listed : (cs : List Call) → Owns (run cs .state)
-owners-listed cs =
-    let x = folded cs in
+pub owners-listed : (m : Bool) (cs : List Call) → Owns (run m cs .state)
+owners-listed m cs =
+    let x = folded m cs in
     subst Owns (sym (x .shows)) (owned (x .reached .inv) (x .fold) (x .base) (x .front))
 
 -- ---- by the events
@@ -98,17 +98,17 @@ module _ (l : Log) (f : ℕ → Bool) (p : ℕ) where
       go false h = h
 
 -- the owner is the newest live change that set the path, after any calls from fresh
-pub owners-newest : (cs : List Call) → OwnsNewest (run cs .state) (run cs .events)
-owners-newest cs p q =
-    let s = run cs .state in
-    let f = kept s (live (run cs .events) 1) in
-    owners-listed cs p q ∙ ap (λ ks. firstSetting (s .log) ks p) (demand-3 cs .live) ∙ first-highest (s .log) f p (last (s .log))
+pub owners-newest : (m : Bool) (cs : List Call) → OwnsNewest (run m cs .state) (run m cs .events)
+owners-newest m cs p q =
+    let s = run m cs .state in
+    let f = kept s (live (run m cs .events) 1) in
+    owners-listed m cs p q ∙ ap (λ ks. firstSetting (s .log) ks p) (demand-3 m cs .live) ∙ first-highest (s .log) f p (last (s .log))
 
 -- and the committed value is what the owner gives, or the base value
-pub owners-give : (cs : List Call) → OwnersGive (run cs .state)
-owners-give cs p q =
-    let s = run cs .state in
-    let f = kept s (live (run cs .events) 1) in
-    demand-3 cs .committed p q
+pub owners-give : (m : Bool) (cs : List Call) → OwnersGive (run m cs .state)
+owners-give m cs p q =
+    let s = run m cs .state in
+    let f = kept s (live (run m cs .events) 1) in
+    demand-3 m cs .committed p q
     ∙ highest-gives (s .log) f p (last (s .log))
-    ∙ ap (λ k. givenBy (s .log) k p) (sym (owners-newest cs p q))
+    ∙ ap (λ k. givenBy (s .log) k p) (sym (owners-newest m cs p q))

@@ -202,7 +202,7 @@ module _ (s : State) (es : List Event) (bad : List ℕ) (inv : Invariant s (opsO
         elect = λ n b t e. still _ (jobs.wires inv _);
         resign = still _ (jobs.wires inv _);
         syncing = still _ (jobs.wires inv _);
-        synced = still _ (jobs.wires inv _);
+        synced = record { bad = bad; inv = jobs.wires inv _ };
         job1 = λ i p q cut second. record {
           wait = still s inv;
           full = λ a b d. still s inv;
@@ -299,9 +299,9 @@ fresh-applied =
       clear = λ k x y. refl;
     }
 
-fresh-reached : Reached fresh []
+fresh-reached : (m : Bool) → Reached (fresh m) []
 unfolding opsOf
-fresh-reached =
+fresh-reached m =
     record {
       bad = [];
       inv = record {
@@ -313,44 +313,44 @@ fresh-reached =
     }
 
 -- ---- nothing is lost by a fold: the state is the whole with its front folded away
-pub record Folded (cs : List Call) : Type 0 where
+pub record Folded (m : Bool) (cs : List Call) : Type 0 where
   pub fold : ℕ
   pub base : List ℕ
-  pub shows : run cs .state ≡ shown (whole cs) fold base
-  pub front : Front (whole cs .log) fold base
-  pub passed : Passed (whole cs) fold
-  pub reached : Reached (whole cs) (run cs .events)
+  pub shows : run m cs .state ≡ shown (whole m cs) fold base
+  pub front : Front (whole m cs .log) fold base
+  pub passed : Passed (whole m cs) fold
+  pub reached : Reached (whole m cs) (run m cs .events)
 
 -- one call more, whatever it is
-follows : (cs : List Call) → Folded cs → (P : Note → Reply → State → Type 0) → ((a : ℕ) → P nothing (refusal a) (whole cs)) → (c : Call) → Calls (whole cs) P (λ ps. c ≡ append ps)
-    → Followed P (note (run cs .state) c) (step (run cs .state) c .reply) (step (run cs .state) c .next) (whole (c ∷ cs))
+follows : (m : Bool) (cs : List Call) → Folded m cs → (P : Note → Reply → State → Type 0) → ((a : ℕ) → P nothing (refusal a) (whole m cs)) → (c : Call) → Calls (whole m cs) P (λ ps. c ≡ append ps)
+    → Followed P (note (run m cs .state) c) (step (run m cs .state) c .reply) (step (run m cs .state) c .next) (whole m (c ∷ cs))
 unfolding whole
-follows cs x P same c k =
+follows m cs x P same c k =
     let i = x .reached .inv in
-    subst (λ s. Followed P (note s c) (step s c .reply) (step s c .next) (afters (whole cs) (unlessFold c (outcome s c .stores)))) (sym (x .shows))
-    (follow (whole cs) (x .fold) (x .base) (x .front) (x .passed) (rest-seen i (x .fold) (x .base) (x .front)) (settled-seen i (x .fold) (x .base) (x .front)) P same c k
+    subst (λ s. Followed P (note s c) (step s c .reply) (step s c .next) (afters (whole m cs) (unlessFold c (outcome s c .stores)))) (sym (x .shows))
+    (follow (whole m cs) (x .fold) (x .base) (x .front) (x .passed) (rest-seen i (x .fold) (x .base) (x .front)) (settled-seen i (x .fold) (x .base) (x .front)) P same c k
     (fold-front i (x .fold) (x .base) (x .front)) (λ c p q m. fold-passed i (x .fold) (x .base) (x .front) c p q m (x .passed)))
 
-fresh-front : Front (fresh .log) 0 absent
+fresh-front : Front (unfolded []) 0 absent
 unfolding highest
 fresh-front = record { whole = refl; absent = refl; within = omega arith; finished = λ k p q. absurd (omega arith); base = λ p q. refl; room = refl }
 
-pub folded : (cs : List Call) → Folded cs
+pub folded : (m : Bool) (cs : List Call) → Folded m cs
 unfolding run whole
-folded [] = record { fold = 0; base = absent; shows = refl; front = fresh-front; passed = record { change = omega arith; entries = λ k p q. absurd (omega arith) }; reached = fresh-reached }
-folded (c ∷ cs) =
-    let x = folded cs in
-    let y = follows cs x (Keeps (whole cs) (run cs .events) (x .reached .bad) (x .reached .inv)) (λ a. still (whole cs) (run cs .events) (x .reached .bad) (x .reached .inv) (whole cs) (x .reached .inv)) c
-    (calls (whole cs) (run cs .events) (x .reached .bad) (x .reached .inv)) in
+folded m [] = record { fold = 0; base = absent; shows = refl; front = fresh-front; passed = record { change = omega arith; entries = λ k p q. absurd (omega arith) }; reached = fresh-reached m }
+folded m (c ∷ cs) =
+    let x = folded m cs in
+    let y = follows m cs x (Keeps (whole m cs) (run m cs .events) (x .reached .bad) (x .reached .inv)) (λ a. still (whole m cs) (run m cs .events) (x .reached .bad) (x .reached .inv) (whole m cs) (x .reached .inv)) c
+    (calls (whole m cs) (run m cs .events) (x .reached .bad) (x .reached .inv)) in
     record { fold = y .fold; base = y .base; shows = y .shows; front = y .front; passed = y .passed; reached = y .holds }
 
-pub reached : (cs : List Call) → Reached (whole cs) (run cs .events)
-reached cs = folded cs .reached
+pub reached : (m : Bool) (cs : List Call) → Reached (whole m cs) (run m cs .events)
+reached m cs = folded m cs .reached
 
 -- what every way to accept a call keeps of the whole, every call keeps
-pub by-history : (cs : List Call) (P : Note → Reply → State → Type 0) → ((a : ℕ) → P nothing (refusal a) (whole cs)) → (c : Call) → Calls (whole cs) P (λ ps. c ≡ append ps)
-    → P (note (run cs .state) c) (step (run cs .state) c .reply) (whole (c ∷ cs))
-by-history cs P same c k = follows cs (folded cs) P same c k .holds
+pub by-history : (m : Bool) (cs : List Call) (P : Note → Reply → State → Type 0) → ((a : ℕ) → P nothing (refusal a) (whole m cs)) → (c : Call) → Calls (whole m cs) P (λ ps. c ≡ append ps)
+    → P (note (run m cs .state) c) (step (run m cs .state) c .reply) (whole m (c ∷ cs))
+by-history m cs P same c k = follows m cs (folded m cs) P same c k .holds
 
 -- ---- demand 3
 -- live at a stage, by its ops
@@ -435,19 +435,19 @@ front-zero f =
     record { whole = f .whole; absent = f .absent; within = omega arith; finished = λ k p q. absurd (omega arith); base = λ p q. ap (λ us. getD us p 0) (sym (f .absent)); room = refl }
 
 -- the base values are what the changes folded away gave, by the whole history: those live at commit, and those live at apply
-pub base-is-committed : (cs : List Call) (p : ℕ) → p < 32
-    → getD (run cs .state .log .base) p 0 ≡ highest (whole cs .log) (live (run cs .events) 1) (run cs .state .log .folded .0) p
-base-is-committed cs p q =
-    let x = folded cs in
-    subst (λ s. getD (s .log .base) p 0 ≡ highest (whole cs .log) (live (run cs .events) 1) (s .log .folded .0) p) (sym (x .shows))
-    (base-committed (whole cs) (run cs .events) (x .reached) (x .fold) (x .base) (x .front) p q)
+pub base-is-committed : (m : Bool) (cs : List Call) (p : ℕ) → p < 32
+    → getD (run m cs .state .log .base) p 0 ≡ highest (whole m cs .log) (live (run m cs .events) 1) (run m cs .state .log .folded .0) p
+base-is-committed m cs p q =
+    let x = folded m cs in
+    subst (λ s. getD (s .log .base) p 0 ≡ highest (whole m cs .log) (live (run m cs .events) 1) (s .log .folded .0) p) (sym (x .shows))
+    (base-committed (whole m cs) (run m cs .events) (x .reached) (x .fold) (x .base) (x .front) p q)
 
-pub base-is-applied : (cs : List Call) (p : ℕ) → p < 32
-    → getD (run cs .state .log .base) p 0 ≡ highest (whole cs .log) (live (run cs .events) 2) (run cs .state .log .folded .0) p
-base-is-applied cs p q =
-    let x = folded cs in
-    subst (λ s. getD (s .log .base) p 0 ≡ highest (whole cs .log) (live (run cs .events) 2) (s .log .folded .0) p) (sym (x .shows))
-    (base-applied (whole cs) (run cs .events) (x .reached) (x .fold) (x .base) (x .front) p q)
+pub base-is-applied : (m : Bool) (cs : List Call) (p : ℕ) → p < 32
+    → getD (run m cs .state .log .base) p 0 ≡ highest (whole m cs .log) (live (run m cs .events) 2) (run m cs .state .log .folded .0) p
+base-is-applied m cs p q =
+    let x = folded m cs in
+    subst (λ s. getD (s .log .base) p 0 ≡ highest (whole m cs .log) (live (run m cs .events) 2) (s .log .folded .0) p) (sym (x .shows))
+    (base-applied (whole m cs) (run m cs .events) (x .reached) (x .fold) (x .base) (x .front) p q)
 
 -- a refused fold makes no store
 none-folded : (w k m : Bool) (es : List Store) → eqb (unless 1 w (unless 5 k (unless 17 m (accepted es))) .reply .answer) 0 ≡ false
@@ -471,13 +471,13 @@ all-made s (work n j i r c) e = refl
 all-made s (foldTo b) e = sym (none-folded (wellFormed s) (isKept s b && leb b (last (s .log))) (mayFold s b) (baseRow (s .log) b (list.live s) ++ (fold (num b) ∷ [])) e)
 
 -- where no fold was accepted, the state is the whole: the history is what it was before there were folds
-pub unfolded-whole : (cs : List Call) → folds cs ≡ false → run cs .state ≡ whole cs
+pub unfolded-whole : (m : Bool) (cs : List Call) → folds m cs ≡ false → run m cs .state ≡ whole m cs
 unfolding run whole folds step
-unfolded-whole [] e = refl
-unfolded-whole (c ∷ cs) e =
-    go (foldedBy c (outcome (run cs .state) c .reply .answer)) refl e (unfolded-whole cs)
+unfolded-whole m [] e = refl
+unfolded-whole m (c ∷ cs) e =
+    go (foldedBy c (outcome (run m cs .state) c .reply .answer)) refl e (unfolded-whole m cs)
   where
-    go : (b : Bool) → foldedBy c (outcome (run cs .state) c .reply .answer) ≡ b → (b || folds cs) ≡ false → (folds cs ≡ false → run cs .state ≡ whole cs)
-        → afters (run cs .state) (outcome (run cs .state) c .stores) ≡ afters (whole cs) (unlessFold c (outcome (run cs .state) c .stores))
+    go : (b : Bool) → foldedBy c (outcome (run m cs .state) c .reply .answer) ≡ b → (b || folds m cs) ≡ false → (folds m cs ≡ false → run m cs .state ≡ whole m cs)
+        → afters (run m cs .state) (outcome (run m cs .state) c .stores) ≡ afters (whole m cs) (unlessFold c (outcome (run m cs .state) c .stores))
     go true x y r = clash y
-    go false x y r = ap (λ s. afters s (outcome (run cs .state) c .stores)) (r y) ∙ ap (afters (whole cs)) (sym (all-made (run cs .state) c x))
+    go false x y r = ap (λ s. afters s (outcome (run m cs .state) c .stores)) (r y) ∙ ap (afters (whole m cs)) (sym (all-made (run m cs .state) c x))

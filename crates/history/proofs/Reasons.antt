@@ -328,17 +328,17 @@ module _ {w : State} {ops acts : List Op} {bad : List ℕ} (inv : Invariant w op
       never-eighth inv st i (says-seen o i (k .number .0) (k .number .1)) n j (k .job .0) (k .job .1) false (idle-seen i (k .number .0) n j false (k .waits))
       (sym (reason-seen i (k .number .0) j) ∙ sym (k .gives) ∙ g)
 
-module _ (cs : List Call) (n j i : ℕ) (e : why (run cs .state) n j i .answer ≡ 0) where
+module _ (m : Bool) (cs : List Call) (n j i : ℕ) (e : why (run m cs .state) n j i .answer ≡ 0) where
   -- the eighth is never given in a reached state
-  pub no-eighth : why (run cs .state) n j i .reason ≡ 8 → ⊥
+  pub no-eighth : why (run m cs .state) n j i .reason ≡ 8 → ⊥
   no-eighth =
-      let x = folded cs in
+      let x = folded m cs in
       subst (λ s. wellFormed s ≡ true → why s n j i .answer ≡ 0 → why s n j i .reason ≡ 8 → ⊥) (sym (x .shows))
-      (λ o. none-eighth (x .reached .inv) (staged cs) (x .fold) (x .base) (x .front) o n j i) (reached-well-formed cs) e
+      (λ o. none-eighth (x .reached .inv) (staged m cs) (x .fold) (x .base) (x .front) o n j i) (reached-well-formed m cs) e
 
   -- the reason given is true of the state, and every one before it, of those that the job uses, is false
-  pub reason-given : Given (run cs .state) j i (why (run cs .state) n j i .reason)
+  pub reason-given : Given (run m cs .state) j i (why (run m cs .state) n j i .reason)
   reason-given =
-      let s = run cs .state in
+      let s = run m cs .state in
       let k = asked s n j i e in
       subst (Given s j i) (sym (k .gives)) (given s j i (λ f. no-eighth (k .gives ∙ f)))

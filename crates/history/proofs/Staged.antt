@@ -664,9 +664,9 @@ module _ (s : State) (es : List Event) (bad : List ℕ) (inv : Invariant s (opsO
       }
 
 -- after any calls from fresh
-pub staged : (cs : List Call) → Stages (whole cs)
+pub staged : (m : Bool) (cs : List Call) → Stages (whole m cs)
 unfolding run whole
-staged [] =
+staged m [] =
     record {
       entries = none-all (λ k u. EntryStage 0 0 0 0 k u) (λ k. record {
         some = λ x. absurd (omega arith);
@@ -682,7 +682,7 @@ staged [] =
       });
       mode = rests refl;
     }
-staged (c ∷ cs) =
-    let r = reached cs in
-    by-history cs (Keeps (whole cs) (run cs .events) (r .bad) (r .inv) (staged cs)) (λ a. staged cs) c
-    (calls (whole cs) (run cs .events) (r .bad) (r .inv) (staged cs))
+staged m (c ∷ cs) =
+    let r = reached m cs in
+    by-history m cs (Keeps (whole m cs) (run m cs .events) (r .bad) (r .inv) (staged m cs)) (λ a. staged m cs) c
+    (calls (whole m cs) (run m cs .events) (r .bad) (r .inv) (staged m cs))

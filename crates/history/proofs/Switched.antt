@@ -489,11 +489,11 @@ module _ (s : State) (es : List Event) (h : ℕ) (r : Reached s es) (marks : Mar
         elect = λ n b t e. wiring _ (elect-wired (s .net) _ (sw .wired) n t e);
         resign = wiring _ (resign-wired (s .net) _ (sw .wired));
         syncing = wiring _ (syncing-wired (s .net) _ (sw .wired));
-        synced = still _ 0 (record {
+        synced = retold (record {
           began = sw .began;
           left = sw .left;
           wired = synced-wired (s .net) _ (sw .wired) (s .applied .values) _ (record { whole = λ x. refl; partly = λ k x y. absurd (omega arith) });
-        });
+        }) _ (tell _ es);
         job1 = λ i p q cut second. record {
           wait = still s h sw;
           full = λ a b d. still s h sw;
@@ -542,19 +542,19 @@ module _ (s : State) (es : List Event) (h : ℕ) (r : Reached s es) (marks : Mar
           let u : this i .rollback .commit ≡ None = inv .sides i .unasked (eqb-true (this i .phase) 1 (and-left (eqb (this i .phase) 1) _ e)) in
           puts sw i _ (sw .began i) (λ us. asked-partly (this i) (ap isGoing (waits-back i None u .0)))
 
--- after any calls from fresh
-pub switched : (cs : List Call) → Switch (whole cs) (Told (run cs .events)) (opsOf Complete 1 (run cs .events)) (opsOf Complete 2 (run cs .events)) (halfPushed (notes cs))
+-- after any calls from fresh, of either kind
+pub switched : (m : Bool) (cs : List Call) → Switch (whole m cs) (Told (run m cs .events)) (opsOf Complete 1 (run m cs .events)) (opsOf Complete 2 (run m cs .events)) (halfPushed (notes m cs))
 unfolding run whole notes halfPushed opsOf stack first
-switched [] =
+switched m [] =
     record {
       began = none-all (λ k u. hasBegun (u .change .apply) ≡ true → Told [] k) (λ k x. crash x);
       left = λ x. absurd (x refl);
-      wired = fresh-wired _;
+      wired = fresh-wired m _;
     }
-switched (c ∷ cs) =
-    let h = halfPushed (notes cs) in
-    by-history cs (Keeps (whole cs) (run cs .events) h (reached cs) (marked cs) (switched cs)) (λ a. still (whole cs) (run cs .events) h (reached cs) (marked cs) (switched cs) (whole cs) h (switched cs)) c
-    (calls (whole cs) (run cs .events) h (reached cs) (marked cs) (switched cs))
+switched m (c ∷ cs) =
+    let h = halfPushed (notes m cs) in
+    by-history m cs (Keeps (whole m cs) (run m cs .events) h (reached m cs) (marked m cs) (switched m cs)) (λ a. still (whole m cs) (run m cs .events) h (reached m cs) (marked m cs) (switched m cs) (whole m cs) h (switched m cs)) c
+    (calls (whole m cs) (run m cs .events) h (reached m cs) (marked m cs) (switched m cs))
 
 -- ---- no push is cut at its first store and not made good
 -- where one is, it is the last so cut
@@ -682,16 +682,16 @@ module _ (s : State) (es : List Event) (h : ℕ) (r : Reached s es) (marks : Mar
       }
 
 -- demand 3, after any calls from fresh
-pub demand-3 : (cs : List Call) → Demand3 (run cs .state) (run cs .events) (notes cs)
-demand-3 cs =
-    let x = folded cs in
-    subst (λ s. Demand3 s (run cs .events) (notes cs)) (sym (x .shows))
-    (demand (whole cs) (run cs .events) (halfPushed (notes cs)) (x .reached) (marked cs) (switched cs) (x .fold) (x .base) (x .front) (notes cs) refl)
+pub demand-3 : (m : Bool) (cs : List Call) → Demand3 (run m cs .state) (run m cs .events) (notes m cs)
+demand-3 m cs =
+    let x = folded m cs in
+    subst (λ s. Demand3 s (run m cs .events) (notes m cs)) (sym (x .shows))
+    (demand (whole m cs) (run m cs .events) (halfPushed (notes m cs)) (x .reached) (marked m cs) (switched m cs) (x .fold) (x .base) (x .front) (notes m cs) refl)
 
 -- and of the whole: over all numbers ever given, with no base
-pub demand-3-whole : (cs : List Call) → Demand3 (whole cs) (run cs .events) (notes cs)
-demand-3-whole cs =
-    let x = folded cs in
+pub demand-3-whole : (m : Bool) (cs : List Call) → Demand3 (whole m cs) (run m cs .events) (notes m cs)
+demand-3-whole m cs =
+    let x = folded m cs in
     let f = front-zero (x .front) in
-    subst (λ l. Demand3 (withLog (whole cs) l) (run cs .events) (notes cs)) (sym (log-shown (whole cs .log) (f .whole) (f .absent)))
-    (demand (whole cs) (run cs .events) (halfPushed (notes cs)) (x .reached) (marked cs) (switched cs) 0 absent f (notes cs) refl)
+    subst (λ l. Demand3 (withLog (whole m cs) l) (run m cs .events) (notes m cs)) (sym (log-shown (whole m cs .log) (f .whole) (f .absent)))
+    (demand (whole m cs) (run m cs .events) (halfPushed (notes m cs)) (x .reached) (marked m cs) (switched m cs) 0 absent f (notes m cs) refl)

@@ -2,7 +2,7 @@
 -- values said of them alone, by the calls and the events. Proved in ByGiven. Assumes nothing.
 use Prim.Native.Nat.{ℕ, _<_}
 use mathlib.Core.List.{List, [], _∷_, _++_}
-use mathlib.Core.Bool.{cond}
+use mathlib.Core.Bool.{Bool, cond}
 use mathlib.Core.Path.{_≡_}
 use lib.Dec.{eqb}
 use lib.ListN.{length, getD}
@@ -25,13 +25,13 @@ givenBy (sync n) a = []
 givenBy (work n j i r c) a = []
 givenBy (foldTo b) a = []
 
-unfoldable pub given : List Call → List Transaction
-given [] = []
-given (c ∷ cs) = given cs ++ givenBy c (step (run cs .state) c .reply .answer)
+unfoldable pub given : Bool → List Call → List Transaction
+given m [] = []
+given m (c ∷ cs) = given m cs ++ givenBy c (step (run m cs .state) c .reply .answer)
 
-pub record ByGiven (cs : List Call) : Type 0 where
+pub record ByGiven (m : Bool) (cs : List Call) : Type 0 where
   -- the committed value of every path is that of the highest-numbered change ever given and setting it whose commit Complete
   -- event has been given and whose rollback commit Complete event has not, or absent
-  pub committed : (p : ℕ) → p < 32 → getD (run cs .state .committed .values) p 0 ≡ highest (unfolded (given cs)) (live (run cs .events) 1) (length (given cs)) p
+  pub committed : (p : ℕ) → p < 32 → getD (run m cs .state .committed .values) p 0 ≡ highest (unfolded (given m cs)) (live (run m cs .events) 1) (length (given m cs)) p
   -- the same, with apply
-  pub applied : (p : ℕ) → p < 32 → getD (run cs .state .applied .values) p 0 ≡ highest (unfolded (given cs)) (live (run cs .events) 2) (length (given cs)) p
+  pub applied : (p : ℕ) → p < 32 → getD (run m cs .state .applied .values) p 0 ≡ highest (unfolded (given m cs)) (live (run m cs .events) 2) (length (given m cs)) p

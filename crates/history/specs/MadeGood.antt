@@ -6,6 +6,7 @@ use mathlib.Core.Path.{_≡_, refl}
 use lib.Dec.{eqb}
 use Rattle.machine.specs.Stores.{after, afters}
 use Rattle.machine.specs.Rows.{overlay, rowsOf}
+use Rattle.machine.specs.Differ.{differ, differRow}
 use Rattle.machine.specs.WellFormed.{allFrom, allAtMost, pairsOk, entryOk, headOk, wellFormed}
 use Rattle.machine.specs.Calls.{Call, append, rollback, start, connect, disconnect, master, sync, work, valuesOk, present, planOf, decide}
 use Rattle.machine.specs.Step.{outcome, step, run}
@@ -43,12 +44,12 @@ unfoldable pub each : (List Call → Bool) → List (List Call) → Bool
 each f [] = true
 each f (cs ∷ css) = f cs && each f css
 
-pub good-hold : each (λ cs. madeGood (notes cs)) good ≡ true
-unfolding each good notes cutSince pushedSince lastCut run step outcome decide planOf afters after overlay rowsOf allFrom allAtMost pairsOk entryOk headOk wellFormed valuesOk present
+pub good-hold : each (λ cs. madeGood (notes false cs)) good ≡ true
+unfolding each good notes cutSince pushedSince lastCut run step outcome decide differ differRow planOf afters after overlay rowsOf allFrom allAtMost pairsOk entryOk headOk wellFormed valuesOk present
 good-hold = refl
 
-pub bad-hold : each (λ cs. not (madeGood (notes cs))) bad ≡ true
-unfolding each bad notes cutSince pushedSince lastCut run step outcome decide planOf afters after overlay rowsOf allFrom allAtMost pairsOk entryOk headOk wellFormed valuesOk present
+pub bad-hold : each (λ cs. not (madeGood (notes false cs))) bad ≡ true
+unfolding each bad notes cutSince pushedSince lastCut run step outcome decide differ differRow planOf afters after overlay rowsOf allFrom allAtMost pairsOk entryOk headOk wellFormed valuesOk present
 bad-hold = refl
 
 -- ---- note lists: another's push makes nothing good, and a synchronise that wrote whatever came before it

@@ -41,13 +41,13 @@ foldedBy (sync n) a = false
 foldedBy (work n j i r c) a = false
 foldedBy (foldTo b) a = eqb a 0
 
-unfoldable pub folds : List Call → Bool
-folds [] = false
-folds (c ∷ cs) = foldedBy c (outcome (run cs .state) c .reply .answer) || folds cs
+unfoldable pub folds : Bool → List Call → Bool
+folds m [] = false
+folds m (c ∷ cs) = foldedBy c (outcome (run m cs .state) c .reply .answer) || folds m cs
 
-unfoldable pub whole : List Call → State
-whole [] = fresh
-whole (c ∷ cs) = afters (whole cs) (unlessFold c (outcome (run cs .state) c .stores))
+unfoldable pub whole : Bool → List Call → State
+whole m [] = fresh m
+whole m (c ∷ cs) = afters (whole m cs) (unlessFold c (outcome (run m cs .state) c .stores))
 
 -- ---- with 1 to b folded away, and the base values vs
 abbrev pub shownLog : Log → ℕ → List ℕ → Log
