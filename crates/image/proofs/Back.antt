@@ -13,7 +13,7 @@ use Rattle.fields.specs.Field.{field, putField, fieldsAt, putFields}
 use Rattle.fields.proofs.Laws.{Bytes, put-back}
 use Rattle.fields.proofs.Runs.{puts-back}
 use Rattle.machine.specs.Stores.{Table}
-use Rattle.image.specs.Layout.{entryWidths, headWidths, tableWidths, configurationWidths, mastershipWidths, targetWidths, nodeWidths, connectionsWidths, placeOf, changeAt, valuesAt, configurationAt, mastershipAt, targetAt, connectionsAt, nodeAt, connectedAt, runningIn}
+use Rattle.image.specs.Layout.{entryWidths, headWidths, tableWidths, configurationWidths, mastershipWidths, targetWidths, nodeWidths, connectionsWidths, placeOf, changeAt, valuesAt, configurationAt, mastershipAt, targetAt, connectionsAt, nodeAt, connectedAt, runningIn, remembersIn}
 use Rattle.image.specs.Records.{flagCode, flagOf, entryAt, putEntryAt, changeOf, headAt, putHeadAt, configurationOf, putConfiguration, mastershipOf, putMastership, targetOf, putTarget, toNode, putNodeAt, connectionsOf, putConnections}
 use Rattle.image.specs.View.{tableOf}
 use Rattle.image.specs.Formed.{flagOk, statusesOk, flagsOk}
@@ -94,7 +94,7 @@ module _ (l : List ℕ) (y : Bytes l) where
         let b : field l configurationAt 1 ≤ 3 = leb-true _ _ (and-right (leb 1 (field l configurationAt 1)) _ s) in
         rw (state-back (field l configurationAt 1) a b) (puts-back configurationWidths l configurationAt y)
 
-    rest : (flagOk l (targetAt + runningIn)
+    rest : ((flagOk l (targetAt + runningIn) && flagOk l (targetAt + remembersIn))
         && ((flagOk l (connectedAt 0) && (flagOk l (connectedAt 1) && (flagOk l (connectedAt 2) && flagOk l (connectedAt 3))))
         && (flagOk l (connectedAt 4) && (flagOk l (connectedAt 5) && (flagOk l (connectedAt 6) && flagOk l (connectedAt 7)))))) ≡ true
     unfolding flagsOk
@@ -102,11 +102,17 @@ module _ (l : List ℕ) (y : Bytes l) where
 
     pub target-stored-back : putTarget l (targetOf l) ≡ l
     unfolding putTarget targetOf fieldsAt
-    target-stored-back = rw (flag-back (field l (targetAt + runningIn) 1) (leb-true _ _ (and-left _ _ rest))) (puts-back targetWidths l targetAt y)
+    target-stored-back =
+        let t : (flagOk l (targetAt + runningIn) && flagOk l (targetAt + remembersIn)) ≡ true = and-left (flagOk l (targetAt + runningIn) && flagOk l (targetAt + remembersIn)) _ rest in
+        rw (
+          flag-back (field l (targetAt + runningIn) 1) (leb-true _ _ (and-left _ _ t)),
+          flag-back (field l (targetAt + remembersIn) 1) (leb-true _ _ (and-right (flagOk l (targetAt + runningIn)) _ t)),
+        )
+        (puts-back targetWidths l targetAt y)
 
     nodes : ((flagOk l (connectedAt 0) && (flagOk l (connectedAt 1) && (flagOk l (connectedAt 2) && flagOk l (connectedAt 3))))
         && (flagOk l (connectedAt 4) && (flagOk l (connectedAt 5) && (flagOk l (connectedAt 6) && flagOk l (connectedAt 7))))) ≡ true
-    nodes = and-right (flagOk l (targetAt + runningIn)) _ rest
+    nodes = and-right (flagOk l (targetAt + runningIn) && flagOk l (targetAt + remembersIn)) _ rest
 
     four-flags : (a b d e : ℕ) → (flagOk l a && (flagOk l b && (flagOk l d && flagOk l e))) ≡ true
         → (field l a 1 ≤ 1) × ((field l b 1 ≤ 1) × ((field l d 1 ≤ 1) × (field l e 1 ≤ 1)))

@@ -2,7 +2,6 @@
 use mathlib.Core.Bool.{Bool, _||_, cond}
 use Prim.Native.Nat.{ℕ, zero, suc, _+_, _-_, _*_, _<_, _≤_}
 use mathlib.Core.Path.{_≡_, refl, ap, ap₂, sym, _∙_}
-use mathlib.Core.Logic.{inl}
 use mathlib.Core.List.{List, [], _∷_, _++_}
 use native.Mathlib.Nat.{add-assoc, min-eq-left}
 use native.Mathlib.Numerals.{add-one}
@@ -18,11 +17,10 @@ use Rattle.kinds.specs.declared.Ordinal.{Ordinal}
 use Rattle.kinds.specs.declared.Connection.{Connection}
 use Rattle.kinds.specs.Numbers.{num, ord, follows}
 use Rattle.kinds.specs.Statuses.{codeOf}
-use Rattle.fields.specs.Field.{field, putField, fieldsAt, putFields, ones, twos, quad, total}
-use Rattle.fields.proofs.Runs.{table-at, length-fields, length-puts, puts-append, puts-outside, total-twos}
-use Rattle.fields.proofs.Laws.{field-kept}
+use Rattle.fields.specs.Field.{field, putField, fieldsAt, putFields, ones, twos, quad}
+use Rattle.fields.proofs.Runs.{table-at, length-fields, length-puts, puts-append, total-twos}
 use Rattle.machine.specs.State.{absent, never, nodeOf}
-use Rattle.machine.specs.Stores.{Table, ofApplied, targetValues}
+use Rattle.machine.specs.Stores.{Table, targetValues}
 use Rattle.image.specs.Layout.{codeWidths, markWidths, valueSize, tableWidths, nodeWidths, placeOf, changeApplyIn, rollbackCommitIn, rollbackApplyIn, phaseIn, countIn, indexIn, changeOrdinalIn, rollbackOrdinalIn, pathsIn, valuesIn, keptIn, ownersIn, targetValuesAt, connectionsAt, valuesAt, nodeAt}
 use Rattle.image.specs.Records.{toSide, toConnections, codes, marks, entryAt, putEntryAt, toNode, putNodeAt, connectionsOf, putConnections}
 use Rattle.image.specs.View.{tableOf, write}
@@ -117,10 +115,6 @@ module _ (l vs : List ℕ) (at : ℕ) where
   pub length-here : (k : ℕ) → length (upToHere k) ≡ length l
   length-here k = length-puts (replicate k 2) (take k vs) l at
 
-  -- what lies before the table is read as before
-  pub before-here : (k a : ℕ) → a + 2 ≤ at → field (upToHere k) a 2 ≡ field l a 2
-  before-here k a h = field-kept l (upToHere k) at (at + total (replicate k 2)) (puts-outside (replicate k 2) (take k vs) l at) 2 a (inl h)
-
 -- ---- the target's values, all at once: what stands in the slice after k of them, none at first, one more, all 32
 abbrev pub Here : List ℕ → List ℕ → List ℕ → ℕ → Type 0
 Here l vs s k = (s ≡ upToHere l vs targetValuesAt k) × (length s ≡ length l)
@@ -132,25 +126,11 @@ pub clear-none : (l : List ℕ) → Here l absent l 0
 unfolding putFields
 clear-none l = (refl, refl)
 
-pub copy-none : (l : List ℕ) → Here l (tableOf l ofApplied) l 0
-unfolding putFields
-copy-none l = (refl, refl)
-
 pub clear-more : (l s m : List ℕ) (k : ℕ) → k < 32 → Here l absent s k → m ≡ putField s (targetValuesAt + valueSize * k) 2 0 → Here l absent m (k + 1)
 clear-more l s m k h p q =
     here l absent m (k + 1)
     (one-more l absent targetValuesAt m k 0 (omega (arith, length-replicate {A = ℕ} 32 0)) (q ∙ ap (λ (x : List ℕ). putField x (targetValuesAt + valueSize * k) 2 0) (p .0))
     (sym (getD-replicate {A = ℕ} 32 k 0 0 h)))
-
-pub copy-more : (l s m : List ℕ) (k v : ℕ) → k < 32 → Here l (tableOf l ofApplied) s k → v ≡ field s (valuesAt ofApplied + valueSize * k) 2
-    → m ≡ putField s (targetValuesAt + valueSize * k) 2 v → Here l (tableOf l ofApplied) m (k + 1)
-unfolding tableOf
-copy-more l s m k v h p r q =
-    here l (tableOf l ofApplied) m (k + 1)
-    (one-more l (tableOf l ofApplied) targetValuesAt m k v (omega (arith, length-fields tableWidths l (valuesAt ofApplied)))
-    (q ∙ ap (λ (x : List ℕ). putField x (targetValuesAt + valueSize * k) 2 v) (p .0))
-    (r ∙ ap (λ (x : List ℕ). field x (valuesAt ofApplied + valueSize * k) 2) (p .0) ∙ before-here l (tableOf l ofApplied) targetValuesAt k (valuesAt ofApplied + valueSize * k) (omega arith)
-    ∙ sym (table-at 32 l (valuesAt ofApplied) k h)))
 
 pub all-here : (l s vs : List ℕ) (k : ℕ) → k ≤ 32 → 32 ≤ k → length vs ≡ 32 → Here l vs s k → s ≡ write l (targetValues vs)
 unfolding write

@@ -13,7 +13,7 @@ use Rattle.fields.specs.Field.{putField}
 use Rattle.fields.proofs.Laws.{Outside, field-kept, put-outside, length-put}
 use Rattle.fields.proofs.Runs.{fields-kept}
 use Rattle.machine.specs.Stores.{Table, ofCommitted, ofTarget, ofBase, ofOwners, value}
-use Rattle.image.specs.Layout.{entryWidths, headWidths, tableWidths, configurationWidths, mastershipWidths, targetWidths, connectionsWidths, placeOf, lastAt, changeAt, committedAt, appliedAt, valuesAt, configurationAt, mastershipAt, targetAt, connectionsAt, foldedAt, highest, stride, headSize, tableSize, tableLength, valueSize, connectionsSize, connectedAt, runningIn}
+use Rattle.image.specs.Layout.{entryWidths, headWidths, tableWidths, configurationWidths, mastershipWidths, targetWidths, connectionsWidths, placeOf, lastAt, changeAt, committedAt, appliedAt, valuesAt, configurationAt, mastershipAt, targetAt, connectionsAt, foldedAt, highest, stride, headSize, tableSize, tableLength, valueSize, connectionsSize, connectedAt, runningIn, remembersIn}
 use Rattle.image.specs.Records.{toEntry, entryAt, lastOf, foldedOf, changeOf, toHead, headAt, toConfiguration, configurationOf, toMastership, mastershipOf, toTarget, targetOf, toConnections, connectionsOf}
 use Rattle.image.specs.View.{upFrom, tableOf, entriesOf, logOf, partOf, ledgerOf, netOf, write}
 use Rattle.image.specs.Formed.{statusesOk, flagsOk}
@@ -85,7 +85,7 @@ module _ (l m : List ℕ) (a e : ℕ) (o : Outside l m a e) where
   unfolding mastershipOf
   mastership-kept h = ap toMastership (fields-kept l m a e o mastershipWidths mastershipAt h)
 
-  pub target-kept : Apart a e targetAt 5 → targetOf m ≡ targetOf l
+  pub target-kept : Apart a e targetAt 6 → targetOf m ≡ targetOf l
   unfolding targetOf
   target-kept h = ap toTarget (fields-kept l m a e o targetWidths targetAt h)
 
@@ -100,7 +100,7 @@ module _ (l m : List ℕ) (a e : ℕ) (o : Outside l m a e) where
         configuration-kept (k configurationAt 5 (omega arith) (omega arith)),
         mastership-kept (k mastershipAt 9 (omega arith) (omega arith)),
         connections-kept (k connectionsAt connectionsSize (omega arith) (omega arith)),
-        target-kept (k targetAt 5 (omega arith) (omega arith)),
+        target-kept (k targetAt 6 (omega arith) (omega arith)),
         table-kept ofTarget (k (valuesAt ofTarget) tableSize (omega arith) (omega arith)),
       )
 
@@ -118,14 +118,16 @@ module _ (l m : List ℕ) (a e : ℕ) (o : Outside l m a e) where
       (ap₂ (λ (b n : ℕ). upFrom (entryAt m) b n) (ends-kept h k .0) (ends-kept h k .1) ∙ entries-kept (foldedOf l) (lastOf l) (omega arith))
 
   -- the flags lie in three places
-  pub flags-kept : Apart a e configurationAt 5 → Apart a e (targetAt + runningIn) 1 → Apart a e connectionsAt connectionsSize → flagsOk m ≡ flagsOk l
+  pub flags-kept : Apart a e configurationAt 5 → Apart a e targetAt 6 → Apart a e connectionsAt connectionsSize → flagsOk m ≡ flagsOk l
   unfolding flagsOk
   flags-kept g t x =
       let c : Apart a e configurationAt 1 = ⊎-elim (λ p. inl (omega arith)) (λ q. inr (omega arith)) g in
       let k : (d : ℕ) → d < connectionsSize → Apart a e (connectionsAt + d) 1 = λ d r. ⊎-elim (λ p. inl (omega arith)) (λ q. inr (omega arith)) x in
+      let f : (d : ℕ) → d < 6 → Apart a e (targetAt + d) 1 = λ d r. ⊎-elim (λ p. inl (omega arith)) (λ q. inr (omega arith)) t in
       rw (
         field-kept l m a e o 1 configurationAt c,
-        field-kept l m a e o 1 (targetAt + runningIn) t,
+        field-kept l m a e o 1 (targetAt + runningIn) (f 4 (omega arith)),
+        field-kept l m a e o 1 (targetAt + remembersIn) (f 5 (omega arith)),
         field-kept l m a e o 1 (connectedAt 0) (k 4 (omega arith)),
         field-kept l m a e o 1 (connectedAt 1) (k 9 (omega arith)),
         field-kept l m a e o 1 (connectedAt 2) (k 14 (omega arith)),

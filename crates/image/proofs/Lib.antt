@@ -9,3 +9,4 @@ pub mod Carried
 pub mod Freshened
 pub mod Tables
 pub mod Back
+pub mod Differed

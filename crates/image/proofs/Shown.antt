@@ -32,6 +32,12 @@ use Rattle.image.proofs.Chain.{length-table}
 use Rattle.image.proofs.Kept.{Apart, same-log, part-kept, ledger-kept, net-kept, entry-kept, last-kept, folded-kept, entries-kept, ends-kept, log-kept, change-kept, head-kept, table-kept, configuration-kept, mastership-kept, target-kept, connections-kept}
 use Rattle.image.proofs.Sized.{SizedEntry, SizedHead, SizedMastership, SizedTable, SizedConnections, entry-room, head-room, configuration-room, mastership-room, target-room, connections-room, table-room, entry-back, configuration-back, target-back, connections-back, eight-all}
 
+-- ---- one row of stores behind another
+pub written-append : (l : List ℕ) (es fs : List Store) → written l (es ++ fs) ≡ written (written l es) fs
+unfolding written
+written-append l [] fs = refl
+written-append l (e ∷ es) fs = written-append (write l e) es fs
+
 -- ---- each number of a store has room, and a store of an entry is of a number kept: b the last fold, n the highest number
 abbrev pub Fits : ℕ → ℕ → Store → Type 0
 Fits b n (grow t) = SizedEntry t × ((n < b + slots) × (n < highest))
@@ -404,7 +410,7 @@ module _ (l : List ℕ) (z : length l ≡ imageLength) (f : Room (foldedOf l) (l
       (same-net _ _ _ _ _ _ _ _ _ _ (configuration-kept l m _ _ o (inl (omega arith))) (mastership-same x k) (connections-kept l m _ _ o (inr (omega arith)))
       (target-kept l m _ _ o (inr (omega arith))) (table-kept l m _ _ o ofTarget (inl (omega arith))))
 
-  target-outside : (t : Target) → Outside l (putTarget l t) targetAt (targetAt + 5)
+  target-outside : (t : Target) → Outside l (putTarget l t) targetAt (targetAt + 6)
   unfolding putTarget
   target-outside t = puts-outside targetWidths (targetNumbers t) l targetAt
 
@@ -416,7 +422,7 @@ module _ (l : List ℕ) (z : length l ≡ imageLength) (f : Room (foldedOf l) (l
   unfolding write after view
   shown-target t k =
       let m = putTarget l t in
-      let o : Outside l m targetAt (targetAt + 5) = target-outside t in
+      let o : Outside l m targetAt (targetAt + 6) = target-outside t in
       in-net m (wider l m _ _ _ _ o (omega arith) (omega arith)) _
       (same-net _ _ _ _ _ _ _ _ _ _ (configuration-kept l m _ _ o (inl (omega arith))) (mastership-kept l m _ _ o (inl (omega arith)))
       (connections-kept l m _ _ o (inr (omega arith))) (target-same t k) (table-kept l m _ _ o ofTarget (inl (omega arith))))

@@ -178,7 +178,10 @@ pub mastership-room : (m : Mastership) → SizedMastership m → Fit mastershipW
 mastership-room m k = (k .master, (k .term, (k .conn, tt)))
 
 pub target-room : (t : Target) → t .id < 4294967296 → Fit targetWidths (targetNumbers t)
-target-room t k = let c : flagCode (t .running) < 256 = omega (arith, flag-low (t .running)) in (k, (c, tt))
+target-room t k =
+    let c : flagCode (t .running) < 256 = omega (arith, flag-low (t .running)) in
+    let d : flagCode (t .remembers) < 256 = omega (arith, flag-low (t .remembers)) in
+    (k, (c, (d, tt)))
 
 twos-room : (n : ℕ) (vs : List ℕ) → length vs ≡ n → ((k : ℕ) → getD vs k 0 < 65536) → Fit (replicate n 2) vs
 twos-room zero [] z h = tt
@@ -222,11 +225,11 @@ configured g s e = rw e
 pub configuration-back : (g : Configuration) → toConfiguration (configurationNumbers g) ≡ g
 configuration-back g = configured g _ (progress-code (g .state))
 
-targeted : (t : Target) (b : Bool) → b ≡ t .running → _≡_ {A = Target} (record { id = t .id; running = b }) t
-targeted t b e = rw e
+targeted : (t : Target) (b m : Bool) → b ≡ t .running → m ≡ t .remembers → _≡_ {A = Target} (record { id = t .id; running = b; remembers = m }) t
+targeted t b m e f = rw (e, f)
 
 pub target-back : (t : Target) → toTarget (targetNumbers t) ≡ t
-target-back t = targeted t _ (flag-code (t .running))
+target-back t = targeted t _ _ (flag-code (t .running)) (flag-code (t .remembers))
 
 joined : (x : Connection) (b : Bool) (xs ys : List Connection) → b ≡ x .connected → ys ≡ xs → _≡_ {A = List Connection} (record { id = x .id; connected = b } ∷ ys) (x ∷ xs)
 joined x b xs ys e f = rw (e, f)

@@ -7,7 +7,7 @@ use lib.Dec.{eqb, leb, ltb}
 use lib.ListN.{length}
 use Rattle.fields.specs.Field.{field, fieldsAt, ones, twos}
 use Rattle.machine.specs.WellFormed.{pairsOk, recallsOk, wellFormed}
-use Rattle.image.specs.Layout.{highestOrdinal, placeOf, changeApplyIn, rollbackCommitIn, rollbackApplyIn, phaseIn, countIn, indexIn, changeOrdinalIn, rollbackOrdinalIn, pathsIn, ownersIn, configurationAt, targetAt, runningIn, connectedAt, imageLength}
+use Rattle.image.specs.Layout.{highestOrdinal, placeOf, changeApplyIn, rollbackCommitIn, rollbackApplyIn, phaseIn, countIn, indexIn, changeOrdinalIn, rollbackOrdinalIn, pathsIn, ownersIn, configurationAt, targetAt, runningIn, remembersIn, connectedAt, imageLength}
 use Rattle.image.specs.Records.{lastOf, foldedOf}
 use Rattle.image.specs.View.{view}
 
@@ -31,11 +31,11 @@ entryStatusesOk l n = statusesOk l (placeOf n)
 abbrev pub flagOk : List ℕ → ℕ → Bool
 flagOk l at = leb (field l at 1) 1
 
--- the configuration's state, the target's running, and the eight nodes' connected
+-- the configuration's state, the target's running and remembers, and the eight nodes' connected
 unfoldable pub flagsOk : List ℕ → Bool
 flagsOk l =
     (leb 1 (field l configurationAt 1) && leb (field l configurationAt 1) 3)
-    && (flagOk l (targetAt + runningIn)
+    && ((flagOk l (targetAt + runningIn) && flagOk l (targetAt + remembersIn))
     && ((flagOk l (connectedAt 0) && (flagOk l (connectedAt 1) && (flagOk l (connectedAt 2) && flagOk l (connectedAt 3))))
     && (flagOk l (connectedAt 4) && (flagOk l (connectedAt 5) && (flagOk l (connectedAt 6) && flagOk l (connectedAt 7))))))
 

@@ -42,9 +42,9 @@ configurationWidths = 1 ∷ 4 ∷ []
 abbrev pub mastershipWidths : List ℕ
 mastershipWidths = 1 ∷ 4 ∷ 4 ∷ []
 
--- id, running
+-- id, running, remembers
 abbrev pub targetWidths : List ℕ
-targetWidths = 4 ∷ 1 ∷ []
+targetWidths = 4 ∷ 1 ∷ 1 ∷ []
 
 -- id, connected, of each node
 abbrev pub nodeWidths : ℕ → List ℕ
@@ -143,6 +143,9 @@ connectedIn = 4
 abbrev pub runningIn : ℕ
 runningIn = 4
 
+abbrev pub remembersIn : ℕ
+remembersIn = runningIn + 1
+
 abbrev pub nodeSize : ℕ
 nodeSize = total (nodeWidths 1)
 
@@ -198,7 +201,7 @@ valuesAt ofOwners = committedAt + headSize + tableSize
 unfoldable pub tablePlace : ℕ → ℕ
 tablePlace b = cond (eqb b 1) (valuesAt ofCommitted) (cond (eqb b 2) (valuesAt ofApplied) (cond (eqb b 3) (valuesAt ofTarget) (valuesAt ofBase)))
 
--- 6,037
+-- 6,038
 abbrev pub imageLength : ℕ
 imageLength = valuesAt ofBase + tableSize
 
@@ -226,7 +229,7 @@ abbrev pub places : List ℕ
 places =
     numberSize ∷ lastAt ∷ changeAt ∷ committedAt ∷ (committedAt + revisionIn) ∷ valuesAt ofCommitted ∷ valuesAt ofOwners ∷ appliedAt
     ∷ (appliedAt + ordinalIn) ∷ valuesAt ofApplied ∷ valuesAt ofTarget ∷ configurationAt ∷ (configurationAt + 1) ∷ mastershipAt ∷ (mastershipAt + 1) ∷ (mastershipAt + 5)
-    ∷ targetAt ∷ (targetAt + runningIn) ∷ connectionsAt ∷ foldedAt ∷ valuesAt ofBase ∷ imageLength ∷ []
+    ∷ targetAt ∷ (targetAt + runningIn) ∷ (targetAt + remembersIn) ∷ connectionsAt ∷ foldedAt ∷ valuesAt ofBase ∷ imageLength ∷ []
 
 abbrev pub nodePlaces : List ℕ
 nodePlaces =

@@ -5,4 +5,5 @@ pub mod View
 pub mod Formed
 pub mod Settled
 pub mod Fresh
+pub mod Differing
 pub mod Promises

@@ -7,7 +7,7 @@ use mathlib.Core.Path.{_≡_}
 use lib.Dec.{ltb}
 use lib.ListN.{getD}
 use Rattle.kinds.specs.Numbers.{num, follows}
-use Rattle.kinds.specs.Outcome.{one}
+use Rattle.kinds.specs.Outcome.{one, both}
 use Rattle.kinds.specs.declared.Configuration.{Configuration}
 use Rattle.kinds.specs.declared.Connection.{Connection}
 use Rattle.kinds.specs.declared.Head.{Head}
@@ -20,12 +20,13 @@ use Rattle.fields.specs.Field.{fieldsAt, putField}
 use Rattle.image.specs.Formed.{formed}
 use Rattle.image.specs.Layout.{tableLength, valueSize, tableWidths, tablePlace}
 use Rattle.image.specs.Records.{entryAt, putEntryAt, lastOf, foldedOf, changeOf, headAt, putHeadAt, configurationOf, putConfiguration, mastershipOf, putMastership, targetOf, putTarget, connectionsOf, putConnections}
-use Rattle.image.specs.View.{write, tableOf, view}
+use Rattle.image.specs.View.{write, written, tableOf, view}
 use Rattle.image.specs.Fresh.{freshImage}
 use Rattle.machine.specs.Settled.{entrySettled}
 use Rattle.machine.specs.WellFormed.{allEntries}
 use Rattle.machine.specs.State.{nodeOf, absent}
-use Rattle.machine.specs.Stores.{grow, fold, change, targetValues, ofApplied}
+use Rattle.machine.specs.Stores.{grow, fold, change, targetValues, ofApplied, ofTarget}
+use Rattle.machine.specs.Differ.{differ, differRow}
 
 abbrev pub TellsFormed : List ℕ → Bool → Type 0
 TellsFormed s r = r ≡ formed s
@@ -39,11 +40,11 @@ TellsSettled s o r = r ≡ allEntries (entrySettled (o .0)) (view s .log)
 pub tells-settled-only : (s : List ℕ) (o : Ordinal) (r q : Bool) → TellsSettled s o r → TellsSettled s o q → r ≡ q
 tells-settled-only s o r q = one
 
-abbrev pub MakesFresh : List ℕ → List ℕ → Type 0
-MakesFresh s s′ = s′ ≡ freshImage
+abbrev pub MakesFresh : List ℕ → Bool → List ℕ → Type 0
+MakesFresh s m s′ = s′ ≡ freshImage m
 
-pub makes-fresh-only : (s s′ s″ : List ℕ) → MakesFresh s s′ → MakesFresh s s″ → s′ ≡ s″
-makes-fresh-only s s′ s″ = one
+pub makes-fresh-only : (s s′ s″ : List ℕ) (m : Bool) → MakesFresh s m s′ → MakesFresh s m s″ → s′ ≡ s″
+makes-fresh-only s s′ s″ m = one
 
 abbrev pub LoadsEntry : List ℕ → ℕ → Transaction → Type 0
 LoadsEntry s n r = r ≡ entryAt s n
@@ -200,8 +201,10 @@ ClearsTarget s s′ = s′ ≡ write s (targetValues absent)
 pub clears-target-only : (s s′ s″ : List ℕ) → ClearsTarget s s′ → ClearsTarget s s″ → s′ ≡ s″
 clears-target-only s s′ s″ = one
 
-abbrev pub CopiesTarget : List ℕ → List ℕ → Type 0
-CopiesTarget s s′ = s′ ≡ write s (targetValues (tableOf s ofApplied))
+-- the paths that differ are Applied's now, and r is how many they were (order 13)
+abbrev pub WritesDiffering : List ℕ → ℕ → List ℕ → Type 0
+WritesDiffering s r s′ =
+    (r ≡ differ tableLength (tableOf s ofTarget) (tableOf s ofApplied)) × (s′ ≡ written s (differRow tableLength (tableOf s ofTarget) (tableOf s ofApplied)))
 
-pub copies-target-only : (s s′ s″ : List ℕ) → CopiesTarget s s′ → CopiesTarget s s″ → s′ ≡ s″
-copies-target-only s s′ s″ = one
+pub writes-differing-only : (s : List ℕ) (r q : ℕ) (s′ s″ : List ℕ) → WritesDiffering s r s′ → WritesDiffering s q s″ → (r ≡ q) × (s′ ≡ s″)
+writes-differing-only s r q s′ s″ = both

@@ -109,10 +109,10 @@ unfoldable pub putMastership : List ℕ → Mastership → List ℕ
 putMastership l m = putFields l mastershipAt mastershipWidths (mastershipNumbers m)
 
 abbrev pub targetNumbers : Target → List ℕ
-targetNumbers t = t .id ∷ flagCode (t .running) ∷ []
+targetNumbers t = t .id ∷ flagCode (t .running) ∷ flagCode (t .remembers) ∷ []
 
 abbrev pub toTarget : List ℕ → Target
-toTarget l = record { id = getD l 0 0; running = flagOf (getD l 1 0) }
+toTarget l = record { id = getD l 0 0; running = flagOf (getD l 1 0); remembers = flagOf (getD l 2 0) }
 
 unfoldable pub targetOf : List ℕ → Target
 targetOf l = toTarget (fieldsAt l targetAt targetWidths)

@@ -41,6 +41,7 @@ use crate::layout::OWNERS_AT;
 use crate::layout::OWNERS_IN;
 use crate::layout::PATHS_IN;
 use crate::layout::PHASE_IN;
+use crate::layout::REMEMBERS_AT;
 use crate::layout::REVISION_IN;
 use crate::layout::RING;
 use crate::layout::ROLLBACK_APPLY_IN;
@@ -251,6 +252,7 @@ fn flags_formed(s: &[u8]) -> bool
 {
     let state = get1(s, CONFIGURATION_AT);
     let running = get1(s, RUNNING_AT);
+    let remembers = get1(s, REMEMBERS_AT);
     let a = get1(s, CONNECTED_1_AT);
     let b = get1(s, CONNECTED_2_AT);
     let c = get1(s, CONNECTED_3_AT);
@@ -261,7 +263,7 @@ fn flags_formed(s: &[u8]) -> bool
     let h = get1(s, CONNECTED_8_AT);
     let first = (a <= 1) & ((b <= 1) & ((c <= 1) & (d <= 1)));
     let last = (e <= 1) & ((f <= 1) & ((g <= 1) & (h <= 1)));
-    ((1 <= state) & (state <= 3)) & ((running <= 1) & (first & last))
+    ((1 <= state) & (state <= 3)) & (((running <= 1) & (remembers <= 1)) & (first & last))
 }
 
 // Whether the bytes, whatever they are and however many, are a well-formed image.

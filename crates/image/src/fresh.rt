@@ -5,6 +5,8 @@ ghost use Rattle.image.specs.Layout.{imageLength};
 ghost use Rattle.image.specs.Fresh.{zeros};
 ghost use Rattle.image.specs.Promises.{MakesFresh};
 use crate::layout::CONFIGURATION_AT;
+use crate::layout::REMEMBERS_AT;
+use crate::nodes::flag_code;
 use fields::put1;
 
 // Every byte 0.
@@ -19,11 +21,13 @@ fn clear(s: &mut [u8])
     }
 }
 
-// The fresh image, whatever stood there: every byte 0 but the configuration's state, Pending.
-pub fn make_fresh(s: &mut [u8])
+// The fresh image, whatever stood there: every byte 0 but the configuration's state, Pending, and where the target remembers
+// the byte that says so.
+pub fn make_fresh(s: &mut [u8], remembers: bool)
     requires { ⌜ length (now s) ≡ imageLength ⌝ }
-    ensures { λ _. ⌜ MakesFresh (now (s .entry)) (now (s .exit)) ⌝ }
+    ensures { λ _. ⌜ MakesFresh (now (s .entry)) remembers (now (s .exit)) ⌝ }
 {
     clear(s);
     put1(s, CONFIGURATION_AT, 1);
+    put1(s, REMEMBERS_AT, flag_code(remembers));
 }

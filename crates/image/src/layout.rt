@@ -106,7 +106,9 @@ pub const TARGET_AT: usize = CONN_AT + 4;
 
 pub const RUNNING_AT: usize = TARGET_AT + 4;
 
-pub const CONNECTIONS_AT: usize = RUNNING_AT + 1;
+pub const REMEMBERS_AT: usize = RUNNING_AT + 1;
+
+pub const CONNECTIONS_AT: usize = REMEMBERS_AT + 1;
 
 pub const FOLDED_AT: usize = NODE_8_AT + NODE_SIZE;
 
@@ -194,7 +196,7 @@ fn head_places() -> [usize; 11]
     ]
 }
 
-fn places() -> [usize; 22]
+fn places() -> [usize; 23]
     ensures { λ r. ⌜ r ≡ places ⌝ }
 {
     [
@@ -216,6 +218,7 @@ fn places() -> [usize; 22]
         CONN_AT,
         TARGET_AT,
         RUNNING_AT,
+        REMEMBERS_AT,
         CONNECTIONS_AT,
         FOLDED_AT,
         BASE_AT,

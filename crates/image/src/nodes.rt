@@ -20,6 +20,7 @@ use crate::layout::NODE_6_AT;
 use crate::layout::NODE_7_AT;
 use crate::layout::NODE_8_AT;
 use crate::layout::NODE_SIZE;
+use crate::layout::REMEMBERS_AT;
 use crate::layout::RUNNING_AT;
 use crate::layout::TARGET_AT;
 use crate::layout::THREE_NODES;
@@ -80,7 +81,8 @@ pub fn store_mastership(s: &mut [u8], m: Mastership)
     put4(s, CONN_AT, m.conn);
 }
 
-fn flag_code(b: bool) -> u8
+// A flag's byte.
+pub fn flag_code(b: bool) -> u8
     ensures { λ r. ⌜ r ≡ flagCode b ⌝ }
 {
     if b {
@@ -89,23 +91,29 @@ fn flag_code(b: bool) -> u8
     0
 }
 
-// The target's id, and whether it runs.
+// The target's id, whether it runs, and whether it remembers.
 pub fn load_target(s: &[u8]) -> Target
     requires { ⌜ imageLength ≤ length (now s) ⌝ }
     ensures { λ r. ⌜ LoadsTarget (now (s .entry)) r ⌝ }
 {
     let id = get4(s, TARGET_AT);
     let running = get1(s, RUNNING_AT) == 1;
-    Target { id, running }
+    let remembers = get1(s, REMEMBERS_AT) == 1;
+    Target {
+        id,
+        running,
+        remembers,
+    }
 }
 
-// The target's id and whether it runs, put in their place.
+// The target, put in its place.
 pub fn store_target(s: &mut [u8], t: Target)
     requires { ⌜ imageLength ≤ length (now s) ⌝ }
     ensures { λ _. ⌜ StoresTarget (now (s .entry)) t (now (s .exit)) ⌝ }
 {
     put4(s, TARGET_AT, t.id);
     put1(s, RUNNING_AT, flag_code(t.running));
+    put1(s, REMEMBERS_AT, flag_code(t.remembers));
 }
 
 // ---- the eight connections

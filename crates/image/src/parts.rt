@@ -4,7 +4,8 @@ ghost use mathlib.Core.Path.{_≡_};
 ghost use Prim.Native.Nat.{_+_, _≤_, _<_};
 ghost use lib.ListN.{length};
 ghost use Rattle.image.specs.Layout.{imageLength, headSize, tableSize};
-ghost use Rattle.image.specs.Promises.{TellsLast, TellsFolded, StoresFolded, LoadsChange, StoresChange, LoadsHead, StoresHead, PlacesTable, LoadsValue, StoresValue, ClearsTarget, CopiesTarget};
+ghost use Rattle.image.specs.Promises.{TellsLast, TellsFolded, StoresFolded, LoadsChange, StoresChange, LoadsHead, StoresHead, PlacesTable, LoadsValue, StoresValue, ClearsTarget, WritesDiffering};
+ghost use Rattle.image.specs.Differing.{WritesPath};
 use crate::layout::APPLIED_VALUES_AT;
 use crate::layout::BASE_AT;
 use crate::layout::CHANGE_AT;
@@ -163,15 +164,30 @@ pub fn clear_target(s: &mut [u8])
     }
 }
 
-// Every one that of Applied.
-pub fn copy_target(s: &mut [u8])
-    requires { ⌜ imageLength ≤ length (now s) ⌝ }
-    ensures { λ _. ⌜ CopiesTarget (now (s .entry)) (now (s .exit)) ⌝ }
+// One path's value is Applied's now: 1 where it differed.
+fn write_path(s: &mut [u8], k: usize) -> u16
+    requires { ⌜ (k < 32) × (imageLength ≤ length (now s)) ⌝ }
+    ensures { λ r. ⌜ WritesPath (now (s .entry)) k r (now (s .exit)) ⌝ }
 {
+    let v = get2(s, APPLIED_VALUES_AT + VALUE_SIZE * k);
+    let w = get2(s, TARGET_VALUES_AT + VALUE_SIZE * k);
+    if w == v {
+        return 0;
+    }
+    put2(s, TARGET_VALUES_AT + VALUE_SIZE * k, v);
+    1
+}
+
+// Those that differ from Applied's are Applied's now; answers how many. No other is written.
+pub fn write_differing(s: &mut [u8]) -> u16
+    requires { ⌜ imageLength ≤ length (now s) ⌝ }
+    ensures { λ r. ⌜ WritesDiffering (now (s .entry)) r (now (s .exit)) ⌝ }
+{
+    let mut count: u16 = 0;
     let mut k: usize = 0;
     while k < TABLE_LENGTH {
-        let v = get2(s, APPLIED_VALUES_AT + VALUE_SIZE * k);
-        put2(s, TARGET_VALUES_AT + VALUE_SIZE * k, v);
+        count += write_path(s, k);
         k += 1;
     }
+    count
 }

@@ -35,7 +35,7 @@ abbrev pub stateOk : List ℕ → Bool
 stateOk g = leb 1 (getD g 0 0) && leb (getD g 0 0) 3
 
 abbrev pub runningOk : List ℕ → Bool
-runningOk t = leb (getD t 1 0) 1
+runningOk t = leb (getD t 1 0) 1 && leb (getD t 2 0) 1
 
 abbrev pub nodesOk : List ℕ → Bool
 nodesOk x =
@@ -60,7 +60,8 @@ state-ok : (g : Configuration) → stateOk (configurationNumbers g) ≡ true
 state-ok g = and-both (leb 1 (progressCode (g .state))) (leb (progressCode (g .state)) 3) (le-leb _ _ (progress-low (g .state) .0)) (le-leb _ _ (progress-low (g .state) .1))
 
 running-ok : (t : Target) → runningOk (targetNumbers t) ≡ true
-running-ok t = le-leb (flagCode (t .running)) 1 (flag-low (t .running))
+running-ok t =
+    and-both (leb (flagCode (t .running)) 1) (leb (flagCode (t .remembers)) 1) (le-leb _ _ (flag-low (t .running))) (le-leb _ _ (flag-low (t .remembers)))
 
 nodes-ok : (xs : List Connection) → nodesOk (connectionsNumbers (eight xs)) ≡ true
 nodes-ok xs = rw (low 0, low 1, low 2, low 3, low 4, low 5, low 6, low 7)
@@ -110,7 +111,7 @@ module _ (l m : List ℕ) (a e : ℕ) (o : Outside l m a e) (c : Codes l) where
   same-state : Apart a e configurationAt 5 → stateOk (stateRun m) ≡ true
   same-state h = ap (λ (x : List ℕ). stateOk x) (fields-kept l m a e o configurationWidths configurationAt h) ∙ c .state
 
-  same-running : Apart a e targetAt 5 → runningOk (targetRun m) ≡ true
+  same-running : Apart a e targetAt 6 → runningOk (targetRun m) ≡ true
   same-running h = ap (λ (x : List ℕ). runningOk x) (fields-kept l m a e o targetWidths targetAt h) ∙ c .running
 
   same-nodes : Apart a e connectionsAt connectionsSize → nodesOk (nodesRun m) ≡ true

@@ -46,6 +46,7 @@ use Rattle.machine.specs.State.{Log, State, inEach, entryOf, last, inLog, isKep
 use Rattle.machine.specs.Settled.{settled}
 use Rattle.machine.specs.Stores.{Table, ofCommitted, ofApplied, ofTarget, ofBase, ofOwners, Store, grow, entry, fold, value, targetValues, configuration, mastership, connections, target}
 use Rattle.machine.specs.Stores as store
+use Rattle.machine.specs.Differ.{differsAt, differRow}
 use Rattle.machine.specs.Rows.{layOne, layAt, overlay, laid, owned, entryRow, changeRow, headRow, thenRow, rowsBy, rowsOf}
 use Rattle.machine.specs.WellFormed.{pairsOk}
 use Rattle.machine.specs.Rest.{restOf}
@@ -55,7 +56,7 @@ use Rattle.machine.proofs.Kept as kept
 use Rattle.machine.proofs.Entries.{set-all}
 use Rattle.machine.proofs.Cases.{and-left, and-right, or-cases}
 use Rattle.machine.specs.Calls as calls
-use Rattle.machine.specs.Calls.{Pair, Call, Outcome, append, start, stop, connect, disconnect, master, sync, work, foldTo, unless, validChange, valuesOk, pathOf, valueOf, appended, presentOne, present, presentOf, planOf, commits, workOk, copyRow, decide}
+use Rattle.machine.specs.Calls.{Pair, Call, Outcome, append, start, stop, connect, disconnect, master, sync, work, foldTo, unless, validChange, valuesOk, pathOf, valueOf, appended, presentOne, present, presentOf, planOf, commits, workOk, clearRow, copyRow, decide}
 use Rattle.image.specs.Layout.{slots, highest, highestOrdinal}
 use Rattle.image.proofs.Sized.{Four, SizedEntry, SizedHead, SizedMastership, SizedTable, SizedConnections}
 use Rattle.image.proofs.Shown.{Fits, FitsAll, lastAfter, foldedAfter}
@@ -102,6 +103,12 @@ module _ (d n : ℕ) where
   overlay-still b ps vs m h =
       let at : (k : ℕ) → Stills d n (layAt b ps vs m k) = λ k. lay-still (ltb k m) b _ _ (h k) in
       join d n (at 0) (join d n (at 1) (join d n (at 2) (at 3)))
+
+  -- the paths that differ (order 13)
+  pub differ-still : (k : ℕ) (ws vs : List ℕ) → ((j : ℕ) → getD vs j 0 < 65536) → Stills d n (differRow k ws vs)
+  unfolding differRow
+  differ-still zero ws vs h = none
+  differ-still (suc k) ws vs h = join d n (differ-still k ws vs h) (lay-still (differsAt ws vs k) ofTarget k (getD vs k 0) (h k))
 
   pub laid-still : (b : Table) (v : Lay) (t : Transaction) → SizedEntry t → Stills d n (laid b v t)
   laid-still b Nothing t h = none
@@ -291,7 +298,7 @@ start-small : (t : Target) → t .id < 4294967296 → outside.start t .target .i
 start-small t h = go (t .running) (isLast (t .id)) refl
   where
     go : (r l : Bool) → isLast (t .id) ≡ l
-        → cond r (outside.targeted 7 t) (cond l (outside.targeted 9 t) (outside.targeted 0 (record { id = t .id + 1; running = true }))) .target .id < 4294967296
+        → cond r (outside.targeted 7 t) (cond l (outside.targeted 9 t) (outside.targeted 0 (record { id = t .id + 1; running = true; remembers = t .remembers }))) .target .id < 4294967296
     go true l e = h
     go false true e = h
     go false false e = omega (arith, leb-false 4294967295 (t .id) e)
@@ -299,7 +306,7 @@ start-small t h = go (t .running) (isLast (t .id)) refl
 stop-small : (t : Target) → t .id < 4294967296 → outside.stop t .target .id < 4294967296
 stop-small t h = go (t .running)
   where
-    go : (r : Bool) → cond r (outside.targeted 0 (record { id = t .id; running = false })) (outside.targeted 7 t) .target .id < 4294967296
+    go : (r : Bool) → cond r (outside.targeted 0 (record { id = t .id; running = false; remembers = t .remembers })) (outside.targeted 7 t) .target .id < 4294967296
     go true = h
     go false = h
 
@@ -442,8 +449,12 @@ module _ (s : State) (f : Sizes s) where
         go false false true = job3-roomy
         go false false false = job4-roomy n ok
 
-  copy-calm : (b : Bool) → Stills (s .log .folded .0) (last (s .log)) (copyRow b (s .applied .values))
-  copy-calm true = one-store (targetValues (s .applied .values)) (f .appliedValues) refl refl
+  clear-calm : (b : Bool) → Stills (s .log .folded .0) (last (s .log)) (clearRow b)
+  clear-calm true = none
+  clear-calm false = one-store _ (record { size = refl; small = zeros-small 32 }) refl refl
+
+  copy-calm : (b : Bool) → Stills (s .log .folded .0) (last (s .log)) (copyRow b (s .net .values) (s .applied .values))
+  copy-calm true = differ-still _ _ 32 (s .net .values) (s .applied .values) (f .appliedValues .small)
   copy-calm false = none
 
   low : (i : ℕ) → isKept s i ≡ true → s .log .folded .0 < i
@@ -471,7 +482,7 @@ module _ (s : State) (f : Sizes s) where
       let x = outside.stop (s .net .target) in
       unless-calm (x .answer) (eqb (x .answer) 0) _
       (λ a. more (record { fits = stop-small (s .net .target) (f .target); fold = refl; last = refl })
-      (more (record { fits = record { size = refl; small = zeros-small 32 }; fold = refl; last = refl })
+      (join _ _ (clear-calm (s .net .target .remembers))
       (one-store _ (record { size = length-map (s .net .connections) outside.off ∙ f .connections .size; small = off-small (s .net .connections) (f .connections .small) }) refl refl)))
   decide-still (connect n) e =
       let y = nodeOf (s .net .connections) n in

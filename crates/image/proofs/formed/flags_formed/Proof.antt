@@ -34,9 +34,12 @@ get1-requires-9 c κs = search needs
 get1-requires-10 : tie.Need-get1-requires-10
 get1-requires-10 c κs = search needs
 
+get1-requires-11 : tie.Need-get1-requires-11
+get1-requires-11 c κs = search needs
+
 returns : tie.Need-returns
 unfolding flagsOk
-returns c = simp (← c .before .before .before .before .before .before .before .before .before .get1 .ensures, ← c .before .before .before .before .before .before .before .before .get12 .ensures, ← c .before .before .before .before .before .before .before .get13 .ensures, ← c .before .before .before .before .before .before .get14 .ensures, ← c .before .before .before .before .before .get15 .ensures, ← c .before .before .before .before .get16 .ensures, ← c .before .before .before .get17 .ensures, ← c .before .before .get18 .ensures, ← c .before .get19 .ensures, ← c .get110 .ensures)
+returns c = simp (← c .before .before .before .before .before .before .before .before .before .before .get1 .ensures, ← c .before .before .before .before .before .before .before .before .before .get12 .ensures, ← c .before .before .before .before .before .before .before .before .get13 .ensures, ← c .before .before .before .before .before .before .before .get14 .ensures, ← c .before .before .before .before .before .before .get15 .ensures, ← c .before .before .before .before .before .get16 .ensures, ← c .before .before .before .before .get17 .ensures, ← c .before .before .before .get18 .ensures, ← c .before .before .get19 .ensures, ← c .before .get110 .ensures, ← c .get111 .ensures)
 
 pub flags-formed-spec : {M : Type 1} → statement M
 flags-formed-spec =
@@ -52,4 +55,5 @@ flags-formed-spec =
     get1-requires-8
     get1-requires-9
     get1-requires-10
+    get1-requires-11
     returns)

@@ -11,9 +11,12 @@ get4-requires c κs = search needs
 get1-requires : tie.Need-get1-requires
 get1-requires c κs = search needs
 
+get1-requires-2 : tie.Need-get1-requires-2
+get1-requires-2 c κs = search needs
+
 returns : tie.Need-returns
 unfolding targetOf fieldsAt
 returns c = cc
 
 pub load-target-spec : {M : Type 1} → statement M
-load-target-spec = tie.close (tie.spec get4-requires get1-requires returns)
+load-target-spec = tie.close (tie.spec get4-requires get1-requires get1-requires-2 returns)

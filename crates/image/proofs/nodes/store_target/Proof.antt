@@ -14,6 +14,12 @@ flag-code-requires c κs = search needs
 put1-requires : tie.Need-put1-requires
 put1-requires c κs = search needs
 
+flag-code-requires-2 : tie.Need-flag-code-requires-2
+flag-code-requires-2 c κs = search needs
+
+put1-requires-2 : tie.Need-put1-requires-2
+put1-requires-2 c κs = search needs
+
 same-length : tie.Need-same-length
 same-length c = search needs
 
@@ -23,4 +29,4 @@ returns c = cc
 
 pub store-target-spec : {M : Type 1} → statement M
 store-target-spec =
-    tie.close (tie.spec put4-requires flag-code-requires put1-requires same-length returns)
+    tie.close (tie.spec put4-requires flag-code-requires put1-requires flag-code-requires-2 put1-requires-2 same-length returns)
