@@ -3,13 +3,14 @@ use Prim.Native.Nat.{ℕ, _+_, _-_, _≤_, _<_, _%_}
 use mathlib.Core.Path.{_≡_, refl, ap, ap₂, sym, _∙_}
 use mathlib.Core.Logic.{inl}
 use mathlib.Core.Bool.{Bool, true, false, _&&_}
-use mathlib.Core.List.{List, [], _∷_, map}
+use mathlib.Core.List.{List, [], _∷_, _++_, map}
 use native.Mathlib.Omega.{arith}
 use borrow.Author.Tests.{eq-eqb, ne-eqb, leb-true, lt-ltb, le-ltb}
 use lib.Dec.{eqb, leb, ltb}
 use lib.ListN.{length}
 use Rattle.kinds.specs.declared.Transaction.{Transaction}
 use Rattle.kinds.specs.declared.Reply.{Reply}
+use Rattle.kinds.specs.declared.Event.{Event}
 use Rattle.kinds.specs.declared.Number.{Number}
 use Rattle.kinds.specs.declared.Connection.{Connection}
 use Rattle.kinds.specs.declared.Mastership.{Mastership}
@@ -24,9 +25,9 @@ use Rattle.rules.specs.declared.Mastered.{Mastered}
 use Rattle.rules.specs.declared.Synchronised.{Synchronised}
 use Rattle.rules.specs.Outside as outside
 use Rattle.machine.specs.State.{absent, entryOf, last, inLog, isKept, isNode, nodeOf, isMaster}
-use Rattle.machine.specs.Stores.{Store, ofApplied, grow, entry, targetValues, configuration, mastership, connections, target}
+use Rattle.machine.specs.Stores.{Store, ofApplied, ofTarget, grow, entry, targetValues, configuration, mastership, connections, target}
 use Rattle.machine.specs.Rows.{rowsOf, eventOf}
-use Rattle.machine.specs.Calls.{Call, Outcome, rollback, start, stop, connect, disconnect, master, sync, work, refused, accepted, answers, validChange, appended, planOf, commits, planned, workOk, copyRow, decide}
+use Rattle.machine.specs.Calls.{Call, Outcome, rollback, start, stop, connect, disconnect, master, sync, work, refused, accepted, answers, validChange, appended, planOf, commits, planned, workOk, clearRow, copyRow, copyCount, counts, decide}
 use Rattle.connections.specs.declared.Tabled.{Tabled}
 use Rattle.connections.specs.Table as table
 use Rattle.connections.specs.Decides as decides
@@ -37,8 +38,9 @@ use Rattle.image.specs.Layout.{slots, highest}
 use Rattle.image.specs.View.{tableOf, view, write, written}
 use Rattle.image.specs.Formed.{formed}
 use Rattle.image.proofs.UpTo.{and-left, and-right}
+use Rattle.image.specs.Promises.{WritesDiffering}
 use Rattle.image.proofs.Kept.{table-kept}
-use Rattle.image.proofs.Shown.{configuration-outside}
+use Rattle.image.proofs.Shown.{configuration-outside, written-append}
 use Rattle.image.proofs.Scanned.{view-kept, formed-length}
 use Rattle.controller.specs.Claims.{outcomeOf, Claims, Does, Entry}
 use Rattle.controller.specs.Bytes.{AllBytes, pairsOf, pairsIf, appendOf, validBytes}
@@ -76,6 +78,23 @@ module _ (l : List ℕ) (c : Call) (a : ℕ) (es : List Store) (d : decide (view
   accepted-by : (m : List ℕ) → a ≡ 0 → r ≡ refusal 0 → m ≡ written l es → Does l c r m
   accepted-by m e p q = accepts l c es r m (d ∙ rw (eq-eqb a 0 e)) p q
 
+-- ---- the same, of one that shows a number n where it is accepted
+module _ (l : List ℕ) (c : Call) (a n : ℕ) (es : List Store) (d : decide (view l) c ≡ counts a n es) (r : Reply) where
+  count-refused : (a ≡ 0 → ⊥) → r ≡ refusal a → Does l c r l
+  count-refused k p = refuses l c a r (d ∙ rw (ne-eqb a 0 k)) p
+
+  count-accepted : (m : List ℕ) → a ≡ 0 → r ≡ record { answer = 0; event = numbered n } → m ≡ written l es → Does l c r m
+  count-accepted m e p q = does l c (record { reply = record { answer = 0; event = numbered n }; stores = es }) r m (d ∙ rw (eq-eqb a 0 e)) p q
+
+-- ---- a switch that stops: one that remembers loses nothing
+pub holds : (l : List ℕ) (b : Bool) → b ≡ true → l ≡ written l (clearRow b)
+unfolding written
+holds l b e = rw e refl
+
+pub loses : (l m : List ℕ) (b : Bool) → b ≡ false → m ≡ write l (targetValues absent) → m ≡ written l (clearRow b)
+unfolding written
+loses l m b e p = rw e p
+
 -- ---- start
 module _ (l : List ℕ) (t : Target) (x : Targeted) (r : Reply) (et : t ≡ targetOf l) where
   module _ (ex : x ≡ outside.start t) where
@@ -92,19 +111,24 @@ module _ (l : List ℕ) (t : Target) (x : Targeted) (r : Reply) (et : t ≡ targ
 
   -- ---- stop
   module _ (ex : x ≡ outside.stop t) where
-    stop-by : decide (view l) stop ≡ answers (x .answer) (target (x .target) ∷ targetValues absent ∷ connections (map outside.off (connectionsOf l)) ∷ [])
+    stop-by : decide (view l) stop
+        ≡ answers (x .answer) (target (x .target) ∷ (clearRow (targetOf l .remembers) ++ (connections (map outside.off (connectionsOf l)) ∷ [])))
     unfolding decide view
     stop-by =
-        ap (λ (y : Targeted). answers (y .answer) (target (y .target) ∷ targetValues absent ∷ connections (map outside.off (connectionsOf l)) ∷ []))
+        ap (λ (y : Targeted). answers (y .answer) (target (y .target) ∷ (clearRow (targetOf l .remembers) ++ (connections (map outside.off (connectionsOf l)) ∷ []))))
         (sym (ex ∙ ap outside.stop et))
 
     pub stop-refused : (x .answer ≡ 0 → ⊥) → r ≡ refusal (x .answer) → Does l stop r l
     stop-refused n p = refused-by l stop (x .answer) _ stop-by r n p
 
     pub stopped : (cs ns : List Connection) (l1 l2 l3 : List ℕ) → cs ≡ connectionsOf l → ns ≡ map outside.off cs → x .answer ≡ 0 → r ≡ refusal 0
-        → l1 ≡ putTarget l (x .target) → l2 ≡ write l1 (targetValues absent) → l3 ≡ putConnections l2 ns → Does l stop r l3
+        → l1 ≡ putTarget l (x .target) → l2 ≡ written l1 (clearRow (t .remembers)) → l3 ≡ putConnections l2 ns → Does l stop r l3
     unfolding written write
-    stopped cs ns l1 l2 l3 ec en e p q1 q2 q3 = accepted-by l stop (x .answer) _ stop-by r l3 e p (q3 ∙ rw (q2, q1, en, ec))
+    stopped cs ns l1 l2 l3 ec en e p q1 q2 q3 =
+        accepted-by l stop (x .answer) _ stop-by r l3 e p
+        (q3
+        ∙ ap₂ (λ (y : List ℕ) (z : List Connection). putConnections y z) (q2 ∙ ap₂ (λ (y : List ℕ) (z : Target). written y (clearRow (z .remembers))) q1 et) (en ∙ ap (map outside.off) ec)
+        ∙ sym (written-append (putTarget l (x .target)) (clearRow (targetOf l .remembers)) (connections (map outside.off (connectionsOf l)) ∷ [])))
 
 -- ---- connect and disconnect
 module _ (l : List ℕ) (n : ℕ) (cs : List Connection) (x : Tabled) (r : Reply) (ec : cs ≡ connectionsOf l) where
@@ -163,29 +187,31 @@ module _ (l : List ℕ) (n : ℕ) (b : Bool) (r : Reply) (eb : b ≡ isNode n) w
     -- ---- synchronise
     module _ (d : Target) (g : Configuration) (h : Bool) (x : Synchronised) (ed : d ≡ targetOf l) (eg : g ≡ configurationOf l) (eh : h ≡ outside.reaches c m d)
         (ex : x ≡ outside.synchronise g (m .term) (eqb (m .master) n) h) where
-      sync-by : decide (view l) (sync n) ≡ answers (x .answer) (configuration (x .configuration) ∷ copyRow (x .copies) (tableOf l ofApplied))
+      sync-by : decide (view l) (sync n) ≡ counts (x .answer) (copyCount (x .copies) (tableOf l ofTarget) (tableOf l ofApplied)) (configuration (x .configuration) ∷ copyRow (x .copies) (tableOf l ofTarget) (tableOf l ofApplied))
       unfolding decide view
       sync-by =
           rw (← eb, t)
-          (ap (λ (y : Synchronised). answers (y .answer) (configuration (y .configuration) ∷ copyRow (y .copies) (tableOf l ofApplied)))
+          (ap (λ (y : Synchronised). counts (y .answer) (copyCount (y .copies) (tableOf l ofTarget) (tableOf l ofApplied)) (configuration (y .configuration) ∷ copyRow (y .copies) (tableOf l ofTarget) (tableOf l ofApplied)))
           (sym
           (ex ∙ ap₂ (λ (y : Configuration) (z : Bool). outside.synchronise y (m .term) (eqb (m .master) n) z) eg (eh ∙ ap₂ (λ (y : Connection) (z : Target). outside.reaches y m z) ec ed)
           ∙ ap (λ (y : Mastership). outside.synchronise (configurationOf l) (y .term) (eqb (y .master) n) (outside.reaches (nodeOf (connectionsOf l) n) y (targetOf l))) em)))
 
       pub sync-refused : (x .answer ≡ 0 → ⊥) → r ≡ refusal (x .answer) → Does l (sync n) r l
-      sync-refused k p = refused-by l (sync n) (x .answer) _ sync-by r k p
+      sync-refused k p = count-refused l (sync n) (x .answer) _ _ sync-by r k p
 
       pub syncing : (l1 : List ℕ) → x .answer ≡ 0 → x .copies ≡ false → r ≡ refusal 0 → l1 ≡ putConfiguration l (x .configuration) → Does l (sync n) r l1
       unfolding written write
-      syncing l1 e f p q = accepted-by l (sync n) (x .answer) _ sync-by r l1 e p (q ∙ rw f)
+      syncing l1 e f p q = count-accepted l (sync n) (x .answer) _ _ sync-by r l1 e (p ∙ rw f) (q ∙ rw f)
 
-      pub synced : (l1 l2 : List ℕ) → formed l ≡ true → x .answer ≡ 0 → x .copies ≡ true → r ≡ refusal 0 → l1 ≡ putConfiguration l (x .configuration)
-          → l2 ≡ write l1 (targetValues (tableOf l1 ofApplied)) → Does l (sync n) r l2
+      pub synced : (l1 l2 : List ℕ) (k : ℕ) (v : Event) → formed l ≡ true → x .answer ≡ 0 → x .copies ≡ true → v ≡ numbered k → r ≡ record { answer = 0; event = v }
+          → l1 ≡ putConfiguration l (x .configuration) → WritesDiffering l1 k l2 → Does l (sync n) r l2
       unfolding written write
-      synced l1 l2 w e f p q s =
+      synced l1 l2 k v w e f ev p q s =
+          let l1' = putConfiguration l (x .configuration) in
           let o = configuration-outside l (formed-length l w) (room l w) (x .configuration) in
-          let k : tableOf (putConfiguration l (x .configuration)) ofApplied ≡ tableOf l ofApplied = table-kept l (putConfiguration l (x .configuration)) _ _ o ofApplied (inl (omega arith)) in
-          accepted-by l (sync n) (x .answer) _ sync-by r l2 e p (s ∙ rw (q, k, f))
+          let a : tableOf l1' ofApplied ≡ tableOf l ofApplied = table-kept l l1' _ _ o ofApplied (inl (omega arith)) in
+          let b : tableOf l1' ofTarget ≡ tableOf l ofTarget = table-kept l l1' _ _ o ofTarget (inl (omega arith)) in
+          count-accepted l (sync n) (x .answer) _ _ sync-by r l2 e (p ∙ rw (ev, s .0, q, a, b, f)) (s .1 ∙ rw (q, a, b, f))
 
 -- ---- in the log, and kept after the last fold b
 module _ (l : List ℕ) (w : formed l ≡ true) (i n : ℕ) (k : Bool) (en : n ≡ lastOf l) (ek : k ≡ (leb 1 i && leb i n)) where

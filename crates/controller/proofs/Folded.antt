@@ -35,7 +35,8 @@ use Rattle.image.proofs.Scanned.{view-all}
 use Rattle.controller.specs.Claims.{Does, Entry, Ring, waitsAt, finishedAt}
 use Rattle.controller.specs.Live.{liveFrom, Chained, Reaches, ListedIn}
 use Rattle.controller.proofs.Decided.{entry-here, this-entry, last-is}
-use Rattle.controller.proofs.Performed.{written-append, rows-on}
+use Rattle.image.proofs.Shown.{written-append}
+use Rattle.controller.proofs.Performed.{rows-on}
 use Rattle.controller.proofs.Walked.{as-entry, live-more, live-is, lower, chain-in}
 use Rattle.controller.proofs.Answered.{refuses, accepts}
 

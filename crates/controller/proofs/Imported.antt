@@ -323,7 +323,7 @@ entry-in b j (suc n) (suc k) h = let z : suc j + k ≡ j + suc k = omega arith i
 
 pub record Made (b : List ℕ) (k : ℕ) (m : List ℕ) : Type 0 where
   pub inside : k ≤ length b / entrySize
-  pub image : m ≡ lentFrom freshImage (callsUpTo (entriesOf b) k)
+  pub image : m ≡ lentFrom (freshImage false) (callsUpTo (entriesOf b) k)
 
 module _ (b : List ℕ) (p : Accepts b) where
   abbrev es : List Entry
@@ -332,7 +332,7 @@ module _ (b : List ℕ) (p : Accepts b) where
   good-list : Taken es
   good-list = taken es (p .1)
 
-  pub made-none : (m : List ℕ) → m ≡ lentFrom freshImage opening → Made b 0 m
+  pub made-none : (m : List ℕ) → m ≡ lentFrom (freshImage false) opening → Made b 0 m
   unfolding callsUpTo
   made-none m e = record { inside = omega arith; image = e }
 
@@ -346,7 +346,7 @@ module _ (b : List ℕ) (p : Accepts b) where
     pub made-length : length m ≡ imageLength
     made-length = formed-length m made-formed
 
-    made-shows : view m ≡ run (callsUpTo es k) .state
+    made-shows : view m ≡ run false (callsUpTo es k) .state
     made-shows = shown-run (callsUpTo es k) m (w .image)
 
     module _ (h : k < length b / entrySize) (at : ℕ) (ea : at ≡ entrySize * k) where
@@ -389,7 +389,7 @@ module _ (b : List ℕ) (p : Accepts b) where
           go false y = never (entryIn b at) this (rw (x, y))
 
       as-change : (e : two b at ≡ 1)
-          → (run (callsUpTo es (suc k)) .state ≡ changed (run (callsUpTo es k) .state) ps) × (validChange ps ≡ true) × (last (run (callsUpTo es k) .state .log) < 128)
+          → (run false (callsUpTo es (suc k)) .state ≡ changed (run false (callsUpTo es k) .state) ps) × (validChange ps ≡ true) × (last (run false (callsUpTo es k) .state .log) < 128)
       as-change e = entered-change es (good-list .short) (good-list .good) k ps in-list (is-change e)
 
       room : two b at ≡ 1 → last (view m .log) < 128
@@ -425,11 +425,11 @@ module _ (b : List ℕ) (p : Accepts b) where
       abbrev cs : List Call
       cs = callsOf es (suc k) (entryAfter es k)
 
-      calls-more : lentFrom m cs ≡ lentFrom freshImage (callsUpTo es (suc k))
+      calls-more : lentFrom m cs ≡ lentFrom (freshImage false) (callsUpTo es (suc k))
       unfolding callsUpTo
-      calls-more = ap (λ (x : List ℕ). lentFrom x cs) (w .image) ∙ lent-on freshImage (callsUpTo es k) cs
+      calls-more = ap (λ (x : List ℕ). lentFrom x cs) (w .image) ∙ lent-on (freshImage false) (callsUpTo es k) cs
 
-      shows-more : view (lentFrom m cs) ≡ run (callsUpTo es (suc k)) .state
+      shows-more : view (lentFrom m cs) ≡ run false (callsUpTo es (suc k)) .state
       shows-more = shown-run (callsUpTo es (suc k)) (lentFrom m cs) calls-more
 
       unfolded : view (lentFrom m cs) .log .folded .0 ≡ 0
@@ -459,12 +459,12 @@ module _ (b : List ℕ) (p : Accepts b) where
           go true x = rw x (row-change (eqb-true (two b at) 1 x))
           go false x = rw x (row-rollback (eqb-false (two b at) 1 x))
 
-    pub made-all : length b / entrySize ≤ k → m ≡ lentFrom freshImage (importCalls es)
+    pub made-all : length b / entrySize ≤ k → m ≡ lentFrom (freshImage false) (importCalls es)
     made-all h =
         let i = w .inside in
         let z = list-length b in
         let e : k ≡ length es = omega arith in
-        w .image ∙ ap (λ (j : ℕ). lentFrom freshImage (callsUpTo es j)) e
+        w .image ∙ ap (λ (j : ℕ). lentFrom (freshImage false) (callsUpTo es j)) e
 
 -- ---- the code's tests and rows
 module _ (l b : List ℕ) (at k : ℕ) (ek : k ≡ two b at) where
@@ -518,7 +518,7 @@ module _ (l b : List ℕ) where
             let z : eqb (judged (entriesOf b) .answer) 0 ≡ false = ne-eqb _ 0 (λ y. n (ap (λ (x : Imported). x .answer) j ∙ y)) in
             (j ∙ ap told (sym verdict), sym (ap (λ (x : Import). imageAfter x l) verdict ∙ rw z refl))
 
-        pub import-taken : r .answer ≡ 0 → (m : List ℕ) → m ≡ lentFrom freshImage (importCalls (entriesOf b)) → Imports l b r m
+        pub import-taken : r .answer ≡ 0 → (m : List ℕ) → m ≡ lentFrom (freshImage false) (importCalls (entriesOf b)) → Imports l b r m
         unfolding import
         import-taken y m e =
             let z : eqb (judged (entriesOf b) .answer) 0 ≡ true = eq-eqb _ 0 (sym (ap (λ (x : Imported). x .answer) j) ∙ y) in

@@ -1,7 +1,7 @@
 -- Calls on the bytes, one after another: the image stays well-formed and shows what the machine's calls leave. Assumes nothing.
 use Prim.Native.Nat.{ℕ}
 use mathlib.Core.Path.{_≡_, refl, ap, sym, _∙_, subst}
-use mathlib.Core.Bool.{true}
+use mathlib.Core.Bool.{Bool, true, false}
 use mathlib.Core.List.{List, [], _∷_, _++_}
 use Rattle.kinds.specs.declared.Reply.{Reply}
 use Rattle.fields.proofs.Laws.{Bytes}
@@ -60,24 +60,24 @@ lent-then l cs k c r m y w e d =
 lent-formed : (l : List ℕ) (cs : List Call) (k : List ℕ) → Bytes l → formed l ≡ true → k ≡ lentFrom l cs → formed k ≡ true
 lent-formed l cs k y w e = ap formed e ∙ lent l cs y w .formed
 
--- from the fresh image
-pub fresh-run : (cs : List Call) → stateFrom fresh cs ≡ run cs .state
+-- from a fresh image; an import's forgets
+pub fresh-run : (m : Bool) (cs : List Call) → stateFrom (fresh m) cs ≡ run m cs .state
 unfolding stateFrom run
-fresh-run [] = refl
-fresh-run (c ∷ cs) = ap (λ (s : State). step s c .next) (fresh-run cs)
+fresh-run m [] = refl
+fresh-run m (c ∷ cs) = ap (λ (s : State). step s c .next) (fresh-run m cs)
 
-pub fresh-lent : (cs : List Call) → Lent freshImage cs
-fresh-lent cs = lent freshImage cs fresh-bytes formed-fresh
+pub fresh-lent : (cs : List Call) → Lent (freshImage false) cs
+fresh-lent cs = lent (freshImage false) cs (fresh-bytes false) (formed-fresh false)
 
-pub fresh-none : (m : List ℕ) → m ≡ freshImage → m ≡ lentFrom freshImage []
+pub fresh-none : (m : List ℕ) → m ≡ freshImage false → m ≡ lentFrom (freshImage false) []
 unfolding lentFrom
 fresh-none m e = e
 
-pub fresh-then : (cs : List Call) (k : List ℕ) (c : Call) (r : Reply) (m : List ℕ) → k ≡ lentFrom freshImage cs → Does k c r m → m ≡ lentFrom freshImage (c ∷ cs)
-fresh-then cs k c r m = lent-then freshImage cs k c r m fresh-bytes formed-fresh
+pub fresh-then : (cs : List Call) (k : List ℕ) (c : Call) (r : Reply) (m : List ℕ) → k ≡ lentFrom (freshImage false) cs → Does k c r m → m ≡ lentFrom (freshImage false) (c ∷ cs)
+fresh-then cs k c r m = lent-then (freshImage false) cs k c r m (fresh-bytes false) (formed-fresh false)
 
-pub fresh-formed : (cs : List Call) (k : List ℕ) → k ≡ lentFrom freshImage cs → formed k ≡ true
-fresh-formed cs k = lent-formed freshImage cs k fresh-bytes formed-fresh
+pub fresh-formed : (cs : List Call) (k : List ℕ) → k ≡ lentFrom (freshImage false) cs → formed k ≡ true
+fresh-formed cs k = lent-formed (freshImage false) cs k (fresh-bytes false) (formed-fresh false)
 
-pub shown-run : (cs : List Call) (m : List ℕ) → m ≡ lentFrom freshImage cs → view m ≡ run cs .state
-shown-run cs m e = ap view e ∙ fresh-lent cs .shows ∙ ap (λ (s : State). stateFrom s cs) shows-fresh ∙ fresh-run cs
+pub shown-run : (cs : List Call) (m : List ℕ) → m ≡ lentFrom (freshImage false) cs → view m ≡ run false cs .state
+shown-run cs m e = ap view e ∙ fresh-lent cs .shows ∙ ap (λ (s : State). stateFrom s cs) (shows-fresh false) ∙ fresh-run false cs

@@ -23,11 +23,7 @@ use Rattle.image.specs.Layout.{valuesAt, committedAt, appliedAt}
 use Rattle.image.specs.Promises.{valuePut}
 use Rattle.image.specs.Records.{putHeadAt}
 use Rattle.image.specs.View.{write, written}
-
-pub written-append : (l : List ℕ) (es fs : List Store) → written l (es ++ fs) ≡ written (written l es) fs
-unfolding written
-written-append l [] fs = refl
-written-append l (e ∷ es) fs = written-append (write l e) es fs
+use Rattle.image.proofs.Shown.{written-append}
 
 -- a row after a row
 pub rows-on : (l m n : List ℕ) (es fs : List Store) → m ≡ written l es → n ≡ written m fs → n ≡ written l (es ++ fs)

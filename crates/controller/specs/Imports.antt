@@ -2,7 +2,7 @@
 -- every byte is what it had been (order 6). Assumes nothing.
 use Prim.Native.Nat.{ℕ, _+_, _-_, _%_, _≤_, _<_}
 use mathlib.Core.Path.{_≡_}
-use mathlib.Core.Bool.{true, _&&_, cond}
+use mathlib.Core.Bool.{true, false, _&&_, cond}
 use mathlib.Core.List.{List, []}
 use lib.Dec.{eqb, leb, ltb}
 use lib.ListN.{length}
@@ -31,7 +31,7 @@ told x = record { answer = x .answer; position = x .position }
 
 -- what the image held does not matter where it is accepted
 abbrev pub imageAfter : Import → List ℕ → List ℕ
-imageAfter x l = cond (eqb (x .answer) 0) (lentFrom freshImage (x .calls)) l
+imageAfter x l = cond (eqb (x .answer) 0) (lentFrom (freshImage false) (x .calls)) l
 
 abbrev pub Imports : (image list : List ℕ) → Imported → (image : List ℕ) → Type 0
 Imports l b r m = (r ≡ told (importIn l b)) × (m ≡ imageAfter (importIn l b) l)

@@ -25,8 +25,8 @@ use Rattle.controller.specs.Imports.{Imports}
 pub claims-only : (l : List ℕ) (c : Call) (r q : Reply) (m n : List ℕ) → Claims l c r m → Claims l c q n → (r ≡ q) × (m ≡ n)
 claims-only l c r q m n = both
 
-pub freshens-only : (l : List ℕ) (r q : Reply) (m n : List ℕ) → Freshens l r m → Freshens l q n → (r ≡ q) × (m ≡ n)
-freshens-only l r q m n = both
+pub freshens-only : (l : List ℕ) (v : ℕ) (r q : Reply) (m n : List ℕ) → Freshens l v r m → Freshens l v q n → (r ≡ q) × (m ≡ n)
+freshens-only l v r q m n = both
 
 pub lists-only : (l room : List ℕ) (r q : Listed) (m n : List ℕ) → Lists l room r m → Lists l room q n → (r ≡ q) × (m ≡ n)
 lists-only l room r q m n = both

@@ -3,8 +3,12 @@ ghost use mathlib.Core.Path.{_≡_};
 ghost use mathlib.Core.Bool.{true, _&&_};
 ghost use Prim.Native.Nat.{_≤_};
 ghost use lib.Dec.{leb, eqb};
+ghost use lib.ListN.{length};
+ghost use Rattle.kinds.specs.Events.{numbered};
 ghost use Rattle.machine.specs.State.{isNode};
-ghost use Rattle.machine.specs.Calls.{rollback, start, stop, connect, disconnect, master, sync, work, workOk, commits};
+ghost use Rattle.machine.specs.Calls.{rollback, start, stop, connect, disconnect, master, sync, work, workOk, clearRow, commits};
+ghost use Rattle.image.specs.Layout.{imageLength};
+ghost use Rattle.image.specs.View.{written};
 ghost use Rattle.image.specs.Formed.{formed};
 ghost use Rattle.controller.specs.Claims.{Does};
 ghost use Rattle.controller.specs.Bytes.{appendOf};
@@ -19,7 +23,6 @@ use connections::stop_of;
 use image::HIGHEST;
 use image::SLOTS;
 use image::clear_target;
-use image::copy_target;
 use image::grow;
 use image::last_fold;
 use image::last_number;
@@ -34,6 +37,7 @@ use image::store_connections;
 use image::store_entry;
 use image::store_mastership;
 use image::store_target;
+use image::write_differing;
 use kinds::Event;
 use kinds::Number;
 use kinds::Reply;
@@ -121,18 +125,31 @@ pub fn start(s: &mut [u8]) -> Reply
     Reply::of(answer)
 }
 
-// Stops the target, clears its values and takes every connection away.
+// Clears the target's values, unless it remembers them.
+fn forget(s: &mut [u8], remembers: bool)
+    requires { ⌜ imageLength ≤ length (now s) ⌝ }
+    ensures { λ _. ⌜ now (s .exit) ≡ written (now (s .entry)) (clearRow remembers) ⌝ }
+{
+    if remembers {
+        return;
+    }
+    clear_target(s);
+}
+
+// Stops the target, clears its values where it forgets them, and takes every connection away.
 pub fn stop(s: &mut [u8]) -> Reply
     requires { ⌜ formed (now s) ≡ true ⌝ }
     ensures { λ r. ⌜ Does (now (s .entry)) stop r (now (s .exit)) ⌝ }
 {
-    let x = rules::stop(load_target(s));
+    let t = load_target(s);
+    let remembers = t.remembers;
+    let x = rules::stop(t);
     let answer = x.answer;
     if answer == 0 {
         let target = x.target;
         let nodes = stop_of(load_connections(s));
         store_target(s, target);
-        clear_target(s);
+        forget(s, remembers);
         store_connections(s, nodes);
         return Reply::of(0);
     }
@@ -191,7 +208,19 @@ pub fn master(s: &mut [u8], node: u16) -> Reply
     Reply::of(2)
 }
 
-// Synchronises: refuses 2, then what the rule refuses.
+// What a synchronise that wrote shows: how many paths.
+fn counted(n: u16) -> Event
+    ensures { λ r. ⌜ r ≡ numbered n ⌝ }
+{
+    Event {
+        phase: 0,
+        stage: 0,
+        number: Number::of(n),
+        status: Status::None,
+    }
+}
+
+// Synchronises: refuses 2, then what the rule refuses. Where it writes it shows how many paths differed.
 pub fn sync(s: &mut [u8], node: u16) -> Reply
     requires { ⌜ formed (now s) ≡ true ⌝ }
     ensures { λ r. ⌜ Does (now (s .entry)) (sync node) r (now (s .exit)) ⌝ }
@@ -207,8 +236,8 @@ pub fn sync(s: &mut [u8], node: u16) -> Reply
             let g = x.configuration;
             store_configuration(s, g);
             if x.copies {
-                copy_target(s);
-                return Reply::of(0);
+                let event = counted(write_differing(s));
+                return Reply { answer: 0, event };
             }
             return Reply::of(0);
         }

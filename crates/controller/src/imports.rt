@@ -1,5 +1,6 @@
 // Import, the old controller's lists (order 6): a list is judged whole, and then written on a fresh image, entry by entry, as its
 // calls would leave it.
+ghost use mathlib.Core.Bool.{false};
 ghost use mathlib.Core.Path.{_≡_};
 ghost use Prim.Native.Nat.{_+_, _≤_};
 ghost use lib.ListN.{length};
@@ -158,12 +159,12 @@ fn judge(list: &[u8]) -> Imported
 
 // ---- what its calls leave
 
-// A fresh controller whose target runs, and whose master is node 1.
+// A fresh controller whose target forgets and runs, and whose master is node 1.
 fn begin(s: &mut [u8])
     requires { ⌜ length (now s) ≡ imageLength ⌝ }
-    ensures { λ _. ⌜ now (s .exit) ≡ lentFrom freshImage opening ⌝ }
+    ensures { λ _. ⌜ now (s .exit) ≡ lentFrom (freshImage false) opening ⌝ }
 {
-    make_fresh(s);
+    make_fresh(s, false);
     start(s);
     connect(s, 1);
     master(s, 1);
@@ -310,7 +311,7 @@ fn enter(s: &mut [u8], list: &[u8], at: usize)
 // All of them, of a list that is accepted: each leaves at once what its calls would leave.
 fn make(s: &mut [u8], list: &[u8])
     requires { ⌜ (length (now s) ≡ imageLength) × Accepts (now list) ⌝ }
-    ensures { λ _. ⌜ now (s .exit) ≡ lentFrom freshImage (importCalls (entriesOf (now (list .entry)))) ⌝ }
+    ensures { λ _. ⌜ now (s .exit) ≡ lentFrom (freshImage false) (importCalls (entriesOf (now (list .entry)))) ⌝ }
 {
     begin(s);
     let n = list.len() / 20;

@@ -70,7 +70,7 @@ pub fn start(s: &mut [u8]) -> Reply
     Reply::of(1)
 }
 
-// Stops the target: its values are lost, and every connection.
+// Stops the target: its values are lost, unless it remembers them, and every connection.
 pub fn stop(s: &mut [u8]) -> Reply
     ensures { λ r. ⌜ Claims (now (s .entry)) stop r (now (s .exit)) ⌝ }
 {
@@ -110,7 +110,7 @@ pub fn master(s: &mut [u8], node: u16) -> Reply
     Reply::of(1)
 }
 
-// Brings the applied values to the target, in two calls.
+// Brings the applied values to the target, in two calls; the second shows how many paths differed.
 pub fn sync(s: &mut [u8], node: u16) -> Reply
     ensures { λ r. ⌜ Claims (now (s .entry)) (sync node) r (now (s .exit)) ⌝ }
 {

@@ -16,12 +16,12 @@ use Rattle.link.proofs.Nights.{repliesIn, lent-calling}
 module _ (l b : List ℕ) (r : Imported) (m : List ℕ) (p : Imports l b r m) where
   pub import-leaves : (r .answer ≡ 0 → ⊥) → m ≡ l
   import-leaves n =
-      p .1 ∙ ap (λ (x : Bool). cond x (lentFrom freshImage (importIn l b .calls)) l) (ne-eqb _ 0 (λ z. n (ap (λ (u : Imported). u .answer) (p .0) ∙ z)))
+      p .1 ∙ ap (λ (x : Bool). cond x (lentFrom (freshImage false) (importIn l b .calls)) l) (ne-eqb _ 0 (λ z. n (ap (λ (u : Imported). u .answer) (p .0) ∙ z)))
 
-  pub import-left : r .answer ≡ 0 → m ≡ lentFrom freshImage (importIn l b .calls)
+  pub import-left : r .answer ≡ 0 → m ≡ lentFrom (freshImage false) (importIn l b .calls)
   import-left a =
-      p .1 ∙ ap (λ (x : Bool). cond x (lentFrom freshImage (importIn l b .calls)) l) (eq-eqb _ 0 (sym (ap (λ (u : Imported). u .answer) (p .0)) ∙ a))
+      p .1 ∙ ap (λ (x : Bool). cond x (lentFrom (freshImage false) (importIn l b .calls)) l) (eq-eqb _ 0 (sym (ap (λ (u : Imported). u .answer) (p .0)) ∙ a))
 
-  pub import-calling : r .answer ≡ 0 → Calling freshImage (importIn l b .calls) (repliesIn freshImage (importIn l b .calls)) m
+  pub import-calling : r .answer ≡ 0 → Calling (freshImage false) (importIn l b .calls) (repliesIn (freshImage false) (importIn l b .calls)) m
   import-calling a =
-      let cs : List Call = importIn l b .calls in subst (Calling freshImage cs (repliesIn freshImage cs)) (sym (import-left a)) (lent-calling freshImage cs)
+      let cs : List Call = importIn l b .calls in subst (Calling (freshImage false) cs (repliesIn (freshImage false) cs)) (sym (import-left a)) (lent-calling (freshImage false) cs)

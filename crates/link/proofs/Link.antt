@@ -2,7 +2,7 @@
 -- they show. A claim names no call: each theorem is of all of them. Assumes nothing.
 use Prim.Native.Nat.{ℕ}
 use mathlib.Core.Path.{_≡_, refl, ap, ap₂, sym, _∙_, subst}
-use mathlib.Core.Bool.{true, false}
+use mathlib.Core.Bool.{Bool, true, false}
 use mathlib.Core.List.{List, [], _∷_, map}
 use Rattle.kinds.specs.declared.Reply.{Reply}
 use Rattle.kinds.specs.declared.Event.{Event}
@@ -75,15 +75,15 @@ shows-run {l} (next {cs = cs} {rs = rs} {k = k} d c r m p) y w =
     }
 
 -- from fresh it is the machine's run, with its events
-pub state-run : (cs : List Call) → stateFrom fresh cs ≡ run cs .state
+pub state-run : (m : Bool) (cs : List Call) → stateFrom (fresh m) cs ≡ run m cs .state
 unfolding stateFrom run
-state-run [] = refl
-state-run (c ∷ cs) = ap (λ (s : State). step s c .next) (state-run cs)
+state-run m [] = refl
+state-run m (c ∷ cs) = ap (λ (s : State). step s c .next) (state-run m cs)
 
 abbrev pub eventOf : Reply → Event
 eventOf r = r .event
 
-pub events-run : (cs : List Call) → map eventOf (repliesFrom fresh cs) ≡ run cs .events
+pub events-run : (m : Bool) (cs : List Call) → map eventOf (repliesFrom (fresh m) cs) ≡ run m cs .events
 unfolding repliesFrom run
-events-run [] = refl
-events-run (c ∷ cs) = ap₂ (λ (x : Event) (xs : List Event). x ∷ xs) (ap (λ (s : State). step s c .reply .event) (state-run cs)) (events-run cs)
+events-run m [] = refl
+events-run m (c ∷ cs) = ap₂ (λ (x : Event) (xs : List Event). x ∷ xs) (ap (λ (s : State). step s c .reply .event) (state-run m cs)) (events-run m cs)

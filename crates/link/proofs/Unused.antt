@@ -26,9 +26,8 @@ use Rattle.image.specs.Formed.{allKept, statusesOk, entryStatusesOk, flagsOk, c
 use Rattle.image.proofs.UpTo.{upFrom-same, kept-same}
 use Rattle.image.proofs.Kept.{last-kept, folded-kept, flags-kept}
 use Rattle.image.proofs.Scanned.{view-last, view-folded, formed-room, formed-state}
-use Rattle.image.proofs.Shown.{shown-log}
+use Rattle.image.proofs.Shown.{shown-log, written-append}
 use Rattle.controller.specs.Claims.{outcomeOf, Claims}
-use Rattle.controller.proofs.Performed.{written-append}
 use Rattle.staying.proofs.Sizes.{sizes}
 use Rattle.staying.proofs.Unused.{Used, past, slot, Free, put-past, written-unused, grow-keeps}
 use Rattle.staying.proofs.Rooms.{Stills, isPlain, decide-still, base-row-still}

@@ -21,8 +21,8 @@ stop-of-requires c κs = search needs
 store-target-requires : tie.Need-store-target-requires
 store-target-requires c κs = omega (arith, size _ (c .before .before .before .before .before .before .before .before .before .before .pre))
 
-clear-target-requires : tie.Need-clear-target-requires
-clear-target-requires c κs = omega (arith, size _ (c .before .before .before .before .before .before .before .before .before .before .before .before .before .before .pre))
+forget-requires : tie.Need-forget-requires
+forget-requires c κs = omega (arith, size _ (c .before .before .before .before .before .before .before .before .before .before .before .before .before .before .pre))
 
 store-connections-requires : tie.Need-store-connections-requires
 store-connections-requires c κs = omega (arith, size _ (c .before .before .before .before .before .before .before .before .before .before .before .before .before .before .before .before .before .before .pre))
@@ -34,7 +34,7 @@ same-length : tie.Need-same-length
 same-length c = search needs
 
 returns : tie.Need-returns
-returns c = stopped _ _ _ _ (c .before .before .before .before .before .before .before .before .before .before .before .before .before .before .before .before .before .before .before .load-target .ensures) (c .before .before .before .before .before .before .before .before .before .before .before .before .before .before .before .before .before .before .stop .ensures) _ _ _ _ _ (c .before .before .before .before .before .before .before .before .before .before .before .before .before .before .load-connections .ensures) (c .before .before .before .before .before .before .before .before .before .before .before .before .before .stop-of .ensures) (c .before .before .before .before .before .before .before .before .before .before .before .before .before .before .before .before .before .if1 .taken) (c .of .ensures) (c .before .before .before .before .before .before .before .before .before .before .before .store-target .ensures) (c .before .before .before .before .before .before .before .clear-target .ensures) (c .before .before .before .store-connections .ensures)
+returns c = stopped _ _ _ _ (c .before .before .before .before .before .before .before .before .before .before .before .before .before .before .before .before .before .before .before .load-target .ensures) (c .before .before .before .before .before .before .before .before .before .before .before .before .before .before .before .before .before .before .stop .ensures) _ _ _ _ _ (c .before .before .before .before .before .before .before .before .before .before .before .before .before .before .load-connections .ensures) (c .before .before .before .before .before .before .before .before .before .before .before .before .before .stop-of .ensures) (c .before .before .before .before .before .before .before .before .before .before .before .before .before .before .before .before .before .if1 .taken) (c .of .ensures) (c .before .before .before .before .before .before .before .before .before .before .before .store-target .ensures) (c .before .before .before .before .before .before .before .forget .ensures) (c .before .before .before .store-connections .ensures)
 
 of-requires-2 : tie.Need-of-requires-2
 of-requires-2 c κs = search needs
@@ -54,7 +54,7 @@ stop-spec =
     load-connections-requires
     stop-of-requires
     store-target-requires
-    clear-target-requires
+    forget-requires
     store-connections-requires
     of-requires
     same-length

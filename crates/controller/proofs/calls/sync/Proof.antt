@@ -1,5 +1,6 @@
 -- `sync` meets its contract. Assumes nothing.
 use Rattle.controller.proofs.Answered.{node-is, no-sync, sync-refused, syncing, synced}
+use mathlib.Core.Path.{refl}
 use native.Mathlib.Omega.{arith}
 use Rattle.controller.proofs.Decided.{size}
 use borrow.Author.Needs.{needs}
@@ -33,41 +34,41 @@ synchronise-requires c κs = search needs
 store-configuration-requires : tie.Need-store-configuration-requires
 store-configuration-requires c κs = omega (arith, size _ (c .before .before .before .before .before .before .before .before .before .before .before .before .before .before .before .before .before .before .pre))
 
-copy-target-requires : tie.Need-copy-target-requires
-copy-target-requires c κs = omega (arith, size _ (c .before .before .before .before .before .before .before .before .before .before .before .before .before .before .before .before .before .before .before .before .before .before .before .pre))
+write-differing-requires : tie.Need-write-differing-requires
+write-differing-requires c κs = omega (arith, size _ (c .before .before .before .before .before .before .before .before .before .before .before .before .before .before .before .before .before .before .before .before .before .before .before .pre))
 
-of-requires : tie.Need-of-requires
-of-requires c κs = search needs
+counted-requires : tie.Need-counted-requires
+counted-requires c κs = search needs
 
 same-length : tie.Need-same-length
 same-length c = search needs
 
 returns : tie.Need-returns
-returns c = synced _ _ _ _ (c .before .before .before .before .before .before .before .before .before .before .before .before .before .before .before .before .before .before .before .before .before .before .before .before .before .is-node .ensures) (c .before .before .before .before .before .before .before .before .before .before .before .before .before .before .before .before .before .before .before .before .before .before .before .before .if1 .taken) _ _ (c .before .before .before .before .before .before .before .before .before .before .before .before .before .before .before .before .before .before .before .before .before .before .load-mastership .ensures) (c .before .before .before .before .before .before .before .before .before .before .before .before .before .before .before .before .before .before .before .before .load-connection .ensures) _ _ _ _ (c .before .before .before .before .before .before .before .before .before .before .before .before .before .before .before .before .before .before .load-target .ensures) (c .before .before .before .before .before .before .before .before .before .before .before .before .before .before .load-configuration .ensures) (c .before .before .before .before .before .before .before .before .before .before .before .before .before .before .before .before .before .reaches .ensures) (c .before .before .before .before .before .before .before .before .before .before .before .before .synchronise .ensures) _ _ (c .before .before .before .before .before .before .before .before .before .before .before .before .before .before .before .before .before .before .before .before .before .before .before .before .before .before .before .pre) (c .before .before .before .before .before .before .before .before .before .before .before .if2 .taken) (c .before .before .before .before .before .if3 .taken) (c .of .ensures) (c .before .before .before .before .before .before .before .before .store-configuration .ensures) (c .before .before .before .copy-target .ensures)
+returns c = synced _ _ _ _ (c .before .before .before .before .before .before .before .before .before .before .before .before .before .before .before .before .before .before .before .before .before .before .before .before .before .is-node .ensures) (c .before .before .before .before .before .before .before .before .before .before .before .before .before .before .before .before .before .before .before .before .before .before .before .before .if1 .taken) _ _ (c .before .before .before .before .before .before .before .before .before .before .before .before .before .before .before .before .before .before .before .before .before .before .load-mastership .ensures) (c .before .before .before .before .before .before .before .before .before .before .before .before .before .before .before .before .before .before .before .before .load-connection .ensures) _ _ _ _ (c .before .before .before .before .before .before .before .before .before .before .before .before .before .before .before .before .before .before .load-target .ensures) (c .before .before .before .before .before .before .before .before .before .before .before .before .before .before .load-configuration .ensures) (c .before .before .before .before .before .before .before .before .before .before .before .before .before .before .before .before .before .reaches .ensures) (c .before .before .before .before .before .before .before .before .before .before .before .before .synchronise .ensures) _ _ _ _ (c .before .before .before .before .before .before .before .before .before .before .before .before .before .before .before .before .before .before .before .before .before .before .before .before .before .before .before .pre) (c .before .before .before .before .before .before .before .before .before .before .before .if2 .taken) (c .before .before .before .before .before .if3 .taken) (c .counted .ensures) refl (c .before .before .before .before .before .before .before .before .store-configuration .ensures) (c .before .before .before .write-differing .ensures)
 
-of-requires-2 : tie.Need-of-requires-2
-of-requires-2 c κs = search needs
+of-requires : tie.Need-of-requires
+of-requires c κs = search needs
 
 same-length-2 : tie.Need-same-length-2
 same-length-2 c = search needs
 
 returns-2 : tie.Need-returns-2
-returns-2 c = syncing _ _ _ _ (c .before .before .before .before .before .before .before .before .before .before .before .before .before .before .before .before .before .before .before .before .before .is-node .ensures) (c .before .before .before .before .before .before .before .before .before .before .before .before .before .before .before .before .before .before .before .before .if1 .taken) _ _ (c .before .before .before .before .before .before .before .before .before .before .before .before .before .before .before .before .before .before .load-mastership .ensures) (c .before .before .before .before .before .before .before .before .before .before .before .before .before .before .before .before .load-connection .ensures) _ _ _ _ (c .before .before .before .before .before .before .before .before .before .before .before .before .before .before .load-target .ensures) (c .before .before .before .before .before .before .before .before .before .before .load-configuration .ensures) (c .before .before .before .before .before .before .before .before .before .before .before .before .before .reaches .ensures) (c .before .before .before .before .before .before .before .before .synchronise .ensures) _ (c .before .before .before .before .before .before .before .if2 .taken) (c .before .if3 .left) (c .of2 .ensures) (c .before .before .before .before .store-configuration .ensures)
+returns-2 c = syncing _ _ _ _ (c .before .before .before .before .before .before .before .before .before .before .before .before .before .before .before .before .before .before .before .before .before .is-node .ensures) (c .before .before .before .before .before .before .before .before .before .before .before .before .before .before .before .before .before .before .before .before .if1 .taken) _ _ (c .before .before .before .before .before .before .before .before .before .before .before .before .before .before .before .before .before .before .load-mastership .ensures) (c .before .before .before .before .before .before .before .before .before .before .before .before .before .before .before .before .load-connection .ensures) _ _ _ _ (c .before .before .before .before .before .before .before .before .before .before .before .before .before .before .load-target .ensures) (c .before .before .before .before .before .before .before .before .before .before .load-configuration .ensures) (c .before .before .before .before .before .before .before .before .before .before .before .before .before .reaches .ensures) (c .before .before .before .before .before .before .before .before .synchronise .ensures) _ (c .before .before .before .before .before .before .before .if2 .taken) (c .before .if3 .left) (c .of .ensures) (c .before .before .before .before .store-configuration .ensures)
 
-of-requires-3 : tie.Need-of-requires-3
-of-requires-3 c κs = search needs
+of-requires-2 : tie.Need-of-requires-2
+of-requires-2 c κs = search needs
 
 same-length-3 : tie.Need-same-length-3
 same-length-3 c = search needs
 
 returns-3 : tie.Need-returns-3
-returns-3 c = sync-refused _ _ _ _ (c .before .before .before .before .before .before .before .before .before .before .before .before .before .before .before .is-node .ensures) (c .before .before .before .before .before .before .before .before .before .before .before .before .before .before .if1 .taken) _ _ (c .before .before .before .before .before .before .before .before .before .before .before .before .load-mastership .ensures) (c .before .before .before .before .before .before .before .before .before .before .load-connection .ensures) _ _ _ _ (c .before .before .before .before .before .before .before .before .load-target .ensures) (c .before .before .before .before .load-configuration .ensures) (c .before .before .before .before .before .before .before .reaches .ensures) (c .before .before .synchronise .ensures) (c .before .if2 .left) (c .of3 .ensures)
+returns-3 c = sync-refused _ _ _ _ (c .before .before .before .before .before .before .before .before .before .before .before .before .before .before .before .is-node .ensures) (c .before .before .before .before .before .before .before .before .before .before .before .before .before .before .if1 .taken) _ _ (c .before .before .before .before .before .before .before .before .before .before .before .before .load-mastership .ensures) (c .before .before .before .before .before .before .before .before .before .before .load-connection .ensures) _ _ _ _ (c .before .before .before .before .before .before .before .before .load-target .ensures) (c .before .before .before .before .load-configuration .ensures) (c .before .before .before .before .before .before .before .reaches .ensures) (c .before .before .synchronise .ensures) (c .before .if2 .left) (c .of2 .ensures)
 
-of-requires-4 : tie.Need-of-requires-4
-of-requires-4 c κs = search needs
+of-requires-3 : tie.Need-of-requires-3
+of-requires-3 c κs = search needs
 
 returns-4 : tie.Need-returns-4
-returns-4 c = no-sync _ _ _ _ (c .before .before .is-node .ensures) (c .before .if1 .left) (c .of4 .ensures)
+returns-4 c = no-sync _ _ _ _ (c .before .before .is-node .ensures) (c .before .if1 .left) (c .of3 .ensures)
 
 pub sync-spec : {M : Type 1} → statement M
 sync-spec =
@@ -82,15 +83,15 @@ sync-spec =
     load-configuration-requires
     synchronise-requires
     store-configuration-requires
-    copy-target-requires
-    of-requires
+    write-differing-requires
+    counted-requires
     same-length
     returns
-    of-requires-2
+    of-requires
     same-length-2
     returns-2
-    of-requires-3
+    of-requires-2
     same-length-3
     returns-3
-    of-requires-4
+    of-requires-3
     returns-4)
