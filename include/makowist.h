@@ -4,7 +4,7 @@
  * docs/IMAGE.md; they may be copied, kept in a file, hashed and sent, and are the same on every machine.
  *
  *     uint8_t image[MAKOWIST_IMAGE_LENGTH];
- *     makowist_fresh(image, sizeof image);
+ *     makowist_fresh(image, sizeof image, MAKOWIST_FORGETS);
  *     uint64_t reply = makowist_start(image, sizeof image);
  *     if (makowist_reply_answer(reply) != MAKOWIST_ACCEPTED) ...
  *
@@ -17,9 +17,9 @@
  *
  * Refusals. No call has a precondition beyond the lent memory: whatever the numbers and the bytes, it is accepted or
  * refused. A number is taken in all its 64 bits: one that is too great is refused, and never cut to a smaller one (node, job,
- * outcome, cut, budget, table, path and field as MAKOWIST_OUT_OF_RANGE, a transaction's number as MAKOWIST_NO_SUCH_NUMBER). A
- * refused call answers the number of the refusal, gives no event, and leaves every byte as it was. Where several refusals hold, the
- * answer is the first in the order named at the function. */
+ * outcome, cut, budget, table, path, field and remembers as MAKOWIST_OUT_OF_RANGE, a transaction's number as
+ * MAKOWIST_NO_SUCH_NUMBER). A refused call answers the number of the refusal, gives no event, and leaves every byte as it was. Where
+ * several refusals hold, the answer is the first in the order named at the function. */
 
 /* Driving it. (The rules are in docs/RULES.md, what to do about an answer in docs/DESK.md.)
  *
@@ -51,8 +51,20 @@
  * has not answered there is no outcome and no call: ask it again. To take the same values twice is to take them once.
  *
  * sync. Try it on a copy too. Accepted where MAKOWIST_CONFIGURATION_STATE is not InProgress, it begins, and asks nothing of
- * the switch. Accepted where it is, have the switch first take all MAKOWIST_PATHS applied values (MAKOWIST_TABLE_APPLIED; 0
- * is absent), then call. It has no outcome: where the switch does not take them, do not call.
+ * the switch. Accepted where it is, have the switch first take the applied value (MAKOWIST_TABLE_APPLIED; 0 is absent) of each
+ * path whose target value (MAKOWIST_TABLE_TARGET) is another, then call; the reply's number says of how many, on the copy too. It
+ * has no outcome: where the switch does not take them, do not call. The image knows of the switch what the calls have told it.
+ * Where the switch may have something else, as one that had values before makowist_fresh or makowist_import, or one on which a push
+ * may have landed that the image does not show, have it take all MAKOWIST_PATHS applied values: to take the same values twice is
+ * to take them once.
+ *
+ * Of what kind the switch is. One that loses its values with its power is MAKOWIST_FORGETS in makowist_fresh, one that keeps them
+ * MAKOWIST_REMEMBERS. stop reports for both that it is without power; start and sync are called for both alike behind it. For one
+ * that remembers there is then little to write, or nothing: what a push that was cut has left on it. A switch said to remember that
+ * does not comes back empty, and the sync writes nothing to it. One said to forget that remembers, as every imported one is said to,
+ * keeps what it has at paths that are absent among the applied values: with the sync behind a stop have it take all MAKOWIST_PATHS
+ * of them. Where a switch that forgets may have been without power, report stop and not disconnect alone, or the sync writes nothing
+ * to an empty switch; where nobody knows, stop, and all applied values.
  *
  * A night. makowist_night makes work calls by itself, with outcomes lent in advance; its events say what was validated and
  * pushed, and on a copy what would be. Lend room for all of them, MAKOWIST_EVENT_LENGTH bytes for each job of the budget.
@@ -74,8 +86,9 @@
  * keeps a record keeps the list, which stands for those calls and their events. It says that the switch runs and that node 1 is
  * connected and master: make that so before the call, or report behind it what is not (disconnect, stop). Then sync twice, and
  * let the jobs, or a night, bring to the switch what is committed; what was undone in the list is Aborted and Canceled on the
- * way, and never pushed. The switch's values of old are not asked for: the first sync that writes has it take the applied values,
- * which are all absent. What this file says of an image that began with makowist_fresh holds of one that began so.
+ * way, and never pushed. The switch's values of old are not asked for, and the image says that it has none: with the first sync
+ * that writes have it take all applied values, which are all absent. Its target is one that forgets. What this file says of an image
+ * that began with makowist_fresh holds of one that began so.
  * Refused, no byte was written, and makowist_reply_position says which entry is bad, from 1 on: mend that one in the list, and
  * import it anew; the entries behind it have not been judged. docs/IMPORT.md has what to do about each refusal.
  *
@@ -88,10 +101,11 @@
  * status. What the first of them records is on the switch before the call, so that a host can be lost with the values on the
  * switch and an image that shows nothing: the status is InProgress, and a try on a copy pushes. Either of two ways makes it good.
  * While the line is open, the same job again with outcome 0 and cut 0, driven as any push: the switch takes the same values once
- * more, and then the image shows them, with the event, given once. Or, the line lost, sync: the switch takes the applied values,
- * in which the push is not, and the job pushes anew. If the switch, asked again, rejects what it may have, take the second way
+ * more, and then the image shows them, with the event, given once. Or, the line lost, sync, and have the switch take all applied
+ * values, in which the push is not; then the job pushes anew. If the switch, asked again, rejects what it may have, take the second way
  * first. And take one of them before its rollback is committed (job 3, also in a night): a push that has landed and then ends
- * Failed, rejected or overtaken by its rollback, stays on the switch until its rollback is pushed or a sync writes.
+ * Failed, rejected or overtaken by its rollback, stays on the switch until its rollback is pushed or it is given
+ * all applied values with a sync.
  *
  * MAKOWIST_TABLE_TARGET meanwhile is what the switch held before; the switch may be ahead of it by that one push (by every push of
  * a night's slice that was not kept: make each push a slice). A host that can read its switch, and finds the values there, brings
@@ -134,7 +148,7 @@ extern "C" {
 #endif
 
 /* An image's length in bytes. Bytes of any other length are no image (MAKOWIST_NOT_WELL_FORMED). */
-#define MAKOWIST_IMAGE_LENGTH 6037
+#define MAKOWIST_IMAGE_LENGTH 6038
 
 /* Limits of the state. */
 enum {
@@ -156,7 +170,7 @@ enum {
 enum {
     MAKOWIST_ACCEPTED = 0,
     MAKOWIST_NOT_WELL_FORMED = 1,   /* the lent bytes are no well-formed image */
-    MAKOWIST_OUT_OF_RANGE = 2,      /* node, job, outcome, cut, budget, table, path, field or a list's length out of range */
+    MAKOWIST_OUT_OF_RANGE = 2,      /* node, job, outcome, cut, budget, table, path, field, a fresh switch's kind or a list's length */
     MAKOWIST_NOT_A_CHANGE = 3,      /* the pairs, of an append or of an old list's entry, are no valid change */
     MAKOWIST_LOG_FULL = 4,          /* append where 128 are kept; import: the 129th change */
     MAKOWIST_NO_SUCH_NUMBER = 5,    /* number 0 or past the log's end; to fold, one that is not kept */
@@ -258,7 +272,7 @@ static inline const char *makowist_stopped_name(uint64_t stopped) {
 /* ---- The reply of a call: answer + 2^8 phase + 2^16 stage + 2^24 status + 2^32 number.
  *
  * Phase, stage, status and number are those of the call's event, and 0 where it gives none; only an accepted job gives
- * one. An accepted append gives its entry's number as number. */
+ * one. An accepted append gives its entry's number as number, an accepted makowist_sync how many paths it wrote. */
 
 static inline unsigned makowist_reply_answer(uint64_t reply) { return (unsigned)(reply & 0xff); }
 static inline unsigned makowist_reply_phase(uint64_t reply) { return (unsigned)(reply >> 8 & 0xff); }
@@ -286,9 +300,11 @@ static inline uint16_t makowist_reply_position(uint64_t reply) { return (uint16_
 /* ---- Calls that change an image. All but makowist_fresh and makowist_import refuse MAKOWIST_NOT_WELL_FORMED first; these two
  * for the length alone. */
 
-/* Makes the bytes, whatever they hold, a fresh image: empty log, no master, configuration Pending, all else 0.
- * Refuses MAKOWIST_NOT_WELL_FORMED, for the length alone. */
-uint64_t makowist_fresh(uint8_t *image, size_t length);
+/* Makes the bytes, whatever they hold, a fresh image: empty log, no master, configuration Pending, all else 0. remembers says of
+ * what kind the target is, for good: MAKOWIST_FORGETS its values when it is stopped, or MAKOWIST_REMEMBERS them.
+ * Refuses MAKOWIST_NOT_WELL_FORMED, for the length alone; then MAKOWIST_OUT_OF_RANGE. */
+enum { MAKOWIST_FORGETS = 0, MAKOWIST_REMEMBERS = 1 };
+uint64_t makowist_fresh(uint8_t *image, size_t length, uint64_t remembers);
 
 /* Takes a change of 1 to 4 pairs, paths strictly rising, into the log; its number is in the reply. A pair is four
  * bytes: path, then value, 16-bit little-endian (makowist_put_pair writes one); pairs_length is in bytes. Value 0 deletes.
@@ -312,7 +328,7 @@ uint64_t makowist_rollback(uint8_t *image, size_t length, uint64_t number);
 /* The target runs from now on, under its next id. Refuses MAKOWIST_ALREADY_SO, MAKOWIST_COUNTER_AT_LIMIT. */
 uint64_t makowist_start(uint8_t *image, size_t length);
 
-/* The target is stopped: its values become 0 and every node is disconnected. Refuses MAKOWIST_ALREADY_SO. */
+/* The target is stopped: every node is disconnected, and its values become 0 unless it remembers. Refuses MAKOWIST_ALREADY_SO. */
 uint64_t makowist_stop(uint8_t *image, size_t length);
 
 /* The node is connected, under its next id. Refuses MAKOWIST_OUT_OF_RANGE, MAKOWIST_ALREADY_SO, MAKOWIST_TARGET_STOPPED,
@@ -329,7 +345,8 @@ uint64_t makowist_disconnect(uint8_t *image, size_t length, uint64_t node);
 uint64_t makowist_master(uint8_t *image, size_t length, uint64_t node);
 
 /* Brings the applied values to the target in a new term, in two calls: the first begins, the second is answered after
- * the target has taken them. Refuses MAKOWIST_OUT_OF_RANGE, MAKOWIST_NOT_MASTER, MAKOWIST_NO_RULE, MAKOWIST_LINE_NOT_OPEN. */
+ * the target has taken them. Of either kind of target only the paths that differ are written; how many is the reply's number, 0
+ * where it begins. Refuses MAKOWIST_OUT_OF_RANGE, MAKOWIST_NOT_MASTER, MAKOWIST_NO_RULE, MAKOWIST_LINE_NOT_OPEN. */
 uint64_t makowist_sync(uint8_t *image, size_t length, uint64_t node);
 
 /* One step of a job on a transaction, by a node; its event is in the reply where the step gives one. A step has one store, or
@@ -362,8 +379,8 @@ static inline uint32_t makowist_night_event(const uint8_t *events, size_t k, uns
     return (uint32_t)at[0] | (uint32_t)at[1] << 8 | (uint32_t)at[2] << 16 | (uint32_t)at[3] << 24;
 }
 
-/* Makes the bytes, whatever they hold, the image that an old list leads to, in place of makowist_fresh. entries are
- * MAKOWIST_ENTRY_LENGTH bytes each, at most MAKOWIST_ENTRY_LIMIT of them, oldest first; entries_length is in bytes. An entry is
+/* Makes the bytes, whatever they hold, the image that an old list leads to, in place of makowist_fresh; its target forgets. entries
+ * are MAKOWIST_ENTRY_LENGTH bytes each, at most MAKOWIST_ENTRY_LIMIT of them, oldest first; entries_length is in bytes. An entry is
  * 16-bit numbers, little-endian: its kind, MAKOWIST_ENTRY_CHANGE or MAKOWIST_ENTRY_ROLLBACK; for a change the number of its pairs,
  * for a rollback the position in the list, from 1 on, of the change that it undoes; and four pairs, path and value. Pairs past a
  * change's number, and a rollback's, are not looked at. Changes are taken in order and numbered from 1, rollbacks have no number;

@@ -140,8 +140,8 @@ adds-up-night r h k j = (refl, unpacks-night r h k j)
 pub claims : (l : List ℕ) (c : Call) (r : Reply) (m : List ℕ) (p : ℕ) → controller.Claims l c r m → Packs r p → Claims l c p m
 claims l c r m p k e = ((e .0 ∙ ap packed (k .0), e .1 ∙ k .0), k .1)
 
-pub freshens : (l : List ℕ) (r : Reply) (m : List ℕ) (p : ℕ) → fresh.Freshens l r m → Packs r p → Freshens l p m
-freshens l r m p k e = ((e .0 ∙ ap packed (k .0), e .1 ∙ k .0), k .1)
+pub freshens : (l : List ℕ) (v : ℕ) (r : Reply) (m : List ℕ) (p : ℕ) → fresh.Freshens l v r m → Packs r p → Freshens l v p m
+freshens l v r m p k e = ((e .0 ∙ ap packed (k .0), e .1 ∙ k .0), k .1)
 
 pub lists : (l m : List ℕ) (r : Listed) (m′ : List ℕ) (p : ℕ) → live.Lists l m r m′ → PacksListed r p → Lists l m p m′
 lists l m r m′ p k e = ((e .0 ∙ ap packedListed (k .0), e .1 ∙ k .0), k .1)

@@ -8,16 +8,19 @@ use borrow.Author.Tests.{leb-true, leb-false, le-leb, lt-leb, le-ltb}
 use lib.Dec.{eqb, leb, ltb}
 use lib.ListN.{length}
 use Rattle.kinds.specs.declared.Reply.{Reply}
+use Rattle.kinds.specs.Events.{refusal}
 use Rattle.machine.specs.State.{last, inLog, isKept, isNode}
 use Rattle.machine.specs.WellFormed.{allEntries, entryOk, sizesOk, headsOk, logOk, wellFormed}
 use Rattle.machine.specs.Calls.{Call, Outcome, rollback, connect, disconnect, master, sync, work, foldTo, unless, refused, workOk, decide}
 use Rattle.machine.specs.Reads.{Query, Answer, ofTable, ofEntry, ofState, ofNode, ofOwner, isField, read}
 use Rattle.machine.specs.Reads as reads
 use Rattle.machine.proofs.Cases.{and-left, and-right}
+use Rattle.image.specs.Records.{flagOf}
 use Rattle.image.specs.View.{view, written}
 use Rattle.image.specs.Layout.{imageLength}
 use Rattle.image.specs.Formed.{codesOk, formed}
 use Rattle.controller.specs.declared.reads.Read.{Read}
+use Rattle.controller.specs.Fresh as fresh
 use Rattle.controller.specs.Claims as controller
 use Rattle.controller.specs.Claims.{outcomeOf}
 use Rattle.controller.specs.Reads as shown
@@ -85,6 +88,24 @@ and-none false = refl
 
 pub past : (a b x : ℕ) → b < x → (leb a x && leb x b) ≡ false
 past a b x h = ap (λ q. leb a x && q) (lt-leb x b h) ∙ and-none (leb a x)
+
+-- ---- the kind of a fresh image: one past 1 is refused
+pub wide-fresh : (l : List ℕ) (v x : ℕ) (r : Reply) (m : List ℕ) → x ≡ narrowed outside v → fresh.Freshens l x r m → fresh.Freshens l v r m
+wide-fresh l v x r m e f =
+    let b = eqb (length l) imageLength in (
+      f .0 ∙ ap (λ (y : ℕ). refusal (fresh.answerIf b (leb y 1))) e ∙ either (λ y. refusal (fresh.answerIf b (leb y 1))) outside v (λ h. answered b (sym (lt-leb v 1 (omega arith)))),
+      f .1 ∙ ap (λ (y : ℕ). fresh.imageIf b (leb y 1) (flagOf y) l) e ∙ either (λ y. fresh.imageIf b (leb y 1) (flagOf y) l) outside v (λ h. left b (sym (lt-leb v 1 (omega arith)))),
+    )
+  where
+    answered : (b : Bool) → false ≡ leb v 1 → refusal (fresh.answerIf b false) ≡ refusal (fresh.answerIf b (leb v 1))
+    answered b e = ap (λ (y : Bool). refusal (fresh.answerIf b y)) e
+
+    none-left : (b : Bool) → fresh.imageIf b false (flagOf outside) l ≡ fresh.imageIf b false (flagOf v) l
+    none-left true = refl
+    none-left false = refl
+
+    left : (b : Bool) → false ≡ leb v 1 → fresh.imageIf b false (flagOf outside) l ≡ fresh.imageIf b (leb v 1) (flagOf v) l
+    left b e = none-left b ∙ ap (λ (y : Bool). fresh.imageIf b y (flagOf v) l) e
 
 -- ---- refused alike
 refuse-2 : (f b : Bool) (y : Outcome) → b ≡ false → unless 1 f (refused 2) ≡ unless 1 f (unless 2 b y)

@@ -3,12 +3,13 @@ use Prim.Native.Nat.{ℕ}
 use mathlib.Core.Path.{_≡_}
 use mathlib.Core.Bool.{Bool, true, false}
 use mathlib.Core.List.{List}
-use lib.Dec.{eqb}
+use lib.Dec.{eqb, leb}
 use lib.ListN.{length}
 use Rattle.kinds.specs.Events.{refusal}
 use Rattle.machine.specs.Calls.{Call}
 use Rattle.machine.specs.Reads.{Query}
 use Rattle.image.specs.Layout.{imageLength}
+use Rattle.image.specs.Records.{flagOf}
 use Rattle.image.specs.View.{written}
 use Rattle.image.specs.Formed.{formed}
 use Rattle.controller.specs.Claims.{outcomeOf}
@@ -23,8 +24,9 @@ use Rattle.northbound.specs.Packing.{Packs, PacksRead, PacksListed, Pack
 abbrev pub Claims : List ℕ → Call → ℕ → List ℕ → Type 0
 Claims l c p m = Packs (outcomeOf l c .reply) p × (m ≡ written l (outcomeOf l c .stores))
 
-abbrev pub Freshens : List ℕ → ℕ → List ℕ → Type 0
-Freshens l p m = Packs (refusal (answerIf (eqb (length l) imageLength))) p × (m ≡ imageIf (eqb (length l) imageLength) l)
+abbrev pub Freshens : List ℕ → (remembers : ℕ) → ℕ → List ℕ → Type 0
+Freshens l v p m =
+    Packs (refusal (answerIf (eqb (length l) imageLength) (leb v 1))) p × (m ≡ imageIf (eqb (length l) imageLength) (leb v 1) (flagOf v) l)
 
 abbrev pub Lists : List ℕ → List ℕ → ℕ → List ℕ → Type 0
 Lists l m p m′ = PacksListed (listingOf l m .listed) p × (m′ ≡ listingOf l m .room)

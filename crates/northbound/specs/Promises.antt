@@ -10,8 +10,8 @@ use Rattle.northbound.specs.Exports.{Claims, Freshens, Nights, Imports, 
 pub claims-only : (l : List ℕ) (c : Call) (p q : ℕ) (m n : List ℕ) → Claims l c p m → Claims l c q n → (p ≡ q) × (m ≡ n)
 claims-only l c p q m n a b = (one (a .0 .0) (b .0 .0), one (a .1) (b .1))
 
-pub freshens-only : (l : List ℕ) (p q : ℕ) (m n : List ℕ) → Freshens l p m → Freshens l q n → (p ≡ q) × (m ≡ n)
-freshens-only l p q m n a b = (one (a .0 .0) (b .0 .0), one (a .1) (b .1))
+pub freshens-only : (l : List ℕ) (v p q : ℕ) (m n : List ℕ) → Freshens l v p m → Freshens l v q n → (p ≡ q) × (m ≡ n)
+freshens-only l v p q m n a b = (one (a .0 .0) (b .0 .0), one (a .1) (b .1))
 
 pub nights-only : (l : List ℕ) (n b : ℕ) (os room : List ℕ) (p q : ℕ) (m m′ x x′ : List ℕ) → Nights l n b os room p m x → Nights l n b os room q m′ x′
     → (p ≡ q) × (m ≡ m′) × (x ≡ x′)

@@ -127,12 +127,13 @@ fn refused(image: &[u8]) -> u64
 
 // ---- the calls
 
-// Makes a fresh image; 1 where the length is not 6,037.
+// Makes a fresh image, of a switch that remembers (1) or forgets (0); 1 where the length is not 6,038, then 2 where it is neither.
 #[no_mangle]
-pub extern "C" fn makowist_fresh(image: &mut [u8]) -> u64
-    ensures { λ r. ⌜ Freshens (now (image .entry)) r (now (image .exit)) ⌝ }
+pub extern "C" fn makowist_fresh(image: &mut [u8], remembers: u64) -> u64
+    ensures { λ r. ⌜ Freshens (now (image .entry)) remembers r (now (image .exit)) ⌝ }
 {
-    pack(controller::fresh(image))
+    let k = narrow(remembers, OUTSIDE);
+    pack(controller::fresh(image, k))
 }
 
 // Takes a change into the log: four bytes a pair, its path and its value, each little-endian.
@@ -195,7 +196,7 @@ pub extern "C" fn makowist_master(image: &mut [u8], node: u64) -> u64
     pack(controller::master(image, n))
 }
 
-// Brings the applied values to the target, in two calls.
+// Brings the applied values to the target, in two calls; the second shows how many paths differed.
 #[no_mangle]
 pub extern "C" fn makowist_sync(image: &mut [u8], node: u64) -> u64
     ensures { λ r. ⌜ Claims (now (image .entry)) (sync node) r (now (image .exit)) ⌝ }

@@ -17,6 +17,7 @@ use Rattle.machine.specs.Step.{run}
 use Rattle.machine.specs.Why.{asks, reason, named, whyNot, why}
 use Rattle.machine.proofs.Waits.{why-answers}
 use Rattle.image.specs.Layout.{imageLength}
+use Rattle.image.specs.Records.{flagCode}
 use Rattle.image.specs.View.{view}
 use Rattle.image.specs.Formed.{formed}
 use Rattle.controller.specs.declared.reasons.Why.{Why}
@@ -85,30 +86,30 @@ why-asked l n j i w e y = by (formed l) refl
         }
 
 -- ---- an image that was reached
-module _ (cs : List Call) (es : List Event) (m : List ℕ) (h : view m ≡ run cs .state) (g : run cs .events ≡ es) (f : formed m ≡ true) (n j i : ℕ) (w : Why) where
+module _ (kind : Bool) (cs : List Call) (es : List Event) (m : List ℕ) (h : view m ≡ run kind cs .state) (g : run kind cs .events ≡ es) (f : formed m ≡ true) (n j i : ℕ) (w : Why) where
   told : w ≡ whyOf m n j i → w .answer ≡ 0 → Explained es m j i w
   told e z =
-      let s : State = run cs .state in
+      let s : State = run kind cs .state in
       let x : w ≡ given (why s n j i) = e ∙ shown m n j i f ∙ ap (λ (q : State). given (why q n j i)) h in
       let a : why s n j i .answer ≡ 0 = sym (ap (λ (v : Why). v .answer) x) ∙ z in
       let r : why s n j i .reason ≡ w .reason = sym (ap (λ (v : Why). v .reason) x) in
       let k : why s n j i .named ≡ w .named = sym (ap (λ (v : Why). v .named) x) in
       record {
-        given = subst (λ (q : State). Given q j i (w .reason)) (sym h) (subst (Given s j i) r (reason-given cs n j i a));
-        fits = λ b. no-eighth cs n j i a (r ∙ b);
+        given = subst (λ (q : State). Given q j i (w .reason)) (sym h) (subst (Given s j i) r (reason-given kind cs n j i a));
+        fits = λ b. no-eighth kind cs n j i a (r ∙ b);
         names =
             subst (λ (q : State). Names q es j i (w .reason) (w .named)) (sym h)
             (subst (λ (b : ℕ). Names s es j i (w .reason) b) k (subst (λ (b : ℕ). Names s es j i b (why s n j i .named)) r
-            (subst (λ (b : List Event). Names s b j i (why s n j i .reason) (why s n j i .named)) g (names cs n j i a))));
+            (subst (λ (b : List Event). Names s b j i (why s n j i .reason) (why s n j i .named)) g (names kind cs n j i a))));
       }
 
 -- any calls on bytes that `fresh` was called on, and then why
 pub why-explained :
-    (l k : List ℕ) (u : Reply) → length l ≡ imageLength → Freshens l u k → {cs : List Call} {rs : List Reply} {m : List ℕ} → Calling k cs rs m →
+    (kind : Bool) (l k : List ℕ) (u : Reply) → length l ≡ imageLength → Freshens l (flagCode kind) u k → {cs : List Call} {rs : List Reply} {m : List ℕ} → Calling k cs rs m →
     (n j i : ℕ) (w : Why) → Explains m n j i w → w .answer ≡ 0 → Explained (map eventOf rs) m j i w
-why-explained l k u z f {cs = cs} {rs = rs} {m = m} d n j i w e =
-    let h = shows-run-freshened l k u z f d in
-    told cs (map eventOf rs) m (h .0) (sym (h .1 .0)) (h .1 .1) n j i w e
+why-explained kind l k u z f {cs = cs} {rs = rs} {m = m} d n j i w e =
+    let h = shows-run-freshened kind l k u z f d in
+    told kind cs (map eventOf rs) m (h .0) (sym (h .1 .0)) (h .1 .1) n j i w e
 
 -- ---- as C sees it
 -- a packed answer reads back as the controller's
@@ -119,8 +120,8 @@ pub why-asked-c : (l : List ℕ) (n j i x : ℕ) → north.Explains l n j i x �
 why-asked-c l n j i x p = why-asked l n j i (unpackedWhy x) (why-in-c l n j i x p)
 
 pub why-explained-c :
-    (l k : List ℕ) (u : ℕ) → length l ≡ imageLength → north.Freshens l u k → {cs : List Call} {xs m : List ℕ} → Serving k cs xs m →
+    (kind : Bool) (l k : List ℕ) (u : ℕ) → length l ≡ imageLength → north.Freshens l (flagCode kind) u k → {cs : List Call} {xs m : List ℕ} → Serving k cs xs m →
     (n j i x : ℕ) → north.Explains m n j i x → unpackedWhy x .answer ≡ 0 → Explained (map eventIn xs) m j i (unpackedWhy x)
-why-explained-c l k u z f {xs = xs} {m = m} d n j i x e a =
+why-explained-c kind l k u z f {xs = xs} {m = m} d n j i x e a =
     subst (λ (es : List Event). Explained es m j i (unpackedWhy x)) (events xs)
-    (why-explained l k (unpacked u) z (f .0 .1, f .1) (calling d) n j i (unpackedWhy x) (why-in-c m n j i x e) a)
+    (why-explained kind l k (unpacked u) z (f .0 .1, f .1) (calling d) n j i (unpackedWhy x) (why-in-c m n j i x e) a)

@@ -31,10 +31,10 @@ use Rattle.image.proofs.Freshened.{length-fresh, shows-fresh, formed-fresh}
 use Rattle.image.proofs.Scanned.{formed-length}
 use Rattle.controller.specs.declared.imports.Imported.{Imported}
 use Rattle.controller.specs.declared.nights.Night.{Night}
-use Rattle.controller.specs.Fresh.{imageIf, Freshens}
+use Rattle.controller.specs.Fresh.{Freshens}
 use Rattle.controller.specs.Nights.{lentFrom, nightIn, Nights}
 use Rattle.controller.specs.Imports.{Imports, importIn, told, imageAfter, Listed}
-use Rattle.controller.proofs.Freshened.{freshened}
+use Rattle.controller.proofs.Freshened.{fresh-is, is-fresh}
 use Rattle.controller.proofs.Imported.{list-length}
 use Rattle.northbound.specs.Packing.{unpacked, unpackedRead, unpackedImport, unpackedNight, unpackedWhy}
 use Rattle.northbound.specs.Exports as north
@@ -132,8 +132,8 @@ module _ (l b : List ℕ) (r : Imported) (m : List ℕ) (p : Imports l b r m) wh
   by-list : r .answer ≡ 0 → Took l b
   by-list a = took l b (sym (ap (λ (x : Imported). x .answer) (p .0)) ∙ a)
 
-  shown : r .answer ≡ 0 → Shows (view freshImage) (importIn l b .calls) (repliesIn freshImage (importIn l b .calls)) m
-  shown a = shows-run (import-calling l b r m p a) fresh-bytes formed-fresh
+  shown : r .answer ≡ 0 → Shows (view (freshImage false)) (importIn l b .calls) (repliesIn (freshImage false) (importIn l b .calls)) m
+  shown a = shows-run (import-calling l b r m p a) (fresh-bytes false) (formed-fresh false)
 
   pub any-import : AnyImport l b r m
   any-import =
@@ -153,24 +153,24 @@ module _ (l b : List ℕ) (r : Imported) (m : List ℕ) (p : Imports l b r m) wh
     its-calls = importCalls (entriesOf b)
 
     replied : List Reply
-    replied = repliesIn freshImage (importIn l b .calls)
+    replied = repliesIn (freshImage false) (importIn l b .calls)
 
-    made-on : Calling freshImage its-calls replied m
+    made-on : Calling (freshImage false) its-calls replied m
     unfolding its-calls replied
-    made-on = subst (λ (cs : List Call). Calling freshImage cs replied m) (by-list a .calls) (import-calling l b r m p a)
+    made-on = subst (λ (cs : List Call). Calling (freshImage false) cs replied m) (by-list a .calls) (import-calling l b r m p a)
 
-    replies-are : replied ≡ repliesFrom fresh its-calls
+    replies-are : replied ≡ repliesFrom (fresh false) its-calls
     unfolding its-calls replied
-    replies-are = shows-run made-on fresh-bytes formed-fresh .replies ∙ ap (λ (s : State). repliesFrom s its-calls) shows-fresh
+    replies-are = shows-run made-on (fresh-bytes false) (formed-fresh false) .replies ∙ ap (λ (s : State). repliesFrom s its-calls) (shows-fresh false)
 
-    state-is : view m ≡ run its-calls .state
+    state-is : view m ≡ run false its-calls .state
     unfolding its-calls
-    state-is = shows-run made-on fresh-bytes formed-fresh .state ∙ ap (λ (s : State). stateFrom s its-calls) shows-fresh ∙ state-run its-calls
+    state-is = shows-run made-on (fresh-bytes false) (formed-fresh false) .state ∙ ap (λ (s : State). stateFrom s its-calls) (shows-fresh false) ∙ state-run false its-calls
 
-    accepted-from : (cs : List Call) → machine.Accepted cs → Accepted (repliesFrom fresh cs)
+    accepted-from : (cs : List Call) → machine.Accepted cs → Accepted (repliesFrom (fresh false) cs)
     unfolding machine.Accepted Accepted repliesFrom
     accepted-from [] x = tt
-    accepted-from (c ∷ cs) x = (ap (λ (s : State). step s c .reply .answer) (state-run cs) ∙ x .0, accepted-from cs (x .1))
+    accepted-from (c ∷ cs) x = (ap (λ (s : State). step s c .reply .answer) (state-run false cs) ∙ x .0, accepted-from cs (x .1))
 
     left-is : machine.Imported (entriesOf b) (view m)
     unfolding its-calls
@@ -182,7 +182,7 @@ module _ (l b : List ℕ) (r : Imported) (m : List ℕ) (p : Imports l b r m) wh
         record {
           replies = replied;
           made = λ k u f.
-              let e : k ≡ freshImage = f .1 ∙ ap (λ (x : Bool). imageIf x l) (eq-eqb _ _ (by-list a .size)) in
+              let e : k ≡ (freshImage false) = fresh-is false l k u (by-list a .size) f in
               subst (λ (x : List ℕ). Calling x (importCalls (entriesOf b)) replied m) (sym e) made-on;
           accepted = subst Accepted (sym replies-are) (accepted-from its-calls (left-is .calls));
           position = ap (λ (x : Imported). x .position) (p .0) ∙ by-list a .position;
@@ -196,7 +196,7 @@ unfolding importIn
 import-same l l′ b r r′ m m′ p q e a =
     let z : importIn l b ≡ importIn l′ b = ap (λ (n : ℕ). cond (eqb n imageLength) (importOf b) (record { answer = 1; position = 0; calls = [] })) e in
     let s : r ≡ r′ = p .0 ∙ ap told z ∙ sym (q .0) in
-    (s, import-left l b r m p a ∙ ap (λ (x : Import). lentFrom freshImage (x .calls)) z ∙ sym (import-left l′ b r′ m′ q (sym (ap (λ (x : Imported). x .answer) s) ∙ a)))
+    (s, import-left l b r m p a ∙ ap (λ (x : Import). lentFrom (freshImage false) (x .calls)) z ∙ sym (import-left l′ b r′ m′ q (sym (ap (λ (x : Imported). x .answer) s) ∙ a)))
 
 -- imports are met: one change is accepted on the fresh image, and a rollback with nothing before it is refused (16) at place 1
 abbrev change-bytes : List ℕ
@@ -206,11 +206,11 @@ abbrev rollback-bytes : List ℕ
 rollback-bytes = twos (2 ∷ 1 ∷ 0 ∷ 0 ∷ 0 ∷ 0 ∷ 0 ∷ 0 ∷ 0 ∷ 0 ∷ [])
 
 abbrev pub Meets : List ℕ → (answer position : ℕ) → Type 0
-Meets b a q = Imports freshImage b (record { answer = a; position = q }) (imageAfter (importIn freshImage b) freshImage)
+Meets b a q = Imports (freshImage false) b (record { answer = a; position = q }) (imageAfter (importIn (freshImage false) b) (freshImage false))
 
-on-fresh : (b : List ℕ) → importIn freshImage b ≡ importOf b
+on-fresh : (b : List ℕ) → importIn (freshImage false) b ≡ importOf b
 unfolding importIn
-on-fresh b = rw (eq-eqb (length freshImage) imageLength length-fresh) refl
+on-fresh b = rw (eq-eqb (length (freshImage false)) imageLength (length-fresh false)) refl
 
 pub import-met : Meets change-bytes 0 0
 unfolding twos importOf entriesOf entriesFrom entryIn pairsAt import judged judgedFrom pairsOk valuesOk
@@ -237,38 +237,38 @@ module _ (l b : List ℕ) (r : Imported) (k : List ℕ) (p : Imports l b r k) (a
   abbrev stands : List Call
   stands = importCalls (entriesOf b)
 
-  begun : Acting freshImage stands (run stands .events) k
+  begun : Acting (freshImage false) stands (run false stands .events) k
   begun =
       let c = import-calls l b r k p a in
-      let d : Calling freshImage stands (c .replies) k = c .made freshImage (refusal 0) (freshens-fresh (by-list l b r k p a .size)) in
-      let e : map eventOf (c .replies) ≡ run stands .events
-      = ap (map eventOf) (shows-run d fresh-bytes formed-fresh .replies ∙ ap (λ (s : State). repliesFrom s stands) shows-fresh) ∙ events-run stands in
-      subst (λ (es : List Event). Acting freshImage stands es k) e (acting-of d)
+      let d : Calling (freshImage false) stands (c .replies) k = c .made (freshImage false) (refusal 0) (freshens-fresh (by-list l b r k p a .size)) in
+      let e : map eventOf (c .replies) ≡ run false stands .events
+      = ap (map eventOf) (shows-run d (fresh-bytes false) (formed-fresh false) .replies ∙ ap (λ (s : State). repliesFrom s stands) (shows-fresh false)) ∙ events-run false stands in
+      subst (λ (es : List Event). Acting (freshImage false) stands es k) e (acting-of d)
     where
-      freshens-fresh : length l ≡ imageLength → Freshens l (refusal 0) freshImage
-      freshens-fresh z = freshened l freshImage (refusal 0) z refl refl
+      freshens-fresh : length l ≡ imageLength → Freshens l 0 (refusal 0) (freshImage false)
+      freshens-fresh z = is-fresh false l z
 
-  fresh-again : Freshens freshImage (refusal 0) freshImage
-  fresh-again = freshened freshImage freshImage (refusal 0) length-fresh refl refl
+  fresh-again : Freshens (freshImage false) 0 (refusal 0) (freshImage false)
+  fresh-again = is-fresh false (freshImage false) (length-fresh false)
 
   module _ {cs : List Call} {es : List Event} {m : List ℕ} where
     -- calls and nights behind an import are those behind its calls
-    pub import-acting : Acting k cs es m → Acting freshImage (callsWith b cs) (eventsWith b es) m
+    pub import-acting : Acting k cs es m → Acting (freshImage false) (callsWith b cs) (eventsWith b es) m
     import-acting d = acting-on begun d
 
-    reached : Acting k cs es m → Reached (callsWith b cs) (eventsWith b es) m
-    reached d = acted freshImage freshImage (refusal 0) length-fresh fresh-again (import-acting d)
+    reached : Acting k cs es m → Reached false (callsWith b cs) (eventsWith b es) m
+    reached d = acted false (freshImage false) (freshImage false) (refusal 0) (length-fresh false) fresh-again (import-acting d)
 
     -- demand 3 counts the events of its calls
-    pub import-demand-3 : Acting k cs es m → Demand3 (view m) (eventsWith b es) (notes (callsWith b cs))
-    import-demand-3 d = let h = reached d in reached-3 (callsWith b cs) (eventsWith b es) m (h .state) (h .events) (h .formed)
+    pub import-demand-3 : Acting k cs es m → Demand3 (view m) (eventsWith b es) (notes false (callsWith b cs))
+    import-demand-3 d = let h = reached d in reached-3 false (callsWith b cs) (eventsWith b es) m (h .state) (h .events) (h .formed)
 
     -- and so do nights that are long enough
     pub import-enough : Acting k cs es m → (n c : ℕ) (os x : List ℕ) (w : Night) (m′ y : List ℕ) → Nights m n c os x w m′ y → Suffices 6 m n c w m′
-    import-enough d = six-enough freshImage freshImage (refusal 0) length-fresh fresh-again (import-acting d)
+    import-enough d = six-enough false (freshImage false) (freshImage false) (refusal 0) (length-fresh false) fresh-again (import-acting d)
 
-    pub import-demand-3-in-c : Acting k cs es m → Demand3C (callsWith b cs) (eventsWith b es) m
-    import-demand-3-in-c d = let h = reached d in reached-3-c (callsWith b cs) (eventsWith b es) m (h .state) (h .events) (h .formed)
+    pub import-demand-3-in-c : Acting k cs es m → Demand3C false (callsWith b cs) (eventsWith b es) m
+    import-demand-3-in-c d = let h = reached d in reached-3-c false (callsWith b cs) (eventsWith b es) m (h .state) (h .events) (h .formed)
 
 -- ---- as C sees it
 import-in-c : (l b : List ℕ) (p : ℕ) (m : List ℕ) → north.Imports l b p m → Imports l b (unpackedImport p) m
@@ -282,23 +282,23 @@ module _ (l b : List ℕ) (p : ℕ) (m : List ℕ) (q : north.Imports l b p m) w
     pub import-calls-c : ImportCalls l b (unpackedImport p) m
     import-calls-c = import-calls l b (unpackedImport p) m (import-in-c l b p m q) a
 
-    pub import-demand-3-c : {cs : List Call} {es : List Event} {m′ : List ℕ} → ActingC m cs es m′ → Demand3C (callsWith b cs) (eventsWith b es) m′
+    pub import-demand-3-c : {cs : List Call} {es : List Event} {m′ : List ℕ} → ActingC m cs es m′ → Demand3C false (callsWith b cs) (eventsWith b es) m′
     import-demand-3-c d = import-demand-3-in-c l b (unpackedImport p) m (import-in-c l b p m q) a (acting-in-c d)
 
     -- all that is promised of what `fresh` began
     pub import-behind-c : {cs : List Call} {es : List Event} {m′ : List ℕ} → ActingC m cs es m′ → BehindC b cs es m′
     import-behind-c {cs} {es} {m′} d =
         let i : Imports l b (unpackedImport p) m = import-in-c l b p m q in
-        let f : Freshens freshImage (refusal 0) freshImage = fresh-again l b (unpackedImport p) m i a in
-        let x : AreCalls freshImage (callsWith b cs) (eventsWith b es) m′ = acting-calls (import-acting l b (unpackedImport p) m i a (acting-in-c d)) fresh-bytes formed-fresh in
+        let f : Freshens (freshImage false) 0 (refusal 0) (freshImage false) = fresh-again l b (unpackedImport p) m i a in
+        let x : AreCalls (freshImage false) (callsWith b cs) (eventsWith b es) m′ = acting-calls (import-acting l b (unpackedImport p) m i a (acting-in-c d)) (fresh-bytes false) (formed-fresh false) in
         record {
           calls = x;
           demand = import-demand-3-c d;
           enough = λ n c os o w k y z. import-enough l b (unpackedImport p) m i a (acting-in-c d) n c os o (unpackedNight w) k y (night-in-c m′ n c os o w k y z);
           explained = λ n j k w z e.
               subst (λ (fs : List Event). Explained fs m′ j k (unpackedWhy w)) (x .events)
-              (why-explained freshImage freshImage (refusal 0) length-fresh f (x .calls) n j k (unpackedWhy w) (why-in-c m′ n j k w z) e);
+              (why-explained false (freshImage false) (freshImage false) (refusal 0) (length-fresh false) f (x .calls) n j k (unpackedWhy w) (why-in-c m′ n j k w z) e);
           owned = λ k w z e.
               subst (λ (fs : List Event). Owned fs m′ k (unpackedRead w)) (x .events)
-              (owner-listed freshImage freshImage (refusal 0) length-fresh f (x .calls) k (unpackedRead w) z (owner-in-c m′ k w e));
+              (owner-listed false (freshImage false) (freshImage false) (refusal 0) (length-fresh false) f (x .calls) k (unpackedRead w) z (owner-in-c m′ k w e));
         }

@@ -5,4 +5,5 @@ pub mod Explained
 pub mod EventRoom
 pub mod Nights
 pub mod Owned
+pub mod Remembered
 pub mod Imports

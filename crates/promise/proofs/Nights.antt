@@ -21,11 +21,13 @@ use Rattle.image.specs.Layout.{imageLength}
 use Rattle.image.specs.View.{view}
 use Rattle.image.specs.Formed.{formed}
 use Rattle.image.specs.Fresh.{freshImage}
+use Rattle.image.specs.Records.{flagCode}
 use Rattle.image.proofs.Freshened.{shows-fresh, formed-fresh}
 use Rattle.image.proofs.Scanned.{formed-length, formed-state}
 use Rattle.controller.specs.declared.nights.Night.{Night}
 use Rattle.controller.specs.Claims.{Claims}
-use Rattle.controller.specs.Fresh.{imageIf, Freshens}
+use Rattle.controller.specs.Fresh.{Freshens}
+use Rattle.controller.proofs.Freshened.{fresh-is}
 use Rattle.controller.specs.Nights.{roomAfter, fitting, nightIn, Nights}
 use Rattle.northbound.specs.Packing.{unpacked, unpackedNight}
 use Rattle.northbound.specs.Exports as north
@@ -254,28 +256,28 @@ acting-calls {l} (nightly {cs = cs} {es = es} {k = k} d n b os x r m y p) bytes 
     }
 
 -- ---- from bytes that `fresh` was called on
-pub record Reached (cs : List Call) (es : List Event) (m : List ℕ) : Type 0 where
-  pub state : view m ≡ run cs .state
-  pub events : run cs .events ≡ es
+pub record Reached (kind : Bool) (cs : List Call) (es : List Event) (m : List ℕ) : Type 0 where
+  pub state : view m ≡ run kind cs .state
+  pub events : run kind cs .events ≡ es
   pub formed : formed m ≡ true
   pub bytes : Bytes m
 
-module _ (l k : List ℕ) (u : Reply) (z : length l ≡ imageLength) (f : Freshens l u k) {cs : List Call} {es : List Event} {m : List ℕ} (d : Acting k cs es m) where
-  pub acted : Reached cs es m
+module _ (kind : Bool) (l k : List ℕ) (u : Reply) (z : length l ≡ imageLength) (f : Freshens l (flagCode kind) u k) {cs : List Call} {es : List Event} {m : List ℕ} (d : Acting k cs es m) where
+  pub acted : Reached kind cs es m
   acted =
-      let e : k ≡ freshImage = f .1 ∙ ap (λ (b : Bool). imageIf b l) (eq-eqb _ _ z) in
-      let a : AreCalls freshImage cs es m = acting-calls (subst (λ (x : List ℕ). Acting x cs es m) e d) fresh-bytes formed-fresh in
-      let h : Shows (view freshImage) cs (a .replies) m = shows-run (a .calls) fresh-bytes formed-fresh in
+      let e : k ≡ freshImage kind = fresh-is kind l k u z f in
+      let a : AreCalls (freshImage kind) cs es m = acting-calls (subst (λ (x : List ℕ). Acting x cs es m) e d) (fresh-bytes kind) (formed-fresh kind) in
+      let h : Shows (view (freshImage kind)) cs (a .replies) m = shows-run (a .calls) (fresh-bytes kind) (formed-fresh kind) in
       record {
-        state = h .state ∙ ap (λ (s : State). stateFrom s cs) shows-fresh ∙ state-run cs;
-        events = sym (events-run cs) ∙ ap (λ (s : State). map eventOf (repliesFrom s cs)) (sym shows-fresh) ∙ ap (map eventOf) (sym (h .replies)) ∙ a .events;
+        state = h .state ∙ ap (λ (s : State). stateFrom s cs) (shows-fresh kind) ∙ state-run kind cs;
+        events = sym (events-run kind cs) ∙ ap (λ (s : State). map eventOf (repliesFrom s cs)) (sym (shows-fresh kind)) ∙ ap (map eventOf) (sym (h .replies)) ∙ a .events;
         formed = h .formed;
         bytes = h .bytes;
       }
 
   -- demand 3 counts the events of nights
-  pub acting-demand-3 : Demand3 (view m) es (notes cs)
-  acting-demand-3 = reached-3 cs es m (acted .state) (acted .events) (acted .formed)
+  pub acting-demand-3 : Demand3 (view m) es (notes kind cs)
+  acting-demand-3 = reached-3 kind cs es m (acted .state) (acted .events) (acted .formed)
 
   -- 6 jobs for each transaction kept are enough
   module _ (n b : ℕ) (os x : List ℕ) (r : Night) (m′ y : List ℕ) (p : Nights m n b os x r m′ y) where
@@ -294,10 +296,10 @@ module _ (l k : List ℕ) (u : Reply) (z : length l ≡ imageLength) (f : Freshe
           ended = rw (h .1) (t .ended);
         }
       where
-        slept : (v : State) → v ≡ run cs .state → night v n b os .answer ≡ 0 → lineOpenFor (v .net) n ≡ true → 6 * length (v .log .entries) ≤ b → Slept (night v n b os)
+        slept : (v : State) → v ≡ run kind cs .state → night v n b os .answer ≡ 0 → lineOpenFor (v .net) n ≡ true → 6 * length (v .log .entries) ≤ b → Slept (night v n b os)
         slept v e =
             subst (λ (w : State). night w n b os .answer ≡ 0 → lineOpenFor (w .net) n ≡ true → 6 * length (w .log .entries) ≤ b → Slept (night w n b os)) (sym e)
-            (history.night-enough cs n b os)
+            (history.night-enough kind cs n b os)
 
     -- as the order says it
     pub eight-enough : Suffices 8 m n b r m′
@@ -323,16 +325,16 @@ module _ (l : List ℕ) (n b : ℕ) (os x : List ℕ) (p : ℕ) (m y : List ℕ)
   pub night-jobs-c : formed l ≡ true → unpackedNight p .answer ≡ 0 → NightJobs l n b os x (unpackedNight p) m y
   night-jobs-c = night-jobs l n b os x (unpackedNight p) m y (night-in-c l n b os x p m y q) bytes
 
-module _ (l k : List ℕ) (u : ℕ) (z : length l ≡ imageLength) (f : north.Freshens l u k) {cs : List Call} {es : List Event} {m : List ℕ} (d : ActingC k cs es m) where
-  acted-c : Reached cs es m
-  acted-c = acted l k (unpacked u) z (f .0 .1, f .1) (acting-in-c d)
+module _ (kind : Bool) (l k : List ℕ) (u : ℕ) (z : length l ≡ imageLength) (f : north.Freshens l (flagCode kind) u k) {cs : List Call} {es : List Event} {m : List ℕ} (d : ActingC k cs es m) where
+  acted-c : Reached kind cs es m
+  acted-c = acted kind l k (unpacked u) z (f .0 .1, f .1) (acting-in-c d)
 
-  pub acting-demand-3-c : Demand3C cs es m
-  acting-demand-3-c = reached-3-c cs es m (acted-c .state) (acted-c .events) (acted-c .formed)
+  pub acting-demand-3-c : Demand3C kind cs es m
+  acting-demand-3-c = reached-3-c kind cs es m (acted-c .state) (acted-c .events) (acted-c .formed)
 
   module _ (n b : ℕ) (os x : List ℕ) (p : ℕ) (m′ y : List ℕ) (q : north.Nights m n b os x p m′ y) where
     pub six-enough-c : Suffices 6 m n b (unpackedNight p) m′
-    six-enough-c = six-enough l k (unpacked u) z (f .0 .1, f .1) (acting-in-c d) n b os x (unpackedNight p) m′ y (night-in-c m n b os x p m′ y q)
+    six-enough-c = six-enough kind l k (unpacked u) z (f .0 .1, f .1) (acting-in-c d) n b os x (unpackedNight p) m′ y (night-in-c m n b os x p m′ y q)
 
     pub eight-enough-c : Suffices 8 m n b (unpackedNight p) m′
-    eight-enough-c = eight-enough l k (unpacked u) z (f .0 .1, f .1) (acting-in-c d) n b os x (unpackedNight p) m′ y (night-in-c m n b os x p m′ y q)
+    eight-enough-c = eight-enough kind l k (unpacked u) z (f .0 .1, f .1) (acting-in-c d) n b os x (unpackedNight p) m′ y (night-in-c m n b os x p m′ y q)

@@ -2,7 +2,7 @@
 -- nothing.
 use Prim.Native.Nat.{ℕ, _<_}
 use mathlib.Core.Path.{_≡_, sym, ap, subst, _∙_}
-use mathlib.Core.Bool.{true}
+use mathlib.Core.Bool.{Bool, true}
 use mathlib.Core.List.{List, map}
 use borrow.Author.Tests.{lt-ltb}
 use lib.ListN.{length, getD}
@@ -14,6 +14,7 @@ use Rattle.machine.specs.Step.{run}
 use Rattle.machine.specs.Owner.{ownerOf}
 use Rattle.machine.specs.Reads.{ofTable, ofOwner, read}
 use Rattle.image.specs.Layout.{imageLength}
+use Rattle.image.specs.Records.{flagCode}
 use Rattle.image.specs.View.{view}
 use Rattle.image.specs.Formed.{formed}
 use Rattle.controller.specs.declared.reads.Read.{Read}
@@ -37,13 +38,13 @@ unfolding readOf read
 owner m p f i = rw (f, lt-ltb p 32 i)
 
 -- ---- an image that was reached
-module _ (cs : List Call) (es : List Event) (m : List ℕ) (h : view m ≡ run cs .state) (g : run cs .events ≡ es) (f : formed m ≡ true) where
+module _ (kind : Bool) (cs : List Call) (es : List Event) (m : List ℕ) (h : view m ≡ run kind cs .state) (g : run kind cs .events ≡ es) (f : formed m ≡ true) where
   pub reached-owner : (p : ℕ) (r : Read) → p < 32 → Shows m (ofOwner p) r → Owned es m p r
   reached-owner p r i e =
       let a : r ≡ found (ownerOf (view m) p) = e ∙ owner m p f i in
-      let newest : OwnsNewest (view m) es = subst (λ (s : State). OwnsNewest s es) (sym h) (subst (OwnsNewest (run cs .state)) g (owners-newest cs)) in
-      let listed : Owns (view m) = subst Owns (sym h) (owners-listed cs) in
-      let gives : OwnersGive (view m) = subst OwnersGive (sym h) (owners-give cs) in
+      let newest : OwnsNewest (view m) es = subst (λ (s : State). OwnsNewest s es) (sym h) (subst (OwnsNewest (run kind cs .state)) g (owners-newest kind cs)) in
+      let listed : Owns (view m) = subst Owns (sym h) (owners-listed kind cs) in
+      let gives : OwnersGive (view m) = subst OwnersGive (sym h) (owners-give kind cs) in
       record {
         newest = a ∙ ap found (newest p i);
         listed = a ∙ ap found (listed p i);
@@ -54,11 +55,11 @@ module _ (cs : List Call) (es : List Event) (m : List ℕ) (h : view m ≡ run c
 
 -- any calls on bytes that `fresh` was called on, and then the owner
 pub owner-listed :
-    (l k : List ℕ) (u : Reply) → length l ≡ imageLength → Freshens l u k → {cs : List Call} {rs : List Reply} {m : List ℕ} → Calling k cs rs m →
+    (kind : Bool) (l k : List ℕ) (u : Reply) → length l ≡ imageLength → Freshens l (flagCode kind) u k → {cs : List Call} {rs : List Reply} {m : List ℕ} → Calling k cs rs m →
     (p : ℕ) (r : Read) → p < 32 → Shows m (ofOwner p) r → Owned (map eventOf rs) m p r
-owner-listed l k u z f {cs = cs} {rs = rs} {m = m} d =
-    let h = shows-run-freshened l k u z f d in
-    reached-owner cs (map eventOf rs) m (h .0) (sym (h .1 .0)) (h .1 .1)
+owner-listed kind l k u z f {cs = cs} {rs = rs} {m = m} d =
+    let h = shows-run-freshened kind l k u z f d in
+    reached-owner kind cs (map eventOf rs) m (h .0) (sym (h .1 .0)) (h .1 .1)
 
 -- ---- as C sees it
 -- a packed answer reads back as the controller's
@@ -66,8 +67,8 @@ pub owner-in-c : (l : List ℕ) (p x : ℕ) → north.Shows l (ofOwner p) x → 
 owner-in-c l p x e = e .1
 
 pub owner-listed-c :
-    (l k : List ℕ) (u : ℕ) → length l ≡ imageLength → north.Freshens l u k → {cs : List Call} {xs m : List ℕ} → Serving k cs xs m →
+    (kind : Bool) (l k : List ℕ) (u : ℕ) → length l ≡ imageLength → north.Freshens l (flagCode kind) u k → {cs : List Call} {xs m : List ℕ} → Serving k cs xs m →
     (p x : ℕ) → p < 32 → north.Shows m (ofOwner p) x → Owned (map eventIn xs) m p (unpackedRead x)
-owner-listed-c l k u z f {xs = xs} {m = m} d p x i e =
+owner-listed-c kind l k u z f {xs = xs} {m = m} d p x i e =
     subst (λ (es : List Event). Owned es m p (unpackedRead x)) (events xs)
-    (owner-listed l k (unpacked u) z (f .0 .1, f .1) (calling d) p (unpackedRead x) i (owner-in-c m p x e))
+    (owner-listed kind l k (unpacked u) z (f .0 .1, f .1) (calling d) p (unpackedRead x) i (owner-in-c m p x e))

@@ -19,6 +19,7 @@ use Rattle.machine.specs.Reads.{ofTable, tableNumbers, read}
 use Rattle.machine.specs.Reads as reads
 use Rattle.machine.proofs.Kept.{refused-changes-nothing, refusal-one}
 use Rattle.image.specs.Layout.{imageLength}
+use Rattle.image.specs.Records.{flagCode}
 use Rattle.image.specs.View.{view}
 use Rattle.image.specs.Formed.{formed}
 use Rattle.image.proofs.Scanned.{formed-length, formed-state}
@@ -69,11 +70,11 @@ module _ (l : List ℕ) (k : Call) (r : Reply) (m : List ℕ) (p : Claims l k r 
   demand-2 w = let h = shows-next l k r m p y w in record { reply = h .0; state = h .1; formed = stays-formed l k r m p y w }
 
 -- ---- any calls, on bytes that `fresh` was called on
-module _ (l k : List ℕ) (u : Reply) (z : length l ≡ imageLength) (f : Freshens l u k) {cs : List Call} {rs : List Reply} {m : List ℕ} (d : Calling k cs rs m) where
-  pub demand-3 : Demand3 (view m) (map eventOf rs) (notes cs)
+module _ (kind : Bool) (l k : List ℕ) (u : Reply) (z : length l ≡ imageLength) (f : Freshens l (flagCode kind) u k) {cs : List Call} {rs : List Reply} {m : List ℕ} (d : Calling k cs rs m) where
+  pub demand-3 : Demand3 (view m) (map eventOf rs) (notes kind cs)
   demand-3 =
-      let h = shows-run-freshened l k u z f d in
-      subst (λ (s : State). Demand3 s (map eventOf rs) (notes cs)) (sym (h .0)) (subst (λ (es : List Event). Demand3 (run cs .state) es (notes cs)) (sym (h .1 .0)) (history.demand-3 cs))
+      let h = shows-run-freshened kind l k u z f d in
+      subst (λ (s : State). Demand3 s (map eventOf rs) (notes kind cs)) (sym (h .0)) (subst (λ (es : List Event). Demand3 (run kind cs .state) es (notes kind cs)) (sym (h .1 .0)) (history.demand-3 kind cs))
 
 -- ---- as C sees it
 -- a packed answer reads back as the controller's reply
@@ -105,9 +106,9 @@ unfolding readOf read
 same m p e = ap (λ (vs : List ℕ). shown.given (shown.unless (formed m) (reads.unless 2 (ltb p 32) (reads.shows (getD vs p 0))))) (sym e)
 
 -- what is read in an image that the calls cs reached, with the events es
-module _ (cs : List Call) (es : List Event) (m : List ℕ) (h : view m ≡ run cs .state) (g : run cs .events ≡ es) (f : formed m ≡ true) where
-  pub reached-3 : Demand3 (view m) es (notes cs)
-  reached-3 = subst (λ (s : State). Demand3 s es (notes cs)) (sym h) (subst (λ (e : List Event). Demand3 (run cs .state) e (notes cs)) g (history.demand-3 cs))
+module _ (kind : Bool) (cs : List Call) (es : List Event) (m : List ℕ) (h : view m ≡ run kind cs .state) (g : run kind cs .events ≡ es) (f : formed m ≡ true) where
+  pub reached-3 : Demand3 (view m) es (notes kind cs)
+  reached-3 = subst (λ (s : State). Demand3 s es (notes kind cs)) (sym h) (subst (λ (e : List Event). Demand3 (run kind cs .state) e (notes kind cs)) g (history.demand-3 kind cs))
 
   -- the target, as it is read
   target-read : (vs : List ℕ) → view m .net .values ≡ vs → ReadsTarget m vs
@@ -116,19 +117,19 @@ module _ (cs : List Call) (es : List Event) (m : List ℕ) (h : view m ≡ run c
   target-same : view m .net .values ≡ view m .applied .values → (p x y : ℕ) → north.Shows m (ofTable 2 p) x → north.Shows m (ofTable 3 p) y → x ≡ y
   target-same e p x y s t = s .0 ∙ ap packedRead (same m p e) ∙ sym (t .0)
 
-  target : Holds (view m) es (notes cs) → Target es (notes cs) m
+  target : Holds (view m) es (notes kind cs) → Target es (notes kind cs) m
   target (holds.applied e) = applied (target-same e)
   target (holds.pushed k i c b e) = pushed k i c b (target-read _ e)
   target (holds.returned k i c b e) = returned k i c b (target-read _ e)
 
   -- the value of the highest-numbered change, by the calls and what C was answered
   abbrev byGiven : (stage path : ℕ) → List Event → ℕ
-  byGiven b p e = highest (unfolded (given cs)) (live e b) (length (given cs)) p
+  byGiven b p e = highest (unfolded (given kind cs)) (live e b) (length (given kind cs)) p
 
-  pub reached-3-c : Demand3C cs es m
+  pub reached-3-c : Demand3C kind cs es m
   unfolding listingOf
   reached-3-c =
-      let b = by-given cs in
+      let b = by-given kind cs in
       record {
         committed = λ p x i s.
             s .1 ∙ value m 1 p f (lt-ltb p 32 i) ∙ ap (λ (v : State). found (getD (v .committed .values) p 0)) h
@@ -144,8 +145,8 @@ module _ (cs : List Call) (es : List Event) (m : List ℕ) (h : view m ≡ run c
             (s .0 .1 ∙ ap (λ (a : Listing). a .listed) v, s .1 ∙ ap (λ (a : Listing). a .room) v);
       }
 
-module _ (l k : List ℕ) (u : ℕ) (z : length l ≡ imageLength) (f : north.Freshens l u k) {cs : List Call} {xs m : List ℕ} (d : Serving k cs xs m) where
-  pub demand-3-c : Demand3C cs (map eventIn xs) m
+module _ (kind : Bool) (l k : List ℕ) (u : ℕ) (z : length l ≡ imageLength) (f : north.Freshens l (flagCode kind) u k) {cs : List Call} {xs m : List ℕ} (d : Serving k cs xs m) where
+  pub demand-3-c : Demand3C kind cs (map eventIn xs) m
   demand-3-c =
-      let h = shows-run-freshened l k (unpacked u) z (f .0 .1, f .1) (calling d) in
-      reached-3-c cs (map eventIn xs) m (h .0) (sym (h .1 .0) ∙ events xs) (h .1 .1)
+      let h = shows-run-freshened kind l k (unpacked u) z (f .0 .1, f .1) (calling d) in
+      reached-3-c kind cs (map eventIn xs) m (h .0) (sym (h .1 .0) ∙ events xs) (h .1 .1)

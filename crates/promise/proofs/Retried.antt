@@ -11,6 +11,7 @@ use Rattle.machine.specs.State.{State, isNode, nodeOf}
 use Rattle.machine.specs.Stores.{connections, after, afters}
 use Rattle.machine.specs.Rows.{overlay, rowsOf}
 use Rattle.machine.specs.Calls.{Call, append, rollback, start, stop, connect, disconnect, master, sync, work, foldTo, valuesOk, present, planOf, decide}
+use Rattle.machine.specs.Differ.{differRow}
 use Rattle.machine.specs.WellFormed.{allFrom, allAtMost, pairsOk, entryOk, headOk, wellFormed}
 use Rattle.machine.specs.Step.{outcome, step, run, stateFrom}
 use Rattle.machine.specs.Retry as states
@@ -173,13 +174,13 @@ begun = work 1 2 1 0 0 ∷ work 1 1 1 0 0 ∷ work 1 1 1 0 0 ∷ sync 1 ∷ sync
 
 -- job j of node 1 for number 1, accepted, may be cut at x and called again
 pub record May (cs : List Call) (j x q c : ℕ) : Type 0 where
-  pub cut : Cut (run cs .state) 1 j 1 0 x
-  pub may : mayRetry (planOf (run cs .state) 1 j 1 true .order) x 0 q c ≡ true
+  pub cut : Cut (run false cs .state) 1 j 1 0 x
+  pub may : mayRetry (planOf (run false cs .state) 1 j 1 true .order) x 0 q c ≡ true
 
 pub met : May led 1 1 1 1
 unfolding run step outcome decide planOf wellFormed allFrom allAtMost entryOk headOk pairsOk valuesOk present after afters
 met = record { cut = record { args = refl; number = refl; kept = refl; master = refl }; may = refl }
 
 pub push-met : May begun 2 1 0 0
-unfolding run step outcome decide planOf wellFormed allFrom allAtMost entryOk headOk pairsOk valuesOk present after afters rowsOf overlay
+unfolding run step outcome decide planOf wellFormed allFrom allAtMost entryOk headOk pairsOk valuesOk present after afters rowsOf overlay differRow
 push-met = record { cut = record { args = refl; number = refl; kept = refl; master = refl }; may = refl }

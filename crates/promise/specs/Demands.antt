@@ -2,7 +2,7 @@
 -- of every call by Promise, in the controller and as C sees it. Assumes nothing.
 use Prim.Native.Nat.{ℕ, _<_}
 use mathlib.Core.Path.{_≡_}
-use mathlib.Core.Bool.{true, false}
+use mathlib.Core.Bool.{Bool, true, false}
 use mathlib.Core.List.{List, [], _∷_}
 use lib.ListN.{length, getD}
 use Rattle.kinds.specs.declared.Reply.{Reply}
@@ -38,7 +38,8 @@ pub record Demand2 (l : List ℕ) (c : Call) (r : Reply) (m : List ℕ) : Type 0
   pub state : view m ≡ step (view l) c .next
   pub formed : formed m ≡ true
 
--- ---- 3: what a C host reads in the image m, after the calls cs from fresh and the events es that they gave, newest first
+-- ---- 3: what a C host reads in the image m, after the calls cs from fresh, of either kind, and the events es that they gave,
+-- newest first
 abbrev pub found : ℕ → Read
 found v = record { answer = 0; value = v }
 
@@ -54,17 +55,17 @@ pub data Target (es : List Event) (ns : List Note) (m : List ℕ) : Type 0 where
   pushed : (k : ℕ) → view m .log .folded .0 < k → k ≡ lastCut ns → Begun es k → ReadsTarget m (withPairs (view m) k) → Target es ns m
   returned : (k : ℕ) → view m .log .folded .0 < k → k ≡ lastCut ns → Begun es k → ReadsTarget m (withReturned (view m) k) → Target es ns m
 
-pub record Demand3C (cs : List Call) (es : List Event) (m : List ℕ) : Type 0 where
+pub record Demand3C (kind : Bool) (cs : List Call) (es : List Event) (m : List ℕ) : Type 0 where
   -- the committed value of every path is that of the highest-numbered change ever given and setting it whose commit Complete
   -- event has been given and whose rollback commit Complete event has not, or absent
-  pub committed : (p x : ℕ) → p < 32 → north.Shows m (ofTable 1 p) x → unpackedRead x ≡ found (highest (unfolded (given cs)) (live es 1) (length (given cs)) p)
+  pub committed : (p x : ℕ) → p < 32 → north.Shows m (ofTable 1 p) x → unpackedRead x ≡ found (highest (unfolded (given kind cs)) (live es 1) (length (given kind cs)) p)
   -- the same of the applied values, with apply
-  pub applied : (p x : ℕ) → p < 32 → north.Shows m (ofTable 2 p) x → unpackedRead x ≡ found (highest (unfolded (given cs)) (live es 2) (length (given cs)) p)
+  pub applied : (p x : ℕ) → p < 32 → north.Shows m (ofTable 2 p) x → unpackedRead x ≡ found (highest (unfolded (given kind cs)) (live es 2) (length (given kind cs)) p)
   -- whenever the line is open for some node, the target is read so (order 8)
-  pub line : (n : ℕ) → lineOpenFor (view m .net) n ≡ true → Target es (notes cs) m
+  pub line : (n : ℕ) → lineOpenFor (view m .net) n ≡ true → Target es (notes kind cs) m
   -- and as the applied values are where no push has been cut at its first store since the last synchronise that wrote, or where
   -- the transaction last so cut has since had an accepted push that was not so cut
-  pub whole : (n p x y : ℕ) → lineOpenFor (view m .net) n ≡ true → madeGood (notes cs) ≡ true
+  pub whole : (n p x y : ℕ) → lineOpenFor (view m .net) n ≡ true → madeGood (notes kind cs) ≡ true
       → north.Shows m (ofTable 2 p) x → north.Shows m (ofTable 3 p) y → x ≡ y
   -- the live list is the changes kept that the first part speaks of, newest first, or 14 where the room is too short
   pub list : (room room′ : List ℕ) (x : ℕ) → north.Lists m room x room′

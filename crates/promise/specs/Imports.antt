@@ -2,7 +2,7 @@
 -- the controller and as C sees it. Assumes nothing.
 use Prim.Native.Nat.{ℕ, _<_}
 use mathlib.Core.Path.{_≡_}
-use mathlib.Core.Bool.{true}
+use mathlib.Core.Bool.{true, false}
 use mathlib.Core.List.{List, _++_}
 use lib.ListN.{length}
 use Rattle.kinds.specs.declared.Reply.{Reply}
@@ -42,10 +42,11 @@ pub record AnyImport (l b : List ℕ) (r : Imported) (m : List ℕ) : Type 0 whe
   -- no byte is lost and none comes
   pub length : length m ≡ length l
 
--- ---- accepted: `fresh` on the image, and then the list's calls, one after another, leave the very image, and each is accepted
+-- ---- accepted: `fresh` on the image, of a switch that forgets, and then the list's calls, one after another, leave the very image,
+-- and each is accepted
 pub record ImportCalls (l b : List ℕ) (r : Imported) (m : List ℕ) : Type 0 where
   pub replies : List Reply
-  pub made : (k : List ℕ) (u : Reply) → Freshens l u k → Calling k (importCalls (entriesOf b)) replies m
+  pub made : (k : List ℕ) (u : Reply) → Freshens l 0 u k → Calling k (importCalls (entriesOf b)) replies m
   pub accepted : Accepted replies
   pub position : r .position ≡ 0
   pub formed : formed m ≡ true
@@ -58,15 +59,15 @@ abbrev pub callsWith : (list : List ℕ) → List Call → List Call
 callsWith b cs = cs ++ importCalls (entriesOf b)
 
 abbrev pub eventsWith : (list : List ℕ) → List Event → List Event
-eventsWith b es = es ++ run (importCalls (entriesOf b)) .events
+eventsWith b es = es ++ run false (importCalls (entriesOf b)) .events
 
--- ---- and so, in C, all that is promised of an image that `fresh` began. The image m is what was left behind an import of the list b
--- by the calls cs, nights and all, with their events es
+-- ---- and so, in C, all that is promised of an image that `fresh` began. The image m is what was left behind an import of the
+-- list b by the calls cs, nights and all, with their events es
 pub record BehindC (b : List ℕ) (cs : List Call) (es : List Event) (m : List ℕ) : Type 0 where
   -- they are calls alone on the fresh image, which the import's stand before
-  pub calls : AreCalls freshImage (callsWith b cs) (eventsWith b es) m
+  pub calls : AreCalls (freshImage false) (callsWith b cs) (eventsWith b es) m
   -- demand 3, with the events of the import's calls
-  pub demand : Demand3C (callsWith b cs) (eventsWith b es) m
+  pub demand : Demand3C false (callsWith b cs) (eventsWith b es) m
   -- a night of 6 jobs for each transaction kept is enough (order 2)
   pub enough : (n c : ℕ) (os x : List ℕ) (p : ℕ) (m′ y : List ℕ) → north.Nights m n c os x p m′ y → Suffices 6 m n c (unpackedNight p) m′
   -- and what makowist_why tells of a transaction is so (order 4)

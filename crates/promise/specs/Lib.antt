@@ -4,4 +4,5 @@ pub mod Retry
 pub mod Reasons
 pub mod Nights
 pub mod Owners
+pub mod Remember
 pub mod Imports
