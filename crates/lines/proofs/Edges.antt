@@ -10,7 +10,7 @@ use borrow.Author.Tests.{ltb-true, ltb-false, le-leb}
 use lib.Dec.{ltb}
 use lib.ListN.{length, getD, take, replicate, length-append}
 use Rattle.lines.specs.declared.reading.Call.{Call}
-use Rattle.lines.specs.declared.reading.Call.the-variants.{Unreadable, Append, Rollback, Start, Stop, Connect, Disconnect, Master, Sync, Work, Import, Owner}
+use Rattle.lines.specs.declared.reading.Call.the-variants.{Unreadable, Append, Rollback, Start, Stop, Connect, Disconnect, Master, Sync, Work, Import, Owner, Fresh}
 use Rattle.lines.specs.Text.{text}
 use Rattle.lines.specs.Decimal.{isDigit, spelled, decimal}
 use Rattle.machine.specs.Import.{adds, undoes}
@@ -134,6 +134,14 @@ owners :
     × (asks (text "call=owner") ≡ Unreadable) × (asks (text "call=owner node=3") ≡ Unreadable) × (asks (text "call=owner path=3:7") ≡ Unreadable)
 unfolding asks gives size letterAt like seekIn pushed callOf
 owners = (refl, refl, refl, refl, refl, refl, refl, refl, refl)
+
+-- ---- a fresh start (order 13): any number can be read, and what is neither 0 nor 1 is refused later
+fresh-starts :
+    (asks (text "call=fresh remembers=1") ≡ Fresh 1) × (asks (text "call=fresh remembers=00") ≡ Fresh 0) × (asks (text "call=fresh remembers=2") ≡ Fresh 2)
+    × (gives (text "call=fresh remembers=1") ≡ []) × (asks (text "call=fresh remembers=65536") ≡ Unreadable) × (asks (text "call=fresh remembers=") ≡ Unreadable)
+    × (asks (text "call=fresh") ≡ Unreadable) × (asks (text "call=fresh node=1") ≡ Unreadable) × (asks (text "call=fresh remembers=1:1") ≡ Unreadable)
+unfolding asks gives size letterAt like seekIn pushed callOf
+fresh-starts = (refl, refl, refl, refl, refl, refl, refl, refl, refl)
 
 -- ---- numbers
 -- d are the digits of n, and the first is no 0 unless n is 0

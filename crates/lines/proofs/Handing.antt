@@ -13,7 +13,7 @@ use Rattle.machine.specs.Calls.{Pair}
 use Rattle.machine.specs.Import.{Entry, adds}
 use Rattle.lines.specs.declared.reading.Call.{Call}
 use Rattle.lines.specs.Decimal.{isDigit}
-use Rattle.lines.specs.Forms.{Asked, calls, why, night, imports, owner, Token, letter, number, pairs, digits, entries, Asks, Form, forms}
+use Rattle.lines.specs.Forms.{Asked, calls, why, night, imports, owner, freshly, Token, letter, number, pairs, digits, entries, Asks, Form, forms}
 use Rattle.lines.specs.Grammar.{allDigits, worths, flat, Row, one, more, Entered, no-pairs, some-pairs, place, Entries, last, then, Item, plain, asItems, items, Fits, fits-end, fits-letter, fits-number, fits-none, fits-pairs, fits-digits, fits-no-entry, fits-entries, Among}
 use Rattle.lines.specs.Reading.{low, high, twoBytes, numberIn, callOf, atMost, mostOf, lineOf}
 use Rattle.lines.specs.Handed.{callFor, pairsIn, outcomesIn, entriesIn, bytesFor, entryBytes, Small, SmallEntry, SmallEntries, Low, Hands}
@@ -191,6 +191,7 @@ each =
     (record { calls = refl; bytes = refl; most = omega arith; bounded = (b, (d, low-bounded os l)); small = tt; low = l; entered = tt }))
     & (λ es s m e. record { calls = refl; bytes = entries-hand es m s e; small = tt; low = tt; entered = s })
     & (λ p b. numbered-row (owner p) (p ∷ []) 79 refl refl refl (b, tt) tt tt tt)
+    & (λ r b. numbered-row (freshly r) (r ∷ []) 66 refl refl refl (b, tt) tt tt tt)
     & tt
 
 row-small : {d : List ℕ} {ps : List Pair} → Row d ps → Small ps

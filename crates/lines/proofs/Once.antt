@@ -6,10 +6,10 @@ use lib.ListN.{drop}
 use Rattle.machine.specs.Calls as machine
 use Rattle.machine.specs.Calls.{Pair}
 use Rattle.machine.specs.Import.{Entry, adds, undoes, neither}
-use Rattle.lines.specs.Forms.{Asked, calls, why, night, imports, owner, Token, letter, number, pairs, digits, entries, Asks, Form, forms}
+use Rattle.lines.specs.Forms.{Asked, calls, why, night, imports, owner, freshly, Token, letter, number, pairs, digits, entries, Asks, Form, forms}
 use Rattle.lines.specs.Grammar.{pair, flat, worths, Item, plain, inner, close, undo, asItems, itemsOf, items, Fits, fits-end, fits-letter, fits-number, fits-none, fits-pairs, fits-digits, fits-no-entry, fits-entries, Says}
 use Rattle.lines.specs.declared.reading.Call.{Call}
-use Rattle.lines.specs.declared.reading.Call.the-variants.{Append, Rollback, Start, Stop, Connect, Disconnect, Master, Sync, Work, Fold, Why, Night, Import, Owner, Unreadable}
+use Rattle.lines.specs.declared.reading.Call.the-variants.{Append, Rollback, Start, Stop, Connect, Disconnect, Master, Sync, Work, Fold, Why, Night, Import, Owner, Fresh, Unreadable}
 use Rattle.lines.specs.Handed.{callFor, SmallEntries}
 use Rattle.lines.proofs.Each.{_&_, Each, each-among}
 use Rattle.lines.proofs.Handing.{entries-small}
@@ -79,6 +79,7 @@ askedOf (Why n j i) is = why n j i
 askedOf (Night n b) is = night n b (drop 2 (numbersIn is))
 askedOf Import is = imports (entered [] is)
 askedOf (Owner p) is = owner p
+askedOf (Fresh r) is = freshly r
 askedOf Unreadable is = calls machine.stop
 
 abbrev Tells : Asked → List Item → Type 0
@@ -101,7 +102,7 @@ unfolding numbersIn
 each =
     refl & refl & (λ n. refl) & (λ ps. ap (λ (z : List Pair). calls (machine.append z)) (ap paired (plain-back (flat ps)) ∙ flat-back ps)) & (λ n. refl) & (λ n. refl)
     & (λ n. refl) & (λ n. refl) & (λ n j i o c. refl) & (λ n. refl) & (λ n j i. refl) & (λ n b os. ap (night n b) (plain-back os))
-    & (λ es s. ap imports (entries-back es s)) & (λ p. refl) & tt
+    & (λ es s. ap imports (entries-back es s)) & (λ p. refl) & (λ r. refl) & tt
 
 fits-tell : {f : List Token} {a : Asks f} {l : List ℕ} {ns : List Item} {x : Asked} → Fits f a l ns x → (m : List Item) → TellsRow f a m → Tells x (m ++ ns)
 unfolding flat asItems items

@@ -1,4 +1,4 @@
--- The paper's nine lines, the fold's, why's, the night's, the import's and the owner's, each written out, are what the table says,
+-- The paper's nine lines, the fold's, why's, the night's, the import's, the owner's and the fresh start's, each written out, are what the table says,
 -- and nothing else is. Assumes nothing.
 use Prim.Native.Nat.{ℕ, _≤_}
 use mathlib.Core.Path.{_≡_, refl, ap, sym, subst, _∙_}
@@ -10,7 +10,7 @@ use Rattle.machine.specs.Calls as machine
 use Rattle.machine.specs.Calls.{Pair}
 use Rattle.machine.specs.Import.{Entry}
 use Rattle.lines.specs.Text.{text}
-use Rattle.lines.specs.Forms.{Asked, calls, why, night, imports, owner, Token, letter, number, pairs, digits, entries, Asks, Form, forms}
+use Rattle.lines.specs.Forms.{Asked, calls, why, night, imports, owner, freshly, Token, letter, number, pairs, digits, entries, Asks, Form, forms}
 use Rattle.lines.specs.Grammar.{allDigits, flat, worths, isWord, Number, Row, Entries, Item, plain, asItems, items, Fits, fits-end, fits-letter, fits-number, fits-none, fits-pairs, fits-digits, fits-no-entry, fits-entries, Among, here, there, Says}
 use Rattle.lines.proofs.Classes.{differ, and-left, and-right}
 use Rattle.lines.proofs.Each.{_&_, Each, each-among}
@@ -38,6 +38,7 @@ pub data Line : List ℕ → Asked → Type 0 where
   line-no-entries : Line (text "call=import entries=") (imports [])
   line-import : {d : List ℕ} {es : List Entry} → 1 ≤ length d → Entries d es → Line (text "call=import entries=" ++ d) (imports es)
   line-owner : {d : List ℕ} {p : ℕ} → Number d p → Line (text "call=owner path=" ++ d) (owner p)
+  line-fresh : {d : List ℕ} {r : ℕ} → Number d r → Line (text "call=fresh remembers=" ++ d) (freshly r)
 
 -- ---- a text of letters at the front of a form
 abbrev letters : List ℕ → List Token → List Token
@@ -185,6 +186,7 @@ line-says (line-import {d} {es} o r) =
     says-by (text "I") refl (fits-text (text "call=import entries=") refl
     (subst (λ (z : List ℕ). Fits (entries ∷ []) imports z (items es ++ []) (imports es)) (append-nil d) (fits-entries o r fits-end)))
 line-says (line-owner x) = says-by (text "O") refl (fits-text (text "call=owner path=") refl (at-end x))
+line-says (line-fresh x) = says-by (text "B") refl (fits-text (text "call=fresh remembers=") refl (at-end x))
 
 -- ---- and what a row says is one of those lines
 pub record Lined (l : List ℕ) (x : Asked) : Type 0 where
@@ -383,6 +385,7 @@ each =
     & (λ l ns x y. asked-night y)
     & (λ l ns x y. imported y)
     & (λ l ns x y. single (text "call=owner path=") owner (λ d p k. line-owner k) y)
+    & (λ l ns x y. single (text "call=fresh remembers=") freshly (λ d r k. line-fresh k) y)
     & tt
 
 pub says-line : {l : List ℕ} {x : Asked} → Says l x → Lined l x

@@ -16,7 +16,7 @@ use Rattle.machine.specs.Step.{outcome, step}
 use Rattle.lines.specs.declared.reading.Call.{Call}
 use Rattle.lines.specs.declared.reading.Call.the-variants.{Unreadable}
 use Rattle.lines.specs.declared.reading.Reader.{Reader}
-use Rattle.lines.specs.Forms.{Asked, calls, why, night, imports, owner}
+use Rattle.lines.specs.Forms.{Asked, calls, why, night, imports, owner, freshly}
 use Rattle.lines.specs.Grammar.{Item, Says}
 use Rattle.lines.specs.Reading.{twoBytes, pushed, fresh, last, lastIn, atMost, mostOf, tagOf, callOf, lineOf, finished, ran, said, saidIn}
 use Rattle.lines.specs.Handed.{Hands, callFor}
@@ -87,6 +87,7 @@ told-apart (why n j i) e = let z : _≡_ {A = ℕ} 0 1 = cc in omega arith
 told-apart (night n b os) e = let z : _≡_ {A = ℕ} 0 1 = cc in omega arith
 told-apart (imports es) e = let z : _≡_ {A = ℕ} 0 1 = cc in omega arith
 told-apart (owner p) e = let z : _≡_ {A = ℕ} 0 1 = cc in omega arith
+told-apart (freshly r) e = let z : _≡_ {A = ℕ} 0 1 = cc in omega arith
 
 module _ (m l : List ℕ) where
   -- a readable line: the grammar has it as asking for something, and that is handed on

@@ -19,6 +19,7 @@ pub data Asked : Type 0 where
   night : (node budget : ℕ) → List ℕ → Asked
   imports : List Entry → Asked
   owner : (path : ℕ) → Asked
+  freshly : (remembers : ℕ) → Asked
 
 -- what stands at a place of a form
 pub data Token : Type 0 where
@@ -79,6 +80,7 @@ forms =
     ∷ row "call=night node=# budget=# outcomes=&" "N" (λ n b os. night n b os)
     ∷ row "call=import entries=$" "I" (λ es. imports es)
     ∷ row "call=owner path=#" "O" (λ p. owner p)
+    ∷ row "call=fresh remembers=#" "B" (λ r. freshly r)
     ∷ []
 
 -- ---- the table as the code has it: for each row 64 letters, a newline, its text, its tag and dots

@@ -11,8 +11,8 @@ use Rattle.machine.specs.Calls.{Pair}
 use Rattle.machine.specs.Import.{Entry, adds, undoes, neither}
 use Rattle.lines.specs.declared.reading.Line.{Line}
 use Rattle.lines.specs.declared.reading.Call.{Call}
-use Rattle.lines.specs.declared.reading.Call.the-variants.{Append, Rollback, Start, Stop, Connect, Disconnect, Master, Sync, Work, Fold, Why, Night, Import, Owner}
-use Rattle.lines.specs.Forms.{Asked, calls, why, night, imports, owner}
+use Rattle.lines.specs.declared.reading.Call.the-variants.{Append, Rollback, Start, Stop, Connect, Disconnect, Master, Sync, Work, Fold, Why, Night, Import, Owner, Fresh}
+use Rattle.lines.specs.Forms.{Asked, calls, why, night, imports, owner, freshly}
 use Rattle.lines.specs.Grammar.{flat}
 use Rattle.lines.specs.Reading.{atMost, twoBytes}
 
@@ -31,6 +31,7 @@ callFor (why n j i) = Why n j i
 callFor (night n b os) = Night n b
 callFor (imports es) = Import
 callFor (owner p) = Owner p
+callFor (freshly r) = Fresh r
 
 -- the pairs that stand beside the call
 abbrev pub pairsIn : Asked → List Pair
@@ -48,6 +49,7 @@ pairsIn (why n j i) = []
 pairsIn (night n b os) = []
 pairsIn (imports es) = []
 pairsIn (owner p) = []
+pairsIn (freshly r) = []
 
 -- and the outcomes
 abbrev pub outcomesIn : Asked → List ℕ
@@ -56,6 +58,7 @@ outcomesIn (why n j i) = []
 outcomesIn (night n b os) = os
 outcomesIn (imports es) = []
 outcomesIn (owner p) = []
+outcomesIn (freshly r) = []
 
 -- and the entries
 abbrev pub entriesIn : Asked → List Entry
@@ -64,6 +67,7 @@ entriesIn (why n j i) = []
 entriesIn (night n b os) = []
 entriesIn (imports es) = es
 entriesIn (owner p) = []
+entriesIn (freshly r) = []
 
 -- ---- as bytes, each number in two, the low one first
 -- a night: node, budget, and 257 of its outcomes at most
@@ -97,6 +101,7 @@ bytesFor (why n j i) = []
 bytesFor (night n b os) = nightBytes n b os
 bytesFor (imports es) = importBytes es
 bytesFor (owner p) = []
+bytesFor (freshly r) = []
 
 -- in two bytes each has room
 abbrev pub Small : List Pair → Type 0

@@ -276,7 +276,8 @@ callOf t a b c d e =
     (cond (eqb t 78) (call.Night a b)
     (cond (eqb t 73) call.Import
     (cond (eqb t 79) (call.Owner a)
-    call.Unreadable)))))))))))))
+    (cond (eqb t 66) (call.Fresh a)
+    call.Unreadable))))))))))))))
 
 -- the bytes of the room that go with a call, at most: those of an append's pairs, five of them; of a night, node, budget and 257
 -- outcomes; of an import, 257 entries

@@ -42,6 +42,8 @@ const IMPORT: [u8; 64] = *b"\ncall=import entries=$I............................
 
 const OWNER: [u8; 64] = *b"\ncall=owner path=#O.............................................";
 
+const FRESH: [u8; 64] = *b"\ncall=fresh remembers=#B........................................";
+
 // Where the line so far leads: a place of the table; how much has come of what a mark there takes; the number that is being
 // read; how many bytes of the room are taken by what ended; and how many numbers of an entry ended that itself has not.
 pub struct Reader {
@@ -82,6 +84,7 @@ pub enum Call {
     },
     Import,
     Owner(u16),
+    Fresh(u16),
 }
 
 // A line that was read. The first `length` bytes of the room go with it, two a number, the low byte first: of an append the
@@ -121,6 +124,7 @@ fn letter(at: usize) -> u8
         11 => cell(NIGHT, column),
         12 => cell(IMPORT, column),
         13 => cell(OWNER, column),
+        14 => cell(FRESH, column),
         _ => 0,
     }
 }
@@ -605,6 +609,7 @@ fn call_of(tag: u8, a: u16, b: u16, c: u16, d: u16, e: u16) -> Call
         b'N' => Call::Night { node: a, budget: b },
         b'I' => Call::Import,
         b'O' => Call::Owner(a),
+        b'B' => Call::Fresh(a),
         _ => Call::Unreadable,
     }
 }

@@ -9,12 +9,10 @@ use Rattle.kinds.specs.Events.{refusal}
 use Rattle.machine.specs.Calls as machine
 use Rattle.lines.specs.declared.reading.Line.{Line}
 use Rattle.lines.specs.declared.reading.Call.{Call}
-use Rattle.controller.specs.declared.imports.Imported.{Imported}
 use Rattle.controller.specs.Claims.{Claims}
-use Rattle.controller.specs.Imports.{Imports, importIn}
 use Rattle.stepper.specs.declared.Answer.{Answer}
-use Rattle.stepper.specs.declared.Answer.the-variants.{Replied, Began}
-use Rattle.stepper.specs.Answers.{Replies, BeginsIf, AnswersCall, Answers}
+use Rattle.stepper.specs.declared.Answer.the-variants.{Replied}
+use Rattle.stepper.specs.Answers.{Replies, First, AnswersCall, Answers}
 
 pub asked :
     (f : Bool) (line : Line) (c : Call) (room l : List ℕ) (r : Answer) (m : List ℕ) → line .call ≡ c → AnswersCall f c (take (line .length) room) l r m →
@@ -24,10 +22,9 @@ asked f line c room l r m e p = subst (λ (k : Call). AnswersCall f k (take (lin
 pub replied : (l : List ℕ) (c : machine.Call) (r : Reply) (m : List ℕ) → Claims l c r m → Replies l c (Replied r) m
 replied l c r m p = (ap Replied (p .0), p .1)
 
--- an import, on the first line and behind it
-pub began :
-    (f : Bool) (l b : List ℕ) (r : Imported) (m : List ℕ) → f ≡ true → Imports l b r m → BeginsIf f l (importIn l b) (Began r) m
-began f l b r m e p = rw e (ap Began (p .0), p .1)
+-- what stands in place of the fresh start: the first line, and behind another
+pub taken : (f : Bool) (x : Answer) (k l : List ℕ) (a : Answer) (m : List ℕ) → f ≡ true → a ≡ x → m ≡ k → First f x k l a m
+taken f x k l a m e p q = rw e (p, q)
 
-pub late : (f : Bool) (l b : List ℕ) (r : Reply) → f ≡ false → r ≡ refusal 2 → BeginsIf f l (importIn l b) (Replied r) l
-late f l b r e p = rw e (ap Replied p, refl)
+pub late : (f : Bool) (x : Answer) (k l : List ℕ) (r : Reply) → f ≡ false → r ≡ refusal 2 → First f x k l (Replied r) l
+late f x k l r e p = rw e (ap Replied p, refl)

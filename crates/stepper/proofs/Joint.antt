@@ -1,6 +1,6 @@
 -- The joint of the lines and the calls: a line is answered with what the machine decides for the call that it says, with the
--- reason, the night or the owner that it asks for, or with the import that it says; and a line that says nothing with 2. Assumes
--- nothing.
+-- reason, the night or the owner that it asks for, or with the import or the fresh start that it says; and a line that says nothing
+-- with 2. Assumes nothing.
 use Prim.Native.Nat.{ℕ, zero, suc, _+_, _*_, _%_, _≤_}
 use mathlib.Core.Path.{_≡_, refl, ap, ap₂, subst, _∙_}
 use mathlib.Core.Logic.{_⊎_, inl, inr}
@@ -16,7 +16,7 @@ use Rattle.machine.specs.Import.{Entry, Import, import, importOf}
 use Rattle.image.specs.Layout.{imageLength}
 use Rattle.lines.specs.declared.reading.Call.{Call}
 use Rattle.lines.specs.declared.reading.Call.the-variants.{Unreadable}
-use Rattle.lines.specs.Forms.{Asked, calls, why, night, imports, owner}
+use Rattle.lines.specs.Forms.{Asked, calls, why, night, imports, owner, freshly}
 use Rattle.lines.specs.Grammar.{flat, pair, Says}
 use Rattle.lines.specs.Reading.{low, high, twoBytes, said, saidIn}
 use Rattle.lines.specs.Handed.{callFor, pairsIn, importBytes, bytesFor, Small}
@@ -26,7 +26,7 @@ use Rattle.controller.specs.Bytes.{pairsOf, pairsIf, appendOf}
 use Rattle.controller.specs.Claims.{outcomeOf}
 use Rattle.controller.specs.Imports.{importIn}
 use Rattle.stepper.specs.declared.Answer.{Answer}
-use Rattle.stepper.specs.Answers.{Replies, Explains, tableFor, Sleeps, Refuses, BeginsIf, Owns, AnswersCall, Answers}
+use Rattle.stepper.specs.Answers.{Replies, Explains, tableFor, Sleeps, Refuses, BeginsIf, Owns, FreshensIf, AnswersCall, Answers}
 use Rattle.stepper.specs.Transcript.{importing}
 use Rattle.stepper.proofs.Tables.{table-same}
 
@@ -110,6 +110,10 @@ module _ (f : Bool) (t room l : List ℕ) (r : Answer) (m : List ℕ) (p : Answe
   -- one that asks who set a path, with that
   pub owns-said : length room ≡ 5140 → (p : ℕ) → Says t (owner p) → Owns l p r m
   owns-said e p s = asked e (owner p) s
+
+  -- one that says a fresh start, with it, if it is the first
+  pub freshens-said : length room ≡ 5140 → (v : ℕ) → Says t (freshly v) → FreshensIf f l v r m
+  freshens-said e v s = asked e (freshly v) s
 
   -- a line that says nothing is refused with 2, and every byte is what it had been
   pub refuses-unsaid : ((x : Asked) → Says t x → ⊥) → Refuses l r m

@@ -6,37 +6,40 @@ use mathlib.Core.Logic.{_⊎_, inl, inr}
 use mathlib.Core.Bool.{Bool, true, false, cond}
 use mathlib.Core.List.{List, [], _++_}
 use borrow.Author.Tests.{eq-eqb}
-use lib.Dec.{eqb}
+use lib.Dec.{eqb, leb}
 use lib.ListN.{length, take, replicate}
 use Rattle.kinds.specs.declared.Reply.{Reply}
+use Rattle.kinds.specs.Events.{refusal}
 use Rattle.machine.specs.State.{State, fresh}
 use Rattle.machine.specs.Why as reasons
 use Rattle.machine.specs.Import.{Entry, Import, import, imported}
 use Rattle.machine.specs.Reads.{Query, read}
 use Rattle.fields.proofs.Laws.{Bytes}
 use Rattle.image.specs.Layout.{imageLength}
+use Rattle.image.specs.Records.{flagOf}
 use Rattle.image.specs.View.{view}
 use Rattle.image.specs.Formed.{formed}
 use Rattle.image.specs.Fresh.{freshImage}
 use Rattle.image.proofs.Freshened.{shows-fresh, formed-fresh}
 use Rattle.image.proofs.Scanned.{formed-length}
-use Rattle.lines.specs.Forms.{Asked, calls, why, night, imports, owner}
+use Rattle.lines.specs.Forms.{Asked, calls, why, night, imports, owner, freshly}
 use Rattle.lines.specs.Grammar.{Says}
 use Rattle.lines.proofs.Readable.{Readable, Unread, read-right}
-use Rattle.controller.specs.Fresh.{imageIf, Freshens}
+use Rattle.controller.specs.Fresh.{answerIf, imageIf, Freshens}
 use Rattle.controller.specs.Reads as shown
 use Rattle.controller.specs.Reads.{readOf, headsOf, headsIn}
 use Rattle.controller.specs.Reasons.{whyOf, given}
 use Rattle.controller.specs.Nights as nightly
 use Rattle.controller.specs.Nights.{lentFrom, nightIn, roomAfter}
 use Rattle.controller.specs.Imports.{told, imageAfter}
+use Rattle.controller.proofs.Freshened.{fresh-is}
 use Rattle.link.proofs.Link.{shows-next, stays-bytes, stays-formed, shows-run}
 use Rattle.link.proofs.Fresh.{fresh-bytes, shows-run-fresh}
 use Rattle.link.proofs.Nights.{lent-calling, night-calling, night-shows}
 use Rattle.stepper.specs.declared.Session.{Session}
 use Rattle.stepper.specs.declared.Answer.{Answer}
 use Rattle.stepper.specs.declared.Answer.the-variants.{Replied, Explained, Slept, Began, Owned}
-use Rattle.stepper.specs.Answers.{tableFor, BeginsIf}
+use Rattle.stepper.specs.Answers.{tableFor, BeginsIf, FreshensIf}
 use Rattle.stepper.specs.Fed.{emptied}
 use Rattle.stepper.specs.Closed.{lineOfHeads, closing, EndsInput}
 use Rattle.stepper.specs.Runs.{begins, Runs}
@@ -73,18 +76,47 @@ module _ (l : List ℕ) (es : List Entry) (w : formed l ≡ true) where
   entered true r m p =
       (p .0 ∙ ap (λ (x : Import). Began (told x)) of-an-image, ap view (image-is m (p .1)) ∙ by (eqb (import es .answer) 0))
     where
-      by : (b : Bool) → view (cond b (lentFrom freshImage (import es .calls)) l) ≡ cond b (imported es) (view l)
-      by true = shows-run-fresh (lent-calling freshImage (import es .calls)) .0
+      by : (b : Bool) → view (cond b (lentFrom (freshImage false) (import es .calls)) l) ≡ cond b (imported es) (view l)
+      by true = shows-run-fresh false (lent-calling (freshImage false) (import es .calls)) .0
       by false = refl
   entered false r m p = (p .0, ap view (p .1))
 
   stays-entered : (f : Bool) (r : Answer) (m : List ℕ) → Bytes l → BeginsIf f l (importing l es) r m → One m
   stays-entered true r m y p = subst One (sym (image-is m (p .1))) (by (eqb (import es .answer) 0))
     where
-      by : (b : Bool) → One (cond b (lentFrom freshImage (import es .calls)) l)
-      by true = let z = shows-run (lent-calling freshImage (import es .calls)) fresh-bytes formed-fresh in (z .bytes, z .formed)
+      by : (b : Bool) → One (cond b (lentFrom (freshImage false) (import es .calls)) l)
+      by true = let z = shows-run (lent-calling (freshImage false) (import es .calls)) (fresh-bytes false) (formed-fresh false) in (z .bytes, z .formed)
       by false = (y, w)
   stays-entered false r m y p = subst One (sym (p .1)) (y, w)
+
+-- ---- a fresh start: the image shows a fresh controller of that kind, or what it showed
+module _ (l : List ℕ) (v : ℕ) (w : formed l ≡ true) where
+  sized : eqb (length l) imageLength ≡ true
+  sized = eq-eqb (length l) imageLength (formed-length l w)
+
+  left-is : (m : List ℕ) → m ≡ imageIf (eqb (length l) imageLength) (leb v 1) (flagOf v) l → m ≡ imageIf true (leb v 1) (flagOf v) l
+  left-is m e = e ∙ ap (λ (b : Bool). imageIf b (leb v 1) (flagOf v) l) sized
+
+  freshened : (f : Bool) (r : Answer) (m : List ℕ) → FreshensIf f l v r m → steps.Freshens f (view l) v r (view m)
+  freshened true r m p =
+      (p .0 ∙ ap (λ (b : Bool). Replied (refusal (answerIf b (leb v 1)))) sized ∙ answer (leb v 1), ap view (left-is m (p .1)) ∙ by (leb v 1))
+    where
+      answer : (b : Bool) → Replied (refusal (answerIf true b)) ≡ Replied (refusal (cond b 0 2))
+      answer true = refl
+      answer false = refl
+
+      by : (b : Bool) → view (imageIf true b (flagOf v) l) ≡ cond b (fresh (eqb v 1)) (view l)
+      by true = shows-fresh (flagOf v)
+      by false = refl
+  freshened false r m p = (p .0, ap view (p .1))
+
+  stays-fresh : (f : Bool) (r : Answer) (m : List ℕ) → Bytes l → FreshensIf f l v r m → One m
+  stays-fresh true r m y p = subst One (sym (left-is m (p .1))) (by (leb v 1))
+    where
+      by : (b : Bool) → One (imageIf true b (flagOf v) l)
+      by true = (fresh-bytes (flagOf v), formed-fresh (flagOf v))
+      by false = (y, w)
+  stays-fresh false r m y p = subst One (sym (p .1)) (y, w)
 
 -- ---- one line
 module _ (f : Bool) (l t : List ℕ) (r : Answer) (m : List ℕ) (x : Answered f l t r m) (y : Bytes l) (w : formed l ≡ true) where
@@ -101,6 +133,7 @@ module _ (f : Bool) (l t : List ℕ) (r : Answer) (m : List ℕ) (x : Answered f
         sleeps = λ n b os s. let z = night-shows l n b (tableFor os) [] _ m _ (slept n b os s) y w in (x .sleeps n b os s .0 ∙ ap Slept (z .0), z .1);
         enters = λ es s. entered l es w f r m (x .enters es s);
         owns = λ p s. (x .owns p s .0 ∙ ap Owned (read-shown l _ w), ap view (x .owns p s .1));
+        freshens = λ v s. freshened l v w f r m (x .freshens v s);
         refuses = λ n. (x .refuses n .0, ap view (x .refuses n .1));
       }
 
@@ -117,6 +150,7 @@ module _ (f : Bool) (l t : List ℕ) (r : Answer) (m : List ℕ) (x : Answered f
       asked (night n b os) s = let z = shows-run (night-calling l n b (tableFor os) [] _ m _ (slept n b os s)) y w in (z .bytes, z .formed)
       asked (imports es) s = stays-entered l es w f r m y (x .enters es s)
       asked (owner p) s = same (x .owns p s .1)
+      asked (freshly v) s = stays-fresh l v w f r m y (x .freshens v s)
 
       by : Readable (replicate 5140 0) t ⊎ Unread (replicate 5140 0) t → One m
       by (inl a) = asked (a .asked) (a .says)
@@ -147,12 +181,12 @@ prints l bytes text m x y w =
 
 -- ---- the whole
 pub printed :
-    (l k : List ℕ) (u : Reply) {room bytes text i n out m after kept : List ℕ} {q : Session} {end : ℕ} → length l ≡ imageLength → Freshens l u k →
+    (l k : List ℕ) (u : Reply) {room bytes text i n out m after kept : List ℕ} {q : Session} {end : ℕ} → length l ≡ imageLength → Freshens l 0 u k →
     length room ≡ 5140 → Runs k room begins bytes text q i n → EndsInput i out n (emptied q) end m after kept →
-    Prints fresh bytes (text ++ take end after) (view m)
+    Prints (fresh false) bytes (text ++ take end after) (view m)
 printed l k u {bytes = bytes} {text = text} {m = m} {after = after} {end = end} e f h x y =
-    let g : k ≡ freshImage = f .1 ∙ ap (λ (b : Bool). imageIf b l) (eq-eqb _ _ e) in
-    let t : Transcript freshImage bytes (text ++ take end after) m =
+    let g : k ≡ freshImage false = fresh-is false l k u e f in
+    let t : Transcript (freshImage false) bytes (text ++ take end after) m =
     subst (λ (j : List ℕ). Transcript j bytes (text ++ take end after) m) g (transcribed h x y) in
-    subst (λ (s : State). Prints s bytes (text ++ take end after) (view m)) shows-fresh
-    (prints freshImage bytes (text ++ take end after) m t fresh-bytes formed-fresh)
+    subst (λ (s : State). Prints s bytes (text ++ take end after) (view m)) (shows-fresh false)
+    (prints (freshImage false) bytes (text ++ take end after) m t (fresh-bytes false) (formed-fresh false))

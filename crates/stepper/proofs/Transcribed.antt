@@ -11,7 +11,7 @@ use lib.Seq.{sets, length-sets}
 use Rattle.kinds.specs.Outcome.{both}
 use Rattle.machine.specs.Import.{Entry}
 use Rattle.lines.specs.declared.reading.Reader.{Reader}
-use Rattle.lines.specs.Forms.{Asked, calls, why, night, imports, owner}
+use Rattle.lines.specs.Forms.{Asked, calls, why, night, imports, owner, freshly}
 use Rattle.lines.specs.Grammar.{Says, Item, plain, inner, close, undo}
 use Rattle.lines.specs.Reading.{letterAt, fresh, pushed, pushedIn, stepped, low, high, twoAt, pairsOf, filledBy, closedAt, lastIn, finished, ran, said, saidIn}
 use Rattle.lines.proofs.Goes.{tells, adds}
@@ -19,14 +19,14 @@ use Rattle.lines.proofs.Rooms.{Room, put, roomOf, ended-puts, pushed-puts}
 use Rattle.lines.proofs.Readable.{Readable, Unread, read-right}
 use Rattle.stepper.specs.declared.Session.{Session}
 use Rattle.stepper.specs.declared.Answer.{Answer}
-use Rattle.stepper.specs.Answers.{lineFor, Answers, begins-if-only}
+use Rattle.stepper.specs.Answers.{lineFor, Answers, first-only}
 use Rattle.stepper.specs.Ended.{Ends}
 use Rattle.stepper.specs.Fed.{emptied, TakesIf, Feeds, none, next, EndsLastIf}
 use Rattle.stepper.specs.Closed.{closing, EndsInput}
 use Rattle.stepper.specs.Runs.{begins, Runs, start, block}
 use Rattle.stepper.specs.Transcript as transcript
 use Rattle.stepper.specs.Transcript.{linesFrom, restFrom, lastLine, importing, Answered, Told, replyLines, Transcript}
-use Rattle.stepper.proofs.Joint.{answers-said, explains-said, sleeps-said, enters-said, owns-said, refuses-unsaid}
+use Rattle.stepper.proofs.Joint.{answers-said, explains-said, sleeps-said, enters-said, owns-said, freshens-said, refuses-unsaid}
 
 -- ---- the room keeps its length
 two-length : (m : List ℕ) (at v : ℕ) → length (twoAt m at v) ≡ length m
@@ -116,6 +116,7 @@ answered f l line begun room t out used end m after s x =
       sleeps = λ n b os y. sleeps-said f t (s .from) l r m q (s .before) n b os y;
       enters = λ es y. enters-said f t (s .from) l r m q (s .before) es y;
       owns = λ p y. owns-said f t (s .from) l r m q (s .before) p y;
+      freshens = λ v y. freshens-said f t (s .from) l r m q (s .before) v y;
       refuses = λ y. refuses-unsaid f t (s .from) l r m q y;
     }
 
@@ -297,8 +298,9 @@ answered-only f l t r q m n x y = by (read-right (replicate 5140 0) t refl)
     asked (calls c) s = both (x .asks c s) (y .asks c s)
     asked (why k j i) s = both (x .explains k j i s) (y .explains k j i s)
     asked (night k b os) s = both (x .sleeps k b os s) (y .sleeps k b os s)
-    asked (imports es) s = begins-if-only f l (importing l es) r q m n (x .enters es s) (y .enters es s)
+    asked (imports es) s = first-only f _ _ l (x .enters es s) (y .enters es s)
     asked (owner p) s = both (x .owns p s) (y .owns p s)
+    asked (freshly v) s = first-only f _ _ l (x .freshens v s) (y .freshens v s)
 
     by : Readable (replicate 5140 0) t ⊎ Unread (replicate 5140 0) t → (r ≡ q) × (m ≡ n)
     by (inl a) = asked (a .asked) (a .says)

@@ -4,20 +4,23 @@ use Prim.Native.Nat.{ℕ, zero, suc, _+_, _*_}
 use mathlib.Core.Path.{_≡_}
 use mathlib.Core.List.{List, [], _∷_, _++_}
 use mathlib.Core.Bool.{Bool, true, false, cond}
-use lib.Dec.{ltb}
+use lib.Dec.{eqb, ltb, leb}
 use lib.ListN.{length, take, getD}
 use Rattle.kinds.specs.Events.{refusal}
 use Rattle.kinds.specs.Outcome.{both}
 use Rattle.machine.specs.Calls as machine
 use Rattle.machine.specs.Import.{Import}
 use Rattle.machine.specs.Reads.{ofOwner}
+use Rattle.image.specs.Layout.{imageLength}
+use Rattle.image.specs.Records.{flagOf}
 use Rattle.image.specs.View.{written}
 use Rattle.lines.specs.declared.reading.Line.{Line}
 use Rattle.lines.specs.declared.reading.Call.{Call}
-use Rattle.lines.specs.declared.reading.Call.the-variants.{Unreadable, Append, Rollback, Start, Stop, Connect, Disconnect, Master, Sync, Work, Fold, Why, Night, Import as ImportLine, Owner}
+use Rattle.lines.specs.declared.reading.Call.the-variants.{Unreadable, Append, Rollback, Start, Stop, Connect, Disconnect, Master, Sync, Work, Fold, Why, Night, Import as ImportLine, Owner, Fresh}
 use Rattle.lines.specs.Replies.{replyLine, whyLine, nightLine, importLine, ownerLine}
 use Rattle.controller.specs.Bytes.{appendOf}
 use Rattle.controller.specs.Claims.{outcomeOf}
+use Rattle.controller.specs.Fresh.{answerIf, imageIf}
 use Rattle.controller.specs.Reads.{readOf}
 use Rattle.controller.specs.Reasons.{whyOf}
 use Rattle.controller.specs.Nights.{lentFrom, given, nightIn}
@@ -74,14 +77,21 @@ Sleeps l n b os a m = let w = nightIn l n b os in (a ≡ Slept (given w [])) × 
 abbrev pub Refuses : List ℕ → Answer → List ℕ → Type 0
 Refuses l a m = (a ≡ Replied (refusal 2)) × (m ≡ l)
 
--- an import (order 6): the image is what it leaves, or, refused, what it had been
-abbrev pub Begins : List ℕ → Import → Answer → List ℕ → Type 0
-Begins l x a m = (a ≡ Began (told x)) × (m ≡ imageAfter x l)
+-- what stands in place of the fresh start is read as the first line only: the answer a and the image m are those of that line;
+-- behind another line it cannot be read
+abbrev pub First : Bool → (answer : Answer) → (left : List ℕ) → List ℕ → Answer → List ℕ → Type 0
+First true x k l a m = (a ≡ x) × (m ≡ k)
+First false x k l a m = Refuses l a m
 
--- it stands in place of the fresh start, so it is read as the first line only; behind another line it cannot be read
+-- an import (order 6): the image is what it leaves, or, refused, what it had been
 abbrev pub BeginsIf : Bool → List ℕ → Import → Answer → List ℕ → Type 0
-BeginsIf true l x a m = Begins l x a m
-BeginsIf false l x a m = Refuses l a m
+BeginsIf f l x a m = First f (Began (told x)) (imageAfter x l) l a m
+
+-- a fresh start of either kind (order 13), as the controller makes it (controller Fresh)
+abbrev pub FreshensIf : Bool → List ℕ → (remembers : ℕ) → Answer → List ℕ → Type 0
+FreshensIf f l v a m =
+    let sized = eqb (length l) imageLength in
+    First f (Replied (refusal (answerIf sized (leb v 1)))) (imageIf sized (leb v 1) (flagOf v) l) l a m
 
 -- what a line asks for, with the bytes b of its room, on the image l; f tells whether it is the first line
 abbrev pub AnswersCall : Bool → Call → List ℕ → List ℕ → Answer → List ℕ → Type 0
@@ -100,15 +110,16 @@ AnswersCall f (Why n j i) b l a m = Explains l n j i a m
 AnswersCall f (Night n k) b l a m = Sleeps l n k (tableIn b) a m
 AnswersCall f ImportLine b l a m = BeginsIf f l (importIn l b) a m
 AnswersCall f (Owner p) b l a m = Owns l p a m
+AnswersCall f (Fresh v) b l a m = FreshensIf f l v a m
 
 -- they are the first `length` bytes of the room
 abbrev pub Answers : Bool → List ℕ → Line → List ℕ → Answer → List ℕ → Type 0
 Answers f l line room a m = AnswersCall f (line .call) (take (line .length) room) l a m
 
 -- ---- no second outcome
-pub begins-if-only : (f : Bool) (l : List ℕ) (x : Import) (r q : Answer) (m n : List ℕ) → BeginsIf f l x r m → BeginsIf f l x q n → (r ≡ q) × (m ≡ n)
-begins-if-only true l x r q m n = both
-begins-if-only false l x r q m n = both
+pub first-only : (f : Bool) (x : Answer) (k l : List ℕ) {r q : Answer} {m n : List ℕ} → First f x k l r m → First f x k l q n → (r ≡ q) × (m ≡ n)
+first-only true x k l = both
+first-only false x k l = both
 
 answers-call-only :
     (f : Bool) (c : Call) (b l : List ℕ) (r q : Answer) (m n : List ℕ) → AnswersCall f c b l r m → AnswersCall f c b l q n → (r ≡ q) × (m ≡ n)
@@ -125,8 +136,9 @@ answers-call-only f (Work i j k o c) b l r q m n = both
 answers-call-only f (Fold i) b l r q m n = both
 answers-call-only f (Why i j k) b l r q m n = both
 answers-call-only f (Night i k) b l r q m n = both
-answers-call-only f ImportLine b l r q m n = begins-if-only f l (importIn l b) r q m n
+answers-call-only f ImportLine b l r q m n = first-only f _ _ l
 answers-call-only f (Owner p) b l r q m n = both
+answers-call-only f (Fresh v) b l r q m n = first-only f _ _ l
 
 pub answers-only :
     (f : Bool) (l : List ℕ) (line : Line) (room : List ℕ) (r q : Answer) (m n : List ℕ) → Answers f l line room r m → Answers f l line room q n →

@@ -9,10 +9,10 @@ use lib.ListN.{length}
 use Rattle.machine.specs.Calls.{Call}
 use Rattle.machine.specs.Import.{Entry, Import, import}
 use Rattle.image.specs.Layout.{imageLength}
-use Rattle.lines.specs.Forms.{Asked, calls, why, night, imports, owner}
+use Rattle.lines.specs.Forms.{Asked, calls, why, night, imports, owner, freshly}
 use Rattle.lines.specs.Grammar.{Says}
 use Rattle.stepper.specs.declared.Answer.{Answer}
-use Rattle.stepper.specs.Answers.{lineFor, Replies, Explains, tableFor, Sleeps, Refuses, BeginsIf, Owns}
+use Rattle.stepper.specs.Answers.{lineFor, Replies, Explains, tableFor, Sleeps, Refuses, BeginsIf, Owns, FreshensIf}
 use Rattle.stepper.specs.Closed.{closing}
 
 -- ---- the lines of some bytes
@@ -40,15 +40,16 @@ abbrev pub importing : List ℕ → List Entry → Import
 importing l es = cond (eqb (length l) imageLength) (import es) (record { answer = 1; position = 0; calls = [] })
 
 -- the line t on the image l: a line that says a call is replied what is decided for it; one that asks why, the reason; one that
--- asks for a night, how it went; one that says an import, whether it is taken, if it is the first line, else 2; one that asks who
--- set a path, that number; one that says nothing, 2; and but for a call, a night and an import every byte is what it had been. f
--- tells whether it is the first line
+-- asks for a night, how it went; one that says an import or a fresh start, whether it is taken, if it is the first line, else 2;
+-- one that asks who set a path, that number; one that says nothing, 2; and but for a call, a night, an import and a fresh start
+-- every byte is what it had been. f tells whether it is the first line
 pub record Answered (f : Bool) (l t : List ℕ) (r : Answer) (m : List ℕ) : Type 0 where
   pub asks : (c : Call) → Says t (calls c) → Replies l c r m
   pub explains : (n j i : ℕ) → Says t (why n j i) → Explains l n j i r m
   pub sleeps : (n b : ℕ) (os : List ℕ) → Says t (night n b os) → Sleeps l n b (tableFor os) r m
   pub enters : (es : List Entry) → Says t (imports es) → BeginsIf f l (importing l es) r m
   pub owns : (p : ℕ) → Says t (owner p) → Owns l p r m
+  pub freshens : (v : ℕ) → Says t (freshly v) → FreshensIf f l v r m
   pub refuses : ((x : Asked) → Says t x → ⊥) → Refuses l r m
 
 -- the lines on the image l were replied one after another, and m is left; f tells whether no line came before them

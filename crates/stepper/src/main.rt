@@ -12,7 +12,7 @@ ghost use Rattle.controller.specs.Bytes.{appendOf};
 ghost use Rattle.controller.specs.Claims.{Claims};
 ghost use Rattle.controller.specs.Imports.{importIn};
 ghost use Rattle.stepper.specs.declared.Answer.the-variants.{Slept};
-ghost use Rattle.stepper.specs.Answers.{Answers, Sleeps, placesIn, tableIn, BeginsIf, lineFor};
+ghost use Rattle.stepper.specs.Answers.{Answers, Sleeps, placesIn, tableIn, BeginsIf, FreshensIf, lineFor};
 ghost use Rattle.stepper.specs.Ended.{answerRoom};
 ghost use Rattle.stepper.specs.Fed.{emptied, EndsLine, Takes, Feeds, EndsLast};
 ghost use Rattle.stepper.specs.Closed.{Closes, EndsInput};
@@ -120,6 +120,16 @@ fn import(image: &mut [u8], room: &[u8], n: usize, first: bool) -> Answer
     Answer::Replied(Reply::of(2))
 }
 
+// A fresh start of a switch that remembers (1) or forgets (0), the same.
+fn fresh(image: &mut [u8], remembers: u16, first: bool) -> Answer
+    ensures { λ r. ⌜ FreshensIf first (now (image .entry)) remembers r (now (image .exit)) ⌝ }
+{
+    if first {
+        return Answer::Replied(controller::fresh(image, remembers));
+    }
+    Answer::Replied(Reply::of(2))
+}
+
 // What a line asks for, asked of the image; an append's pairs stand in the room; an unreadable line is refused with 2.
 fn ask(image: &mut [u8], line: Line, room: &[u8], first: bool) -> Answer
     requires { ⌜ line .length ≤ length (now room) ⌝ }
@@ -154,6 +164,7 @@ fn ask(image: &mut [u8], line: Line, room: &[u8], first: bool) -> Answer
         Call::Night { node, budget } => Answer::Slept(night(image, node, budget, room, n)),
         Call::Import => import(image, room, n, first),
         Call::Owner(path) => Answer::Owned(controller::owner(image, path)),
+        Call::Fresh(remembers) => fresh(image, remembers, first),
     }
 }
 
@@ -361,7 +372,7 @@ fn write_end(image: &mut [u8], out: &mut [u8; ANSWERS], room: &mut [u8; 5140], s
 // After a failure no closing line is written: what was written is then known not to be the whole.
 fn main() {
     let mut image = [0u8; controller::IMAGE_LENGTH];
-    controller::fresh(&mut image);
+    controller::fresh(&mut image, 0);
     let mut out = [0u8; ANSWERS];
     let mut room = [0u8; 5140];
     let turn = read_all(&mut image, &mut out, &mut room);

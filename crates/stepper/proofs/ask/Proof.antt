@@ -1,4 +1,4 @@
--- `ask` makes the call that the line asks for, asks why or who set a path, makes a night or imports. Assumes nothing.
+-- `ask` makes the call that the line asks for, asks why or who set a path, makes a night, imports or begins anew. Assumes nothing.
 use mathlib.Core.Path.{refl, ap}
 use Rattle.stepper.specs.declared.Answer.the-variants.{Replied, Explained, Owned}
 use Rattle.stepper.proofs.Answered.{asked, replied}
@@ -95,6 +95,12 @@ enum-known-call-10 c = search needs
 
 owner-requires : tie.Need-owner-requires
 owner-requires c κs = search needs
+
+enum-known-call-11 : tie.Need-enum-known-call-11
+enum-known-call-11 c = search needs
+
+fresh-requires : tie.Need-fresh-requires
+fresh-requires c κs = search needs
 
 returns : tie.Need-returns
 returns c = asked (c .before .before .before .before .before .args .first) (c .before .before .before .before .before .args .line) _ _ _ _ _ (c .before .enum-told .given .1) (ap Replied (c .of .ensures), refl)
@@ -196,6 +202,13 @@ returns-15 : tie.Need-returns-15
 returns-15 c = asked (c .before .before .before .before .before .before .before .args .first) (c .before .before .before .before .before .before .before .args .line) _ _ _ _ _
     (c .before .before .before .call10 .given .1) (ap Owned (c .owner .ensures), refl)
 
+same-length-15 : tie.Need-same-length-15
+same-length-15 c = search needs
+
+returns-16 : tie.Need-returns-16
+returns-16 c = asked (c .before .before .before .before .before .before .before .before .before .args .first) (c .before .before .before .before .before .before .before .before .before .args .line) _ _ _ _ _
+    (c .before .before .before .before .before .call11 .given .1) (c .before .before .fresh .ensures)
+
 pub ask-spec : {M : Type 1} → statement M
 ask-spec =
     tie.close
@@ -230,6 +243,8 @@ ask-spec =
     import-requires
     enum-known-call-10
     owner-requires
+    enum-known-call-11
+    fresh-requires
     returns
     same-length
     returns-2
@@ -258,4 +273,6 @@ ask-spec =
     same-length-13
     returns-14
     same-length-14
-    returns-15)
+    returns-15
+    same-length-15
+    returns-16)

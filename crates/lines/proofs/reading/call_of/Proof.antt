@@ -62,7 +62,11 @@ returns-14 c = rw (c .match .keys14)
 
 returns-15 : tie.Need-returns-15
 unfolding callOf
-returns-15 c = simp (
+returns-15 c = rw (c .match .keys15)
+
+returns-16 : tie.Need-returns-16
+unfolding callOf
+returns-16 c = simp (
   ne-eqb _ _ (c .match .rest .1),
   ne-eqb _ _ (c .match .rest .0 .1),
   ne-eqb _ _ (c .match .rest .0 .0 .1),
@@ -77,6 +81,7 @@ returns-15 c = simp (
   ne-eqb _ _ (c .match .rest .0 .0 .0 .0 .0 .0 .0 .0 .0 .0 .0 .1),
   ne-eqb _ _ (c .match .rest .0 .0 .0 .0 .0 .0 .0 .0 .0 .0 .0 .0 .1),
   ne-eqb _ _ (c .match .rest .0 .0 .0 .0 .0 .0 .0 .0 .0 .0 .0 .0 .0 .1),
+  ne-eqb _ _ (c .match .rest .0 .0 .0 .0 .0 .0 .0 .0 .0 .0 .0 .0 .0 .0 .1),
 )
 
 pub call-of-spec : {M : Type 1} → statement M
@@ -97,4 +102,5 @@ call-of-spec =
     returns-12
     returns-13
     returns-14
-    returns-15)
+    returns-15
+    returns-16)

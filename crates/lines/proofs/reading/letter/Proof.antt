@@ -49,6 +49,9 @@ cell-requires-13 c κs = search needs
 cell-requires-14 : tie.Need-cell-requires-14
 cell-requires-14 c κs = search needs
 
+cell-requires-15 : tie.Need-cell-requires-15
+cell-requires-15 c κs = search needs
+
 returns : tie.Need-returns
 unfolding size
 returns c = in-row _ 0 _ (c .before .match .keys1) (omega arith) (c .cell .ensures)
@@ -107,7 +110,11 @@ returns-14 c = in-row _ 13 _ (c .before .match .keys14) (omega arith) (c .cell14
 
 returns-15 : tie.Need-returns-15
 unfolding size
-returns-15 c = sym (past-table _ (let h = beyond (left 0) _ (c .match .rest) in omega arith))
+returns-15 c = in-row _ 14 _ (c .before .match .keys15) (omega arith) (c .cell15 .ensures)
+
+returns-16 : tie.Need-returns-16
+unfolding size
+returns-16 c = sym (past-table _ (let h = beyond (left 0) _ (c .match .rest) in omega arith))
 
 pub letter-spec : {M : Type 1} → statement M
 letter-spec =
@@ -127,6 +134,7 @@ letter-spec =
     cell-requires-12
     cell-requires-13
     cell-requires-14
+    cell-requires-15
     returns
     returns-2
     returns-3
@@ -141,4 +149,5 @@ letter-spec =
     returns-12
     returns-13
     returns-14
-    returns-15)
+    returns-15
+    returns-16)
