@@ -1,6 +1,7 @@
 /* edge.c: what makowist.h promises at its edges, held from C: nothing lent, memory that ends or begins at a page that is not
  * mapped, numbers of more than 16 bits in every argument, names, pairs that have no 16 bits, the list in bytes, who set a path,
- * reasons with what they name, nights with their events, pushes that are cut, and old lists that are imported.
+ * reasons with what they name, nights with their events, pushes that are cut, old lists that are imported, and targets that forget
+ * and that remember.
  *
  * What is lent else is from the heap and as long as is said, so that the tools that watch memory see a byte too many. Ends with 1
  * at the first promise that does not hold. */
@@ -38,7 +39,7 @@ static uint8_t *copied(const uint8_t *bytes, size_t length) { return memcpy(lent
 
 typedef uint64_t function(uint8_t *image, size_t length, const uint64_t *n);
 
-static uint64_t fresh(uint8_t *image, size_t length, const uint64_t *n) { return (void)n, makowist_fresh(image, length); }
+static uint64_t fresh(uint8_t *image, size_t length, const uint64_t *n) { return makowist_fresh(image, length, n[0]); }
 static uint64_t append(uint8_t *image, size_t length, const uint64_t *n) {
     return (void)n, makowist_append(image, length, NULL, 0);
 }
@@ -95,7 +96,7 @@ struct call {
 };
 
 static const struct call calls[] = {
-    {"fresh", fresh, 0, {0}, {0}},
+    {"fresh", fresh, 1, {1}, {RANGE}},
     {"append", append, 0, {0}, {0}},
     {"rollback", rollback, 1, {LAST}, {NUMBER}},
     {"start", start, 0, {0}, {0}},
@@ -125,9 +126,9 @@ static void accepted(uint64_t reply, const char *what) {
     hold(makowist_reply_answer(reply) == MAKOWIST_ACCEPTED, what, "accepted", reply);
 }
 
-static uint8_t *opened(void) {
+static uint8_t *opened_of(uint64_t remembers) {
     uint8_t *image = lent(LENGTH);
-    accepted(makowist_fresh(image, LENGTH), "fresh");
+    accepted(makowist_fresh(image, LENGTH, remembers), "fresh");
     accepted(makowist_start(image, LENGTH), "start");
     accepted(makowist_connect(image, LENGTH, 1), "connect");
     accepted(makowist_master(image, LENGTH, 1), "master");
@@ -135,6 +136,8 @@ static uint8_t *opened(void) {
     accepted(makowist_sync(image, LENGTH, 1), "sync");
     return image;
 }
+
+static uint8_t *opened(void) { return opened_of(MAKOWIST_FORGETS); }
 
 /* A log led to LAST, all of it committed and applied, and folded up to FOLDED. */
 static uint8_t *led(void) {
@@ -657,7 +660,7 @@ static void import_is_its_calls(void) {
     put_two(list + ENTRY, 9);
     makowist_put_rollback(list + 2 * ENTRY, 2);
     put_two(list + 3 * ENTRY, 0);
-    accepted(makowist_fresh(image, LENGTH), "fresh");
+    accepted(makowist_fresh(image, LENGTH, MAKOWIST_FORGETS), "fresh");
     accepted(makowist_start(image, LENGTH), "start");
     accepted(makowist_connect(image, LENGTH, 1), "connect");
     accepted(makowist_master(image, LENGTH, 1), "master");
@@ -759,6 +762,86 @@ static void imports(void) {
     import_full();
 }
 
+/* ---- Targets that forget, and that remember. */
+
+/* Makes calls of node 1 behind which the line is open again, and answers how many paths the synchronise wrote. */
+static unsigned synchronised(uint8_t *image) {
+    accepted(makowist_connect(image, LENGTH, 1), "connect");
+    accepted(makowist_master(image, LENGTH, 1), "master");
+    accepted(makowist_master(image, LENGTH, 1), "master");
+    uint64_t reply = makowist_sync(image, LENGTH, 1);
+    hold(reply == MAKOWIST_ACCEPTED, "sync", "no number where it begins", reply);
+    reply = makowist_sync(image, LENGTH, 1);
+    accepted(reply, "sync");
+    hold(reply == (uint64_t)makowist_reply_number(reply) << 32, "sync", "nothing but answer and number", reply);
+    for (uint64_t path = 0; path < MAKOWIST_PATHS; ++path)
+        hold(makowist_value(image, LENGTH, MAKOWIST_TABLE_TARGET, path) ==
+                 makowist_value(image, LENGTH, MAKOWIST_TABLE_APPLIED, path),
+             "sync", "the target has the applied values", path);
+    return makowist_reply_number(reply);
+}
+
+static unsigned power_cycled(uint8_t *image) {
+    accepted(makowist_stop(image, LENGTH), "stop");
+    accepted(makowist_start(image, LENGTH), "start");
+    return synchronised(image);
+}
+
+/* Appends a change of four paths from that one on and has it pushed, with that cut. */
+static void pushed(uint8_t *image, uint64_t path, uint64_t cut) {
+    uint8_t four[4 * MAKOWIST_PAIR_LENGTH];
+    for (unsigned k = 0; k < 4; ++k)
+        makowist_put_pair(four + MAKOWIST_PAIR_LENGTH * k, path + k, 256 + path);
+    uint64_t number = makowist_reply_number(makowist_append(image, LENGTH, four, sizeof four));
+    for (unsigned step = 0; step < 4; ++step)
+        accepted(makowist_work(image, LENGTH, 1, 1 + step / 2, number, 0, step == 3 ? cut : 0), "work");
+}
+
+/* A power cycle with no value, with some, with all, and behind a push that was cut; a line that is lost and opened again. */
+static void remembers(uint64_t kind) {
+    uint8_t *image = opened_of(kind);
+    int keeps = kind == MAKOWIST_REMEMBERS;
+    hold(power_cycled(image) == 0, "remembers", "no value", kind);
+    pushed(image, 0, 0);
+    hold(power_cycled(image) == (keeps ? 0 : 4), "remembers", "four values", kind);
+    for (uint64_t path = 4; path < MAKOWIST_PATHS; path += 4)
+        pushed(image, path, 0);
+    accepted(makowist_stop(image, LENGTH), "stop");
+    hold(path_3(image, MAKOWIST_TABLE_TARGET) == (keeps ? 256 : 0), "remembers", "stopped", kind);
+    hold(path_3(image, MAKOWIST_TABLE_APPLIED) == 256, "remembers", "applied", kind);
+    accepted(makowist_start(image, LENGTH), "start");
+    hold(synchronised(image) == (keeps ? 0 : MAKOWIST_PATHS), "remembers", "all values", kind);
+    pushed(image, 1, MAKOWIST_CUT_AFTER_FIRST);
+    accepted(makowist_disconnect(image, LENGTH, 1), "disconnect");
+    hold(synchronised(image) == 4, "remembers", "a cut push is taken back", kind);
+    accepted(makowist_work(image, LENGTH, 1, 2, 9, 0, MAKOWIST_CUT_AFTER_FIRST), "work");
+    hold(power_cycled(image) == (keeps ? 4 : MAKOWIST_PATHS), "remembers", "a cut push, and no power", kind);
+    uint64_t reply = makowist_sync(image, LENGTH, 1);
+    hold(reply == MAKOWIST_NO_RULE, "sync", "no number where it is refused", reply);
+    free(image);
+}
+
+/* A flag that is none, in the call and in the image. */
+static void flags(void) {
+    uint8_t *image = opened_of(MAKOWIST_REMEMBERS), *before = copied(image, LENGTH), *forgets = opened();
+    size_t at = 0;
+    while (at < LENGTH && image[at] == forgets[at])
+        ++at;
+    hold(at < LENGTH && image[at] == 1 && forgets[at] == 0, "remembers", "the flag's byte", at);
+    hold(memcmp(image + at + 1, forgets + at + 1, LENGTH - at - 1) == 0, "remembers", "one byte tells the kinds apart", at);
+    for (unsigned flag = 2; flag <= UINT8_MAX; ++flag) {
+        hold(makowist_fresh(image, LENGTH, flag) == RANGE, "fresh", "a flag above 1", flag);
+        hold(memcmp(image, before, LENGTH) == 0, "fresh, refused", "every byte as it was", flag);
+        hold(makowist_fresh(image, LENGTH - 1, flag) == MAKOWIST_NOT_WELL_FORMED, "fresh", "the length first", flag);
+        image[at] = (uint8_t)flag;
+        hold(makowist_well_formed(image, LENGTH) == MAKOWIST_NOT_WELL_FORMED, "well-formed", "a flag above 1", flag);
+        image[at] = 1;
+    }
+    free(image);
+    free(before);
+    free(forgets);
+}
+
 int main(void) {
     uint8_t *image = led();
     nothing_lent(image);
@@ -775,6 +858,9 @@ int main(void) {
     nights(image);
     pushes(image);
     imports();
+    remembers(MAKOWIST_FORGETS);
+    remembers(MAKOWIST_REMEMBERS);
+    flags();
     free(image);
     printf("edge: %u checks hold\n", checks);
     return 0;

@@ -17,10 +17,11 @@ pub enum Argument {
     Path,
     Field,
     Budget,
+    Remembers,
 }
 
 impl Argument {
-    pub const ALL: [Argument; 9] = [
+    pub const ALL: [Argument; 10] = [
         Argument::Node,
         Argument::Job,
         Argument::Number,
@@ -30,6 +31,7 @@ impl Argument {
         Argument::Path,
         Argument::Field,
         Argument::Budget,
+        Argument::Remembers,
     ];
 }
 
@@ -39,7 +41,8 @@ pub type Numbers<'a> = Vec<(Argument, &'a mut u64)>;
 impl Request {
     pub fn numbers(&mut self) -> Numbers<'_> {
         match self {
-            Request::Fresh | Request::Append(_) | Request::Start | Request::Stop => Vec::new(),
+            Request::Append(_) | Request::Start | Request::Stop => Vec::new(),
+            Request::Fresh(remembers) => vec![(Argument::Remembers, remembers)],
             Request::Rollback(number) | Request::Fold(number) => vec![(Argument::Number, number)],
             Request::Connect(node) | Request::Disconnect(node) | Request::Master(node) | Request::Sync(node) => {
                 vec![(Argument::Node, node)]

@@ -276,6 +276,8 @@ pub struct Connection {
 pub struct Target {
     pub id: u32,
     pub running: bool,
+    /// Whether it keeps its values while it is stopped (order 13). Fixed when the controller is fresh.
+    pub remembers: bool,
     pub values: Values,
 }
 
@@ -379,7 +381,13 @@ pub struct Event {
 }
 
 impl State {
+    /// A fresh controller of a target that forgets.
     pub fn fresh() -> State {
+        State::fresh_of(false)
+    }
+
+    /// A fresh controller of a target of either kind.
+    pub fn fresh_of(remembers: bool) -> State {
         State {
             folded: Number::NONE,
             base: [0; PATHS],
@@ -403,7 +411,7 @@ impl State {
             configuration: Configuration { state: ConfigurationState::Pending, term: Term(0) },
             mastership: Mastership { master: None, term: Term(0), conn: 0 },
             connections: [Connection::default(); NODES],
-            target: Target { id: 0, running: false, values: [0; PATHS] },
+            target: Target { id: 0, running: false, remembers, values: [0; PATHS] },
         }
     }
 
@@ -424,6 +432,17 @@ impl State {
             && revision <= change
             && ordinal <= Ordinal::LIMIT
             && applied.ordinal <= Ordinal::LIMIT
+    }
+
+    /// Makes the state a fresh one, whatever it was.
+    pub fn freshen(&mut self, remembers: u64) -> Result<(), Refusal> {
+        let remembers = match remembers {
+            0 => false,
+            1 => true,
+            _ => return Err(Refusal::OutOfRange),
+        };
+        *self = State::fresh_of(remembers);
+        Ok(())
     }
 
     /// The highest number given.
@@ -476,7 +495,9 @@ impl State {
             return Err(Refusal::AlreadySo);
         }
         self.target.running = false;
-        self.target.values = [0; PATHS];
+        if !self.target.remembers {
+            self.target.values = [0; PATHS];
+        }
         for connection in &mut self.connections {
             connection.connected = false;
         }
@@ -533,8 +554,8 @@ impl State {
         self.mastership.master == Some(node) && connection.connected && connection.id != self.mastership.conn
     }
 
-    /// Begins, or ends, the synchronising of the target with the applied values in a new term.
-    pub fn sync(&mut self, node: u64) -> Result<(), Refusal> {
+    /// Begins, or ends, the synchronising of the target with the applied values in a new term. Answers how many paths it wrote.
+    pub fn sync(&mut self, node: u64) -> Result<u16, Refusal> {
         let node = Node::new(node).ok_or(Refusal::OutOfRange)?;
         if self.mastership.master != Some(node) {
             return Err(Refusal::NotMaster);
@@ -544,14 +565,20 @@ impl State {
         }
         if self.configuration.state != ConfigurationState::InProgress {
             self.configuration.state = ConfigurationState::InProgress;
-            return Ok(());
+            return Ok(0);
         }
         if !self.reaches_target(node) {
             return Err(Refusal::LineNotOpen);
         }
-        self.target.values = self.applied.values;
+        let mut written = 0;
+        for (value, applied) in self.target.values.iter_mut().zip(self.applied.values) {
+            if *value != applied {
+                *value = applied;
+                written += 1;
+            }
+        }
         self.configuration = Configuration { state: ConfigurationState::Complete, term: self.mastership.term };
-        Ok(())
+        Ok(written)
     }
 
     /// One step of one of the four jobs, by a node, on a transaction.

@@ -94,6 +94,13 @@ pub enum Fault {
     UnusedKept,
     /// A fresh image keeps the bytes that carry nothing.
     FreshOverOld,
+    /// An image whose target's flag is above 1 is taken, as of one that remembers, or by the flag's lowest bit (order 13).
+    FlagAboveOneTaken,
+    FlagByLowestBit,
+    /// The flag of a target that remembers is not stored.
+    FlagNotStored,
+    /// An imported target remembers.
+    ImportRemembers,
     /// Of two refusals that follow on each other in a call's order, the second is asked first.
     Swapped(Call, u8, u8),
     /// A reason is given where it is not the one (order 4).
@@ -126,6 +133,7 @@ impl Fault {
         all.extend([Fault::LastNumberForgotten, Fault::WorkWithout18, Fault::ReadWithout18]);
         all.extend(Argument::ALL.iter().flat_map(|argument| [16, 32].map(|bits| Fault::Narrowed(*argument, bits))));
         all.extend([Fault::OddRoomTakenAsMore, Fault::UnusedKept, Fault::FreshOverOld]);
+        all.extend([Fault::FlagAboveOneTaken, Fault::FlagByLowestBit, Fault::FlagNotStored, Fault::ImportRemembers]);
         all.extend(Slip::ALL.iter().copied().map(Fault::Outside));
         all.extend(Swapped::all().map(|Swapped(call, first, then)| Fault::Swapped(call, first, then)));
         all.extend(Guess::all().into_iter().map(Fault::Why));
@@ -212,13 +220,20 @@ impl Fault {
 
     /// Whether it is one of imports alone.
     pub fn is_of_imports(self) -> bool {
-        matches!(self, Fault::Import(_))
+        matches!(self, Fault::Import(_) | Fault::ImportRemembers)
     }
 
     /// As `northbound::import`, with this fault in it.
     pub fn import(self, image: &mut [u8], list: &[u8]) -> u64 {
         match self {
             Fault::Import(blunder) => blunder.import(image, list),
+            Fault::ImportRemembers => {
+                let reply = northbound::import(image, list);
+                if reply == 0 {
+                    image[at::REMEMBERS] = 1;
+                }
+                reply
+            }
             _ => northbound::import(image, list),
         }
     }
@@ -232,6 +247,8 @@ impl Fault {
     pub fn decode(self, bytes: &[u8]) -> Option<State> {
         match self {
             Fault::Owner(claim) => claim.decode(bytes),
+            Fault::FlagAboveOneTaken => decode_with_flag(bytes, |flag| flag.min(1)),
+            Fault::FlagByLowestBit => decode_with_flag(bytes, |flag| flag & 1),
             _ => image::decode(bytes),
         }
     }
@@ -334,10 +351,13 @@ impl Fault {
         let before = image.to_vec();
         image[..at::HIGHEST].rotate_left(slots);
         match (self, request) {
-            (Fault::FreshOverOld, Request::Fresh) => image::encode(state, image),
+            (Fault::FreshOverOld, Request::Fresh(_)) => image::encode(state, image),
             _ => northbound::store(state, request, image),
         }
         image[..at::HIGHEST].rotate_right(slots);
+        if self == Fault::FlagNotStored {
+            image[at::REMEMBERS] = 0;
+        }
         if let (Fault::UnusedKept, Request::Append(_)) = (self, request) {
             let (old, new) = (entry_at(&before, state.highest()), entry_at_mut(image, state.highest()));
             let pairs = usize::from(new[entry::PAIRS]);
@@ -504,6 +524,14 @@ fn narrow(numbers: Numbers, argument: Argument, bits: u32) {
     for (_, number) in numbers.into_iter().filter(|(each, _)| *each == argument) {
         *number &= (1 << bits) - 1;
     }
+}
+
+/// What bytes decode to, the target's flag read so.
+fn decode_with_flag(bytes: &[u8], read: impl FnOnce(u8) -> u8) -> Option<State> {
+    let mut bytes = bytes.to_vec();
+    let flag = bytes.get_mut(at::REMEMBERS)?;
+    *flag = read(*flag);
+    image::decode(&bytes)
 }
 
 fn with_cut(request: &Request, cut: u64) -> Request {

@@ -9,7 +9,7 @@ use crate::controller::{
 };
 
 /// An image's length; bytes of any other length are no image.
-pub const LENGTH: usize = 6037;
+pub const LENGTH: usize = 6038;
 
 /// How far apart the slots of the log's ring lie.
 pub const ENTRY: usize = 44;
@@ -59,10 +59,12 @@ pub mod at {
     pub const CONFIGURATION: usize = 5912;
     pub const MASTERSHIP: usize = 5917;
     pub const TARGET: usize = 5926;
-    pub const CONNECTIONS: usize = 5931;
+    pub const RUNNING: usize = 5930;
+    pub const REMEMBERS: usize = 5931;
+    pub const CONNECTIONS: usize = 5932;
     pub const CONNECTION: usize = 5;
-    pub const FOLDED: usize = 5971;
-    pub const BASE: usize = 5973;
+    pub const FOLDED: usize = 5972;
+    pub const BASE: usize = 5974;
 }
 
 pub fn u16_at(bytes: &[u8], at: usize) -> u16 {
@@ -211,7 +213,8 @@ pub fn decode_connections(image: &[u8]) -> Option<[Connection; NODES]> {
 pub fn decode_target(image: &[u8]) -> Option<Target> {
     Some(Target {
         id: u32_at(image, at::TARGET),
-        running: decode_flag(image[at::TARGET + 4])?,
+        running: decode_flag(image[at::RUNNING])?,
+        remembers: decode_flag(image[at::REMEMBERS])?,
         values: decode_values(image, at::TARGET_VALUES),
     })
 }
@@ -326,6 +329,7 @@ pub fn encode_connections(connections: &[Connection; NODES], image: &mut [u8]) {
 
 pub fn encode_target(target: &Target, image: &mut [u8]) {
     put_u32(image, at::TARGET, target.id);
-    image[at::TARGET + 4] = target.running.into();
+    image[at::RUNNING] = target.running.into();
+    image[at::REMEMBERS] = target.remembers.into();
     encode_values(&target.values, image, at::TARGET_VALUES);
 }

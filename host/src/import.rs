@@ -126,7 +126,7 @@ pub fn judge(entries: &[Entry]) -> Result<(), Refused> {
 
 /// The calls that a good list stands for, from fresh.
 pub fn calls(entries: &[Entry]) -> Vec<Request> {
-    let mut calls = vec![Request::Fresh, Request::Start, Request::Connect(1), Request::Master(1)];
+    let mut calls = vec![Request::Fresh(0), Request::Start, Request::Connect(1), Request::Master(1)];
     let (mut numbers, mut changes) = (Vec::new(), 0);
     for entry in entries {
         let (call, job, number) = match entry {
@@ -160,7 +160,7 @@ impl State {
         Ok(state)
     }
 
-    /// A fresh controller whose target runs, with node 1 connected and master.
+    /// A fresh controller whose target, which forgets, runs, with node 1 connected and master.
     pub fn ready() -> State {
         let mut state = State::fresh();
         state.start().and_then(|()| state.connect(1)).and_then(|()| state.master(1)).expect("a fresh controller");

@@ -56,7 +56,8 @@ fn checked(image: &Image) -> Option<Kept> {
         && u32_at(image, at::APPLIED + 6) <= Ordinal::LIMIT.0
         && matches!(image[at::CONFIGURATION], 1..=3)
         && image[at::MASTERSHIP] <= 8
-        && image[at::TARGET + 4] <= 1
+        && image[at::RUNNING] <= 1
+        && image[at::REMEMBERS] <= 1
         && image[at::CONNECTIONS..at::FOLDED].chunks_exact(at::CONNECTION).all(|connection| connection[4] <= 1)
         && entries(image, kept).all(|bytes| {
             number += 1;
@@ -107,7 +108,7 @@ fn on(image: &mut [u8], call: impl FnOnce(&mut Image, Kept) -> Result<Answer, Re
 #[inline]
 pub fn serve(image: &mut [u8], request: &Request, pairs: &[u8]) -> u64 {
     match *request {
-        Request::Fresh => fresh(image),
+        Request::Fresh(remembers) => fresh(image, remembers),
         Request::Append(_) => append(image, pairs),
         Request::Rollback(number) => rollback(image, number),
         Request::Start => start(image),
@@ -122,12 +123,16 @@ pub fn serve(image: &mut [u8], request: &Request, pairs: &[u8]) -> u64 {
 }
 
 #[inline(never)]
-pub fn fresh(image: &mut [u8]) -> u64 {
+pub fn fresh(image: &mut [u8], remembers: u64) -> u64 {
     if image.len() != LENGTH {
         return u64::from(Refusal::NotWellFormed.number());
     }
+    if remembers > 1 {
+        return u64::from(Refusal::OutOfRange.number());
+    }
     image.fill(0);
     image[at::CONFIGURATION] = 1;
+    image[at::REMEMBERS] = remembers as u8;
     0
 }
 
@@ -176,12 +181,12 @@ pub fn rollback(image: &mut [u8], number: u64) -> u64 {
 #[inline(never)]
 pub fn start(image: &mut [u8]) -> u64 {
     on(image, |image, _| {
-        if image[at::TARGET + 4] == 1 {
+        if image[at::RUNNING] == 1 {
             return Err(Refusal::AlreadySo);
         }
         let id = counted(u32_at(image, at::TARGET))?;
         put_u32(image, at::TARGET, id);
-        image[at::TARGET + 4] = 1;
+        image[at::RUNNING] = 1;
         Ok(Answer::Nothing)
     })
 }
@@ -189,11 +194,13 @@ pub fn start(image: &mut [u8]) -> u64 {
 #[inline(never)]
 pub fn stop(image: &mut [u8]) -> u64 {
     on(image, |image, _| {
-        if image[at::TARGET + 4] == 0 {
+        if image[at::RUNNING] == 0 {
             return Err(Refusal::AlreadySo);
         }
-        image[at::TARGET + 4] = 0;
-        image[at::TARGET_VALUES..at::TARGET_VALUES + 64].fill(0);
+        image[at::RUNNING] = 0;
+        if image[at::REMEMBERS] == 0 {
+            image[at::TARGET_VALUES..at::TARGET_VALUES + 64].fill(0);
+        }
         let connections = image[at::CONNECTIONS..at::FOLDED].chunks_exact_mut(at::CONNECTION);
         connections.for_each(|connection| connection[4] = 0);
         Ok(Answer::Nothing)
@@ -221,7 +228,7 @@ pub fn connect(image: &mut [u8], node: u64) -> u64 {
         if connection.connected {
             return Err(Refusal::AlreadySo);
         }
-        if image[at::TARGET + 4] == 0 {
+        if image[at::RUNNING] == 0 {
             return Err(Refusal::TargetStopped);
         }
         put_u32(image, connection_at(node), counted(connection.id)?);
@@ -267,7 +274,7 @@ pub fn master(image: &mut [u8], node: u64) -> u64 {
 /// Whether the node is connected by the connection that mastership names, to a target that runs.
 fn reaches_target(image: &Image, node: Node) -> bool {
     let connection = connection_of(image, node);
-    connection.connected && connection.id == u32_at(image, at::MASTERSHIP + 5) && image[at::TARGET + 4] == 1
+    connection.connected && connection.id == u32_at(image, at::MASTERSHIP + 5) && image[at::RUNNING] == 1
 }
 
 #[inline(never)]
@@ -288,10 +295,17 @@ pub fn sync(image: &mut [u8], node: u64) -> u64 {
         if !reaches_target(image, node) {
             return Err(Refusal::LineNotOpen);
         }
-        image.copy_within(at::APPLIED_VALUES..at::APPLIED_VALUES + 64, at::TARGET_VALUES);
+        let (applied, behind) = image[at::APPLIED_VALUES..].split_at_mut(at::TARGET_VALUES - at::APPLIED_VALUES);
+        let mut written = 0;
+        for (value, applied) in behind[..64].chunks_exact_mut(2).zip(applied[..64].chunks_exact(2)) {
+            if value != applied {
+                value.copy_from_slice(applied);
+                written += 1;
+            }
+        }
         image[at::CONFIGURATION] = 3;
         put_u32(image, at::CONFIGURATION + 1, term);
-        Ok(Answer::Nothing)
+        Ok(Answer::Wrote(written))
     })
 }
 
@@ -489,7 +503,7 @@ const ONCE: [Field; RECORD_FIELDS as usize] = [
     (at::MASTERSHIP + 1, 4),
     (at::MASTERSHIP + 5, 4),
     (at::TARGET, 4),
-    (at::TARGET + 4, 1),
+    (at::RUNNING, 1),
     (at::FOLDED, 2),
 ];
 

@@ -14,7 +14,8 @@ pub enum Line {
     /// Who set that path.
     Owner(u64),
     Night(Night),
-    /// Stands in place of the fresh start: as the first line alone.
+    /// Whether the target remembers. This and an import stand in place of the fresh start: as the first line alone.
+    Fresh(u64),
     Import(Vec<Entry>),
 }
 
@@ -33,6 +34,7 @@ pub fn read(line: &[u8]) -> Option<Line> {
         }
         "owner" => numbers(operands?, ["path"]).map(|[path]| Line::Owner(path)),
         "night" => read_night(operands?).map(Line::Night),
+        "fresh" => numbers(operands?, ["remembers"]).map(|[remembers]| Line::Fresh(remembers)),
         "import" => read_entries(operands?.strip_prefix("entries=")?).map(Line::Import),
         _ => read_call(call, operands).map(Line::Call),
     }
@@ -106,13 +108,14 @@ fn read_number(text: &str) -> Option<u16> {
     })
 }
 
-/// The line that asks for a call. None asks for a fresh image, for pairs that are not whole, or with a number past 65,535.
+/// The line that asks for a call, wherever it stands. None asks so for a fresh image, for pairs that are not whole, or with a number
+/// past 65,535.
 pub fn asking(request: &Request) -> Option<String> {
     if request.clone().numbers().iter().any(|(_, number)| **number > u16::MAX.into()) {
         return None;
     }
     Some(match *request {
-        Request::Fresh => return None,
+        Request::Fresh(_) => return None,
         Request::Append(ref bytes) => {
             format!("call=append pairs={}\n", joined(&pairs_of(bytes)?))
         }
@@ -139,7 +142,7 @@ pub fn written(served: &Served) -> String {
     let (answer, phase, stage, number, status) = match served.reply {
         Err(refusal) => (refusal.number(), 0, 0, 0, 0),
         Ok(Answer::Nothing) => (0, 0, 0, 0, 0),
-        Ok(Answer::Appended(number)) => (0, 0, 0, number.0, 0),
+        Ok(Answer::Appended(Number(number)) | Answer::Wrote(number)) => (0, 0, 0, number, 0),
         Ok(Answer::Told(event)) => (0, event.phase as u8, event.stage as u8, event.number.0, event.status.code()),
     };
     format!("answer={answer} phase={phase} stage={stage} number={number} status={status}\n")
@@ -225,10 +228,11 @@ pub fn stepped(input: &[u8]) -> String {
             Some(Line::Why(question)) => explained(state.why(question)),
             Some(Line::Owner(path)) => owned(state.owner(path)),
             Some(Line::Night(night)) => passed(state.night(&night)),
+            Some(Line::Fresh(remembers)) if place == 0 => written(&act(&mut state, &Request::Fresh(remembers))),
             Some(Line::Import(entries)) if place == 0 => {
                 imported(State::imported(&import::listed(&entries)).map(|imported| state = imported))
             }
-            Some(Line::Import(_)) | None => written(&Served { reply: Err(Refusal::OutOfRange), rule: None }),
+            Some(Line::Fresh(_) | Line::Import(_)) | None => written(&Served { reply: Err(Refusal::OutOfRange), rule: None }),
         });
     }
     output + &closing(&state)

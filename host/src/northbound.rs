@@ -9,7 +9,8 @@ use crate::night::{Night, Passed};
 /// A call of the C interface that changes an image, its numbers as wide as they are there.
 #[derive(Clone, PartialEq, Eq, Hash, Debug)]
 pub enum Request {
-    Fresh,
+    /// Whether the target remembers.
+    Fresh(u64),
     /// The pairs as they are lent: four bytes a pair, path and value.
     Append(Vec<u8>),
     Rollback(u64),
@@ -30,11 +31,12 @@ impl Request {
     }
 }
 
-/// What a call answers: the event, or an append's number, or neither.
+/// What a call answers: the event, or an append's number, or how many paths a synchronise wrote, or nothing.
 #[derive(Clone, Copy, PartialEq, Eq, Debug)]
 pub enum Answer {
     Nothing,
     Appended(Number),
+    Wrote(u16),
     Told(Event),
 }
 
@@ -55,7 +57,7 @@ impl Served {
         match self.reply {
             Err(refusal) => u64::from(refusal.number()),
             Ok(Answer::Nothing) => 0,
-            Ok(Answer::Appended(number)) => u64::from(number.0) << 32,
+            Ok(Answer::Appended(Number(number)) | Answer::Wrote(number)) => u64::from(number) << 32,
             Ok(Answer::Told(event)) => {
                 (event.phase as u64) << 8
                     | (event.stage as u64) << 16
@@ -80,10 +82,7 @@ pub fn bytes_of(pairs: &[(u16, u16)]) -> Vec<u8> {
 /// Carries a request out on a state. A refused one leaves the state as it was.
 pub fn act(state: &mut State, request: &Request) -> Served {
     match *request {
-        Request::Fresh => {
-            *state = State::fresh();
-            Served::plain(Ok(()))
-        }
+        Request::Fresh(remembers) => Served::plain(state.freshen(remembers)),
         Request::Append(ref bytes) => {
             let appended = pairs_of(bytes).ok_or(Refusal::NotAChange).and_then(|pairs| state.append(&pairs));
             Served { reply: appended.map(Answer::Appended), rule: None }
@@ -94,7 +93,7 @@ pub fn act(state: &mut State, request: &Request) -> Served {
         Request::Connect(node) => Served::plain(state.connect(node)),
         Request::Disconnect(node) => Served::plain(state.disconnect(node)),
         Request::Master(node) => Served::plain(state.master(node)),
-        Request::Sync(node) => Served::plain(state.sync(node)),
+        Request::Sync(node) => Served { reply: state.sync(node).map(Answer::Wrote), rule: None },
         Request::Work { node, job, number, outcome, cut } => {
             let worked = state.work(node, job, number, outcome, cut);
             Served { reply: worked.reply.map(|event| event.map_or(Answer::Nothing, Answer::Told)), rule: worked.rule }
@@ -105,7 +104,7 @@ pub fn act(state: &mut State, request: &Request) -> Served {
 
 /// Writes a state that an accepted request led to over the image before it.
 pub fn store(state: &State, request: &Request, image: &mut [u8]) {
-    if *request == Request::Fresh {
+    if matches!(request, Request::Fresh(_)) {
         image.fill(0);
     }
     image::encode(state, image);
@@ -114,7 +113,7 @@ pub fn store(state: &State, request: &Request, image: &mut [u8]) {
 /// Carries a request out on an image: check, decode, act, encode. A refused one leaves the image as it was.
 pub fn serve(image: &mut [u8], request: &Request) -> Served {
     let state = match request {
-        Request::Fresh => (image.len() == image::LENGTH).then(State::fresh),
+        Request::Fresh(_) => (image.len() == image::LENGTH).then(State::fresh),
         _ => image::decode(image),
     };
     let Some(mut state) = state else {

@@ -6,7 +6,7 @@ use crate::why::Question;
 
 mod exported {
     extern "C" {
-        pub fn makowist_fresh(image: *mut u8, length: usize) -> u64;
+        pub fn makowist_fresh(image: *mut u8, length: usize, remembers: u64) -> u64;
         pub fn makowist_append(image: *mut u8, length: usize, pairs: *const u8, pairs_length: usize) -> u64;
         pub fn makowist_rollback(image: *mut u8, length: usize, number: u64) -> u64;
         pub fn makowist_start(image: *mut u8, length: usize) -> u64;
@@ -58,7 +58,7 @@ pub fn serve(image: &mut [u8], request: &Request, pairs: &[u8]) -> u64 {
     // SAFETY: every pointer goes with the length of the slice that it was taken from, and nobody else holds the image.
     unsafe {
         match *request {
-            Request::Fresh => exported::makowist_fresh(bytes, length),
+            Request::Fresh(remembers) => exported::makowist_fresh(bytes, length, remembers),
             Request::Append(_) => exported::makowist_append(bytes, length, pairs.as_ptr(), pairs.len()),
             Request::Rollback(number) => exported::makowist_rollback(bytes, length, number),
             Request::Start => exported::makowist_start(bytes, length),

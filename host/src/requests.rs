@@ -205,7 +205,7 @@ fn any(state: &State, random: &mut Random) -> Request {
         7 => Request::Disconnect(node(random)),
         8 => Request::Master(node(random)),
         9 => Request::Sync(node(random)),
-        10 if random.once_in(40) => Request::Fresh,
+        10 if random.once_in(40) => Request::Fresh(random.one_of(&[0, 0, 1, 1, 2, 255, 65535])),
         _ => {
             let job = if random.once_in(9) { random.one_of(&[0, 5, 256, 257, 65535]) } else { random.between(1, 4) as u64 };
             let outcome = if random.once_in(20) { random.one_of(&[2, 256, 65535]) } else { random.below(2) as u64 };

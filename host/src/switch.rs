@@ -45,7 +45,7 @@ impl Switch {
     pub fn called(&mut self, after: &State, request: &Request, served: &Served) -> Option<MadeGood> {
         let answer = served.reply.ok()?;
         match *request {
-            Request::Fresh => *self = Switch::default(),
+            Request::Fresh(_) => *self = Switch::default(),
             Request::Fold(_) => self.begun.retain(|number| *number > after.folded),
             Request::Sync(_) if after.configuration.state == ConfigurationState::Complete => {
                 return self.half_pushed.take().map(|_| MadeGood::BySync);

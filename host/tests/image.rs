@@ -13,7 +13,7 @@ use makowist_host::why::Question;
 
 fn fresh() -> Vec<u8> {
     let mut bytes = vec![0xa5; LENGTH];
-    assert_eq!(northbound::serve(&mut bytes, &Request::Fresh).packed(), 0);
+    assert_eq!(northbound::serve(&mut bytes, &Request::Fresh(0)).packed(), 0);
     bytes
 }
 
@@ -51,6 +51,7 @@ fn the_layout_ends_where_it_says() {
     assert_eq!(ENTRY * LOG_LIMIT, at::HIGHEST);
     assert_eq!(at::COMMITTED_VALUES + 2 * PATHS, at::OWNERS);
     assert_eq!(at::OWNERS + 2 * PATHS, at::APPLIED);
+    assert_eq!([at::TARGET + 4, at::RUNNING + 1, at::REMEMBERS + 1], [at::RUNNING, at::REMEMBERS, at::CONNECTIONS]);
     assert_eq!(at::CONNECTIONS + 8 * at::CONNECTION, at::FOLDED);
     assert_eq!(at::BASE + 2 * PATHS, LENGTH);
 }
@@ -61,6 +62,16 @@ fn fresh_is_zero_but_for_the_pending_configuration() {
     expected[at::CONFIGURATION] = 1;
     assert_eq!(fresh(), expected);
     assert_eq!(image::decode(&expected), Some(State::fresh()));
+    expected[at::REMEMBERS] = 1;
+    let mut remembering = fresh();
+    assert_eq!(serve(&mut remembering, Request::Fresh(1)), 0);
+    assert_eq!(remembering, expected);
+    assert_eq!(image::decode(&expected), Some(State::fresh_of(true)));
+    for remembers in [2, 256, 1 << 16, (1 << 32) + 1, u64::MAX] {
+        assert_eq!(serve(&mut remembering, Request::Fresh(remembers)), 2);
+        assert_eq!(lean::fresh(&mut remembering, remembers), 2);
+        assert_eq!(remembering, expected);
+    }
 }
 
 #[test]
@@ -182,7 +193,10 @@ fn another_length_is_not_well_formed() {
     assert!(image::decode(&bytes[..LENGTH - 1]).is_none());
     bytes.push(0);
     assert!(image::decode(&bytes).is_none());
-    assert_eq!(serve(&mut bytes, Request::Fresh), 1);
+    for remembers in [0, 1, 2, u64::MAX] {
+        assert_eq!(serve(&mut bytes, Request::Fresh(remembers)), 1);
+        assert_eq!(lean::fresh(&mut bytes, remembers), 1);
+    }
 }
 
 #[test]
@@ -225,7 +239,8 @@ fn a_byte_out_of_range_is_refused() {
         (at::OWNERS, 2), (at::OWNERS + 63, 1),
         (entry::PATHS, 9), (entry::PATHS + 1, 32), (at::HIGHEST, 0), (at::HIGHEST, 129), (at::FOLDED, 3), (at::COMMITTED, 3),
         (at::COMMITTED + 4, 2), (at::COMMITTED + 8, 2), (at::APPLIED + 2, 3), (at::CONFIGURATION, 0),
-        (at::CONFIGURATION, 4), (at::MASTERSHIP, 9), (at::TARGET + 4, 2), (at::CONNECTIONS + 4, 2),
+        (at::CONFIGURATION, 4), (at::MASTERSHIP, 9), (at::RUNNING, 2), (at::REMEMBERS, 2),
+        (at::REMEMBERS, 255), (at::CONNECTIONS + 4, 2),
     ];
     for (place, byte) in cases {
         let mut bytes = some();

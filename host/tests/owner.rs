@@ -245,5 +245,5 @@ fn the_copy_for_faults_is_one() {
     }
     assert!(one.folded > Number::NONE);
     assert!(Claim::all().iter().all(|claim| Fault::named(&format!("Owner({claim:?})")) == Some(Fault::Owner(*claim))));
-    assert_eq!(Fault::Owner(Claim::NotSet).act(&mut one, &Request::Fresh).packed(), 0);
+    assert_eq!(Fault::Owner(Claim::NotSet).act(&mut one, &Request::Fresh(0)).packed(), 0);
 }

@@ -40,6 +40,8 @@ const CALLS: usize = 1000;
 const EARLY: usize = 30;
 const EARLY_EVENINGS: usize = 4;
 const LATE_EVENINGS: usize = 60;
+/// Of how many files one is of a switch that remembers.
+const REMEMBERING: usize = 3;
 /// One in how many servers begins with a switch that stops.
 const OUTAGES: usize = 5;
 /// The longest wait for the kill, from the first answer.
@@ -89,6 +91,8 @@ struct Seen {
     caught_up: usize,
     stood: usize,
     lost: usize,
+    /// Stops behind which the switch still has values.
+    remembered: usize,
     idle: u64,
     kills: u64,
 }
@@ -132,6 +136,8 @@ impl Seen {
             self.stood += usize::from(kept.cut.is_none() && stands(Some(cut)));
             self.lost += usize::from(accepted && complete && matches!(request, Request::Sync(_)));
         }
+        let has_values = kept.state.target.values.iter().any(|value| *value != 0);
+        self.remembered += usize::from(accepted && *request == Request::Stop && has_values);
         self.folds += usize::from(kept.state.folded.0 > folded);
         self.dropped += usize::from(kept.state.folded.0 - folded);
         accepted
@@ -139,8 +145,8 @@ impl Seen {
 
     /// Whether the kills have shown what they must.
     fn is_enough(&self) -> bool {
-        let Seen { folds, mended, cut_by_kill, in_night, resumed, taken_back, caught_up, stood, lost, .. } = self;
-        let counts = [folds, mended, cut_by_kill, in_night, resumed, taken_back, caught_up, stood, lost];
+        let Seen { folds, mended, cut_by_kill, in_night, resumed, taken_back, caught_up, stood, lost, remembered, .. } = self;
+        let counts = [folds, mended, cut_by_kill, in_night, resumed, taken_back, caught_up, stood, lost, remembered];
         counts.iter().copied().chain(&self.landed).all(|count| *count > 0)
     }
 
@@ -159,7 +165,7 @@ impl fmt::Display for Seen {
         let Seen { answered, accepted, before_any_answer, in_flight_kept, left_aside, .. } = self;
         let Seen { folds, dropped, left_ahead, mended, retried, cut_by_kill, made_whole, .. } = self;
         let Seen { nights, night_jobs, in_night, resumed, events_ahead, taken_back, .. } = self;
-        let Seen { landed: [pushes, in_nights, synchronised, powered], caught_up, stood, lost, .. } = self;
+        let Seen { landed: [pushes, in_nights, synchronised, powered], caught_up, stood, lost, remembered, .. } = self;
         write!(
             to,
             "{answered} calls answered, {accepted} of them accepted; killed before any answer {before_any_answer}, with a call \
@@ -171,7 +177,7 @@ impl fmt::Display for Seen {
              kill: killed between the switch and the image: in a push {pushes}, in a push of a night {in_nights}, in a \
              synchronise {synchronised}, in a start or a stop {powered}; shown by the image at a start {caught_up}\n\
              kill: {retried} cut jobs called again; killed before that {cut_by_kill}; {stood} of them pushes at their first store; \
-             synchronises that took such a push back {lost}\n\
+             synchronises that took such a push back {lost}; stops behind which the switch still had its values {remembered}\n\
              kill: {made_whole} images, archives, events and switches in the end as those of a server that was never killed and \
              made each job and each night whole"
         )
@@ -406,18 +412,18 @@ struct Whole {
 }
 
 impl Kept {
-    fn fresh(limit: usize) -> Kept {
+    fn fresh(remembers: bool, limit: usize) -> Kept {
         let mut bytes = vec![0; LENGTH];
-        northbound::serve(&mut bytes, &Request::Fresh);
+        northbound::serve(&mut bytes, &Request::Fresh(remembers.into()));
         let (archive, ahead, whole) = (Archive::empty(), String::new(), Whole::default());
-        let (state, record, events_ahead) = (State::fresh(), String::new(), String::new());
+        let (state, record, events_ahead) = (State::fresh_of(remembers), String::new(), String::new());
         let (landed, cut, rest) = (None, None, None);
         Kept { state, bytes, archive, ahead, record, events_ahead, landed, limit, cut, rest, whole }
     }
 
     /// An image that sensible calls have led to.
-    fn used(limit: usize, random: &mut Random) -> Kept {
-        let mut kept = Kept::fresh(limit);
+    fn used(remembers: bool, limit: usize, random: &mut Random) -> Kept {
+        let mut kept = Kept::fresh(remembers, limit);
         for _ in 0..random.below(2000) {
             let request = onward(&kept.state, limit, random);
             kept.serve(&request);
@@ -631,7 +637,7 @@ fn calls(kept: &Kept, random: &mut Random) -> Vec<Call> {
     calls
 }
 
-/// The switch stops and forgets, and the line is opened again: a synchronise that has something to bring.
+/// The switch stops, and the line is opened again: where it forgets, a synchronise that has something to bring.
 fn outage(state: &mut State) -> Vec<Call> {
     let node = state.mastership.master.map_or(1, |master| master.number().into());
     let mut calls: Vec<Call> = [Request::Stop, Request::Start].into_iter().filter_map(|request| Call::made(request, state)).collect();
@@ -1061,7 +1067,7 @@ fn holds_switch(found: &str, not_kept: Option<&Asked>, kept: &mut Kept, seen: &m
 fn run(kills: u64, seed: u64, folder: &Path, command: &[String]) -> Checked<Seen> {
     let mut random = Random::new(seed);
     let mut seen = Seen::default();
-    let mut kept = Kept::fresh(LOG_LIMIT);
+    let mut kept = Kept::fresh(false, LOG_LIMIT);
     let (mut server, mut whole) = (Server { command, file: PathBuf::new() }, Server { command, file: PathBuf::new() });
     let mut kill = 0;
     // On a machine that is slow just now more kills come too late: then it goes on until each thing was seen.
@@ -1070,7 +1076,11 @@ fn run(kills: u64, seed: u64, folder: &Path, command: &[String]) -> Checked<Seen
             server.file = folder.join(format!("image{kill}"));
             whole.file = server.beside(".whole");
             let limit = random.one_of(&[3, 8, LOG_LIMIT]);
-            kept = if random.once_in(2) { Kept::fresh(limit) } else { Kept::used(limit, &mut random) };
+            let remembers = random.once_in(REMEMBERING);
+            kept = match random.once_in(2) {
+                true => Kept::fresh(remembers, limit),
+                false => Kept::used(remembers, limit, &mut random),
+            };
             [&server, &whole].iter().try_for_each(|server| server.lay(&kept))?;
         }
         kill += 1;

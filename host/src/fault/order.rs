@@ -12,6 +12,7 @@ use crate::why::Question;
 /// A function of the C interface that can refuse for more than one reason.
 #[derive(Clone, Copy, PartialEq, Eq, Debug)]
 pub enum Call {
+    Fresh,
     Append,
     Rollback,
     Start,
@@ -33,7 +34,8 @@ pub enum Call {
 }
 
 /// The refusals of each call in their order: the paper's, with 9 in append, 17 and 18 as order 10 puts them, 15 as order 4.
-pub const ORDERS: [(Call, &[u8]); 18] = [
+pub const ORDERS: [(Call, &[u8]); 19] = [
+    (Call::Fresh, &[1, 2]),
     (Call::Append, &[1, 3, 4, 9]),
     (Call::Rollback, &[1, 5, 18, 6]),
     (Call::Start, &[1, 7, 9]),
@@ -66,7 +68,7 @@ impl Swapped {
     /// The refusal that is answered in place of this one, where the later one holds too.
     pub fn refusal(self, before: &State, request: &Request, refusal: Refusal) -> Option<Refusal> {
         let Swapped(call, first, then) = self;
-        if call_of(request) != Some(call) || refusal.number() != first {
+        if call_of(request) != call || refusal.number() != first {
             return None;
         }
         let later = Refusal::ALL.into_iter().find(|refusal| refusal.number() == then)?;
@@ -91,7 +93,11 @@ impl Swapped {
     /// The refusal that is answered in place of 1, where a later one is looked for first.
     pub fn of_damaged(self, bytes: &[u8], request: &Request) -> Option<Refusal> {
         let Swapped(call, first, then) = self;
-        let mut state = repaired(bytes).filter(|_| call_of(request) == Some(call) && first == 1)?;
+        if call_of(request) != call || first != 1 {
+            return None;
+        }
+        // of what is made fresh the length alone is asked
+        let mut state = if call == Call::Fresh { State::fresh() } else { repaired(bytes)? };
         act(&mut state, request).reply.err().filter(|refusal| refusal.number() == then)
     }
 
@@ -138,9 +144,9 @@ impl Swapped {
     }
 }
 
-fn call_of(request: &Request) -> Option<Call> {
-    Some(match request {
-        Request::Fresh => return None,
+fn call_of(request: &Request) -> Call {
+    match request {
+        Request::Fresh(_) => Call::Fresh,
         Request::Append(_) => Call::Append,
         Request::Rollback(_) => Call::Rollback,
         Request::Start => Call::Start,
@@ -151,7 +157,7 @@ fn call_of(request: &Request) -> Option<Call> {
         Request::Sync(_) => Call::Sync,
         Request::Work { .. } => Call::Work,
         Request::Fold(_) => Call::Fold,
-    })
+    }
 }
 
 fn call_read(query: Query) -> Call {
@@ -218,6 +224,7 @@ fn in_range(argument: Argument, number: u64) -> u64 {
         Argument::Job => number.clamp(1, 4),
         Argument::Outcome => number.min(1),
         Argument::Cut => number.min(2),
+        Argument::Remembers => number.min(1),
         _ => number,
     }
 }

@@ -2,6 +2,7 @@
 
 use crate::controller::{
     Configuration, ConfigurationState, Node, Number, Ordinal, Phase, Refusal, State, Status, Term, Transaction, LOG_LIMIT,
+    PATHS,
 };
 use crate::northbound::{act, bytes_of, pairs_of, Answer, Request, Served};
 
@@ -30,6 +31,20 @@ macro_rules! slips {
 }
 
 slips! {
+    // ---- fresh
+    FreshForgets "A target that remembers is made one that forgets." |it| if it.freshened() { it.state.target.remembers = false },
+    FreshRemembers "A target that forgets is made one that remembers." |it| if it.freshened() {
+        it.state.target.remembers = true;
+    },
+    FreshOfTwo "A flag above 1 is taken for 1." |it| if let Request::Fresh(_) = it.request {
+        it.despite_by(Refusal::OutOfRange, &Request::Fresh(1));
+    },
+    FreshOfEven "Of the flag the lowest bit alone is looked at." |it| if let Request::Fresh(remembers) = *it.request {
+        it.despite_by(Refusal::OutOfRange, &Request::Fresh(remembers & 1));
+    },
+    FreshRunsOn "The target's id and whether it runs stay." |it| if it.freshened() {
+        (it.state.target.id, it.state.target.running) = (it.before.target.id, it.before.target.running);
+    },
     // ---- append
     AppendStoresNothing "Answers the number and appends nothing." |it| it.appended(|log| log.truncate(log.len() - 1)),
     AppendAnswersTheLast "Answers the number before." |it| if let Ok(Answer::Appended(number)) = it.served.reply {
@@ -72,6 +87,9 @@ slips! {
     // ---- start, stop
     StartKeepsId "The target's id stays." |it| if it.took(&Request::Start) { it.state.target.id = it.before.target.id },
     StartDoesNotRun "The target stays stopped." |it| if it.took(&Request::Start) { it.state.target.running = false },
+    StartForgets "The target's values become 0." |it| if it.took(&Request::Start) { it.state.target.values = [0; PATHS] },
+    StartLosesTheFlag "The target remembers no more." |it| if it.took(&Request::Start) { it.state.target.remembers = false },
+    StartSetsTheFlag "The target remembers from then on." |it| if it.took(&Request::Start) { it.state.target.remembers = true },
     StartWhereItRuns "7 is not asked." |it| if *it.request == Request::Start {
         it.despite(Refusal::AlreadySo, |state, _| state.target.running = false)
     },
@@ -79,9 +97,23 @@ slips! {
         it.despite(Refusal::CounterAtLimit, |state, _| state.target.id = 0)
     },
     StopGoesOnRunning "The target goes on running." |it| if it.took(&Request::Stop) { it.state.target.running = true },
-    StopKeepsValues "The target's values stay." |it| if it.took(&Request::Stop) {
+    StopKeepsValues "The values of a target that forgets stay." |it| if it.took(&Request::Stop) {
         it.state.target.values = it.before.target.values;
     },
+    StopForgets "The values of a target that remembers become 0." |it| if it.took(&Request::Stop) {
+        it.state.target.values = [0; PATHS];
+    },
+    StopForgetsTheLast "Of a target that remembers the last path becomes 0." |it| if it.took(&Request::Stop) {
+        it.state.target.values[PATHS - 1] = 0;
+    },
+    StopOnTheWrongKind "Who forgets remembers, and who remembers forgets." |it| if it.took(&Request::Stop) {
+        it.state.target.values = if it.before.target.remembers { [0; PATHS] } else { it.before.target.values };
+    },
+    StopAsApplied "A target that remembers has the applied values." |it| if it.took(&Request::Stop) && it.before.target.remembers {
+        it.state.target.values = it.state.applied.values;
+    },
+    StopLosesTheFlag "The target remembers no more." |it| if it.took(&Request::Stop) { it.state.target.remembers = false },
+    StopSetsTheFlag "The target remembers from then on." |it| if it.took(&Request::Stop) { it.state.target.remembers = true },
     StopKeepsConnections "The nodes stay connected." |it| if it.took(&Request::Stop) {
         it.state.connections = it.before.connections;
     },
@@ -168,6 +200,57 @@ slips! {
     SyncOfCommitted "The target gets the committed values." |it| if it.completed() {
         it.state.target.values = it.state.committed.values;
     },
+    SyncTrustsMemory "A target that remembers is not written." |it| if it.completed() && it.before.target.remembers {
+        it.state.target.values = it.before.target.values;
+    },
+    SyncTrustsMemoryAndSaysSo "The same, and 0 is answered." |it| if it.completed() && it.before.target.remembers {
+        it.state.target.values = it.before.target.values;
+        it.served.reply = Ok(Answer::Wrote(0));
+    },
+    SyncLeavesTheFirst "The first path that differs is not written." |it| if let Some(path) = it.differing().next() {
+        it.state.target.values[path] = it.before.target.values[path];
+    },
+    SyncLeavesTheLast "The last path that differs is not written." |it| if let Some(path) = it.differing().last() {
+        it.state.target.values[path] = it.before.target.values[path];
+    },
+    SyncLeavesTheLastUncounted "The same, and it is not counted." |it| if let Some(path) = it.differing().last() {
+        it.state.target.values[path] = it.before.target.values[path];
+        it.counts(it.differing().count() - 1);
+    },
+    SyncDeletesNothing "A path that is absent among the applied is left." |it| for path in it.differing() {
+        if it.state.applied.values[path] == 0 {
+            it.state.target.values[path] = it.before.target.values[path];
+        }
+    },
+    SyncSetsNoneAnew "A path that has another value is left." |it| for path in it.differing() {
+        if it.before.target.values[path] != 0 {
+            it.state.target.values[path] = it.before.target.values[path];
+        }
+    },
+    SyncCountsAll "It answers 32." |it| if it.completed() { it.counts(PATHS) },
+    SyncCountsNone "It answers 0." |it| if it.completed() { it.counts(0) },
+    SyncCountsOneMore "It answers one more." |it| if it.completed() { it.counts(it.differing().count() + 1) },
+    SyncCountsAsFlag "It answers whether a path differs." |it| if it.completed() { it.counts(it.differing().count().min(1)) },
+    SyncCountsTheSame "It answers how many are the same." |it| if it.completed() { it.counts(PATHS - it.differing().count()) },
+    SyncCountsPresent "It answers how many applied values are not absent." |it| if it.completed() {
+        it.counts(it.state.applied.values.iter().filter(|value| **value != 0).count());
+    },
+    SyncCountsWhoForgets "It answers 32 for a target that forgets." |it| if it.completed() && !it.before.target.remembers {
+        it.counts(PATHS);
+    },
+    SyncCountsCommitted "It answers in how many the target differs from the committed values." |it| if it.completed() {
+        let committed = it.state.committed.values.iter().zip(it.before.target.values);
+        it.counts(committed.filter(|(committed, value)| **committed != *value).count());
+    },
+    SyncCountsLowBytes "Of the values the lower bytes alone are compared to count." |it| if it.completed() {
+        let (applied, values) = (it.state.applied.values, it.before.target.values);
+        it.counts((0..PATHS).filter(|path| applied[*path] as u8 != values[*path] as u8).count());
+    },
+    SyncBeginsWithACount "Where it becomes InProgress it answers how many differ." |it| if it.began() {
+        let (applied, values) = (it.state.applied.values, it.before.target.values);
+        it.counts((0..PATHS).filter(|path| applied[*path] != values[*path]).count());
+    },
+    SyncLosesTheFlag "The target remembers no more." |it| if it.completed() { it.state.target.remembers = false },
     SyncKeepsTerm "The term stays." |it| if it.completed() { it.state.configuration.term = it.before.configuration.term },
     SyncStaysInProgress "It does not become Complete." |it| if it.completed() {
         it.state.configuration.state = ConfigurationState::InProgress;
@@ -222,6 +305,10 @@ impl Slipped<'_> {
         self.request == request && self.served.reply.is_ok()
     }
 
+    fn freshened(&self) -> bool {
+        matches!(self.request, Request::Fresh(_)) && self.served.reply.is_ok()
+    }
+
     fn of_master(&self) -> bool {
         matches!(self.request, Request::Master(_)) && self.served.reply.is_ok()
     }
@@ -247,6 +334,18 @@ impl Slipped<'_> {
     fn completed(&self) -> bool {
         let sync = matches!(self.request, Request::Sync(_)) && self.served.reply.is_ok();
         sync && self.state.configuration.state == ConfigurationState::Complete
+    }
+
+    /// The paths that a synchronise has written; none where it has not.
+    fn differing(&self) -> impl DoubleEndedIterator<Item = usize> {
+        let (before, after) = (self.before.target.values, self.state.applied.values);
+        let paths = if self.completed() { 0..PATHS } else { 0..0 };
+        paths.filter(move |path| before[*path] != after[*path])
+    }
+
+    /// Answers so many written paths.
+    fn counts(&mut self, paths: usize) {
+        self.served.reply = Ok(Answer::Wrote(paths as u16));
     }
 
     /// Changes the log that an accepted append left.
@@ -283,7 +382,12 @@ impl Slipped<'_> {
 
     /// Another request in place of this one, where this one was refused as no change.
     fn instead(&mut self, request: &Request) {
-        if self.served.reply == Err(Refusal::NotAChange) {
+        self.despite_by(Refusal::NotAChange, request);
+    }
+
+    /// Another request in place of this one, where this one was refused so.
+    fn despite_by(&mut self, refusal: Refusal, request: &Request) {
+        if self.served.reply == Err(refusal) {
             self.served = act(self.state, request);
         }
     }

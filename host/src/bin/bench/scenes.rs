@@ -225,8 +225,10 @@ fn calls(length: usize, base: &State, before_last: &State) -> Vec<Scene> {
     let freed = led(base.clone(), &[Request::Disconnect(1), Request::Master(1), Request::Connect(2)]);
     let synchronising = led(freed.clone(), &[Request::Master(2), Request::Sync(2)]);
     let stopped = led(base.clone(), &[Request::Stop]);
+    let again = [Request::Start, Request::Connect(1), Request::Master(1), Request::Master(1), Request::Sync(1)];
+    let emptied = led(stopped.clone(), &again);
     [
-        ("fresh", base, Request::Fresh),
+        ("fresh", base, Request::Fresh(0)),
         ("append", if length == 128 { before_last } else { base }, append(length.min(127) + 1)),
         ("rollback", base, Request::Rollback(length as u64)),
         ("stop", base, Request::Stop),
@@ -235,6 +237,7 @@ fn calls(length: usize, base: &State, before_last: &State) -> Vec<Scene> {
         ("disconnect", base, Request::Disconnect(1)),
         ("master", &freed, Request::Master(2)),
         ("sync", &synchronising, Request::Sync(2)),
+        ("sync of an emptied target", &emptied, Request::Sync(1)),
     ]
     .map(|(name, state, request)| requested(name, length, state, request))
     .into()

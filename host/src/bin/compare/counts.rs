@@ -4,6 +4,7 @@ use crate::folds;
 use crate::imports;
 use crate::nights;
 use crate::owners;
+use crate::remembers;
 use crate::retries;
 use crate::switches;
 use crate::whys;
@@ -40,6 +41,8 @@ pub struct Counts {
     pub imports: imports::Seen,
     /// What order 7 brings.
     pub owners: owners::Seen,
+    /// What order 13 brings.
+    pub remembers: remembers::Seen,
     /// What order 8 brings.
     pub switches: switches::Seen,
     /// Numbers of more than 16 bits, and rooms by the byte.
@@ -141,6 +144,7 @@ impl Counts {
         let unseen_imports = self.imports.told();
         let unseen_owners = self.owners.told();
         let unseen_switches = self.switches.told();
+        let unseen_remembers = self.remembers.told();
         let unseen_wide = self.wide.told();
         let unseen_reads = self.told_reads();
         println!("{:>12}  {:>12}  {:>12}  rule, and its stores", "cut 0", "cut 1", "cut 2");
@@ -154,6 +158,7 @@ impl Counts {
         println!("rules seen: {rules} of {}; refusals seen: {refusals} of {}", Rule::ALL.len(), Refusal::ALL.len());
         let unseen = [self.states, self.freed, self.migrations].iter().filter(|count| **count == 0).count();
         let unseen_orders = [unseen_retries, unseen_folds, unseen_whys, unseen_nights, unseen_imports, unseen_owners, unseen_switches];
-        unseen + unseen_answers + unseen_rules + unseen_reads + unseen_orders.iter().sum::<usize>() + unseen_wide
+        let unseen_orders = unseen_orders.into_iter().chain([unseen_remembers]);
+        unseen + unseen_answers + unseen_rules + unseen_reads + unseen_orders.sum::<usize>() + unseen_wide
     }
 }

@@ -170,11 +170,12 @@ impl Desk {
 
     fn act(&mut self, state: &mut State, request: &Request) -> Served {
         let reconnected = request.is_of_reconnected(state);
-        let (rested_at, folded) = (state.committed.index, state.folded);
+        let (rested_at, folded, target) = (state.committed.index, state.folded, state.target.clone());
         let served = acted(self.fault, state, request);
         self.counts.freed += u64::from(reconnected && served.reply.is_ok());
         self.counts.folds.called(rested_at, state, request, &served);
         self.counts.owners.called(folded, state, request, &served, self.reached);
+        self.counts.remembers.called(&target, state, request, &served, self.reached);
         self.counts.wide.called(state, request, served.packed() & 0xff);
         served
     }
@@ -217,7 +218,7 @@ impl Desk {
 
     /// As `call_from`, from bytes that have been lent and may be no image; `state` is what they decode to.
     pub fn call_from_bytes(&mut self, state: Option<&State>, bytes: &[u8], request: &Request) -> Compared<()> {
-        if let (Some(state), true) = (state, *request != Request::Fresh) {
+        if let (Some(state), false) = (state, matches!(request, Request::Fresh(_))) {
             return self.call_from(state, bytes, request).map(|_| ());
         }
         let mut after_bytes = bytes.to_vec();
@@ -241,6 +242,7 @@ impl Desk {
         let lent = self.lent.bytes(expected.len(), self.edge);
         let reply = peer::serve(lent, request, lent_pairs);
         self.counts.called(request, &served);
+        self.counts.remembers.held(request, &served, expected.len());
         if reply != served.packed() {
             return Err(Difference::of_call(format!(
                 "{request:?}\n  independent reply {:#x} {:?} by rule {:?}\n  proved reply {reply:#x}\n{}",

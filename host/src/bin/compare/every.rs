@@ -3,7 +3,7 @@
 
 use crate::by_itself;
 use crate::desk::{Compared, Desk};
-use crate::sessions::opened;
+use crate::sessions::opened_of;
 use makowist_host::arguments::Wide;
 use makowist_host::controller::{Number, State};
 use makowist_host::guarded::Edge;
@@ -31,12 +31,14 @@ const NIGHT_ONE_IN: usize = 4;
 const BEFORE_THE_RINGS_END: Number = Number(127);
 const BEFORE_THE_LAST: Number = Number(65_534);
 
-/// Walks from fresh, and less far from near either end, for at most half the time. Answers whether it came to every state.
+/// Walks from fresh, and less far from near either end and with a target that remembers, for at most half the time. Answers whether
+/// it came to every state.
 pub fn run(desk: &mut Desk, transactions: usize) -> Compared<bool> {
     let fewer = transactions.saturating_sub(1).max(2);
-    let walks = [(Number::NONE, transactions), (BEFORE_THE_RINGS_END, fewer), (BEFORE_THE_LAST, 2)];
-    for (folded, transactions) in walks {
-        if !walk(desk, folded, transactions)? {
+    let forgets = [(false, Number::NONE, transactions), (false, BEFORE_THE_LAST, 2)];
+    let remembers = [(true, Number::NONE, fewer), (true, BEFORE_THE_RINGS_END, fewer)];
+    for (remembers, folded, transactions) in forgets.into_iter().chain(remembers) {
+        if !walk(desk, remembers, folded, transactions)? {
             return Ok(false);
         }
     }
@@ -44,10 +46,10 @@ pub fn run(desk: &mut Desk, transactions: usize) -> Compared<bool> {
 }
 
 /// Walks breadth first, comparing every call from every state.
-fn walk(desk: &mut Desk, folded: Number, transactions: usize) -> Compared<bool> {
+fn walk(desk: &mut Desk, remembers: bool, folded: Number, transactions: usize) -> Compared<bool> {
     let mut random = Random::new(2);
     let mut seen = HashSet::new();
-    let (state, bytes) = opened(desk, folded)?;
+    let (state, bytes) = opened_of(desk, remembers, folded)?;
     seen.insert((state.clone(), Switch::default()));
     let mut level = vec![(state, bytes, Switch::default())];
     while !level.is_empty() {
@@ -77,6 +79,7 @@ fn walk(desk: &mut Desk, folded: Number, transactions: usize) -> Compared<bool> 
                 by_itself::enough(desk, state, bytes, &mut random)?;
             }
             desk.counts.states += 1;
+            desk.counts.remembers.walked[usize::from(remembers)] += 1;
         }
         level = next;
     }
@@ -91,7 +94,9 @@ fn requests(state: &State, appended: usize, transactions: usize) -> Vec<(Request
         (append, appended < transactions),
         (Request::Append(Vec::new()), false),
         (Request::Append(bytes_of(&[(4, 1), (4, 2)])), false),
-        (Request::Fresh, false),
+        (Request::Fresh(0), false),
+        (Request::Fresh(1), false),
+        (Request::Fresh(2), false),
         (Request::Start, false),
         (Request::Stop, false),
     ];

@@ -1,7 +1,7 @@
 //! Holds the proved controller and the independent one together, call by call, reply and every byte; each of them to what orders
 //! 3 and 8 promise, at every job that is cut; both to what order 8 says of the target, and to what order 7 says of owners, at every
-//! state of a session; and the proved one to what order 4 does, at every job that is answered 11 or asked after, to what order 2
-//! does, at every night, and to what order 6 does, at every import.
+//! state of a session, of targets that forget and that remember (order 13); and the proved one to what order 4 does, at every job
+//! that is answered 11 or asked after, to what order 2 does, at every night, and to what order 6 does, at every import.
 //!
 //! Arguments, each `name=value`, in any order:
 //!
@@ -15,8 +15,8 @@
 //! - `overrun=End`, `overrun=Begin`: write the byte outside that edge of a lent slice, which must end the program
 //!
 //! Ends with 0 where there is no difference and no count is 0: every answer, every rule, with each cut and called again, every
-//! reason of every job, every read, every way for a night to pass, for a list to be imported and for a path to have an owner, every
-//! argument too great in every way.
+//! reason of every job, every read, every way for a night to pass, for a list to be imported, for a path to have an owner and for a
+//! target of either kind to be stopped and synchronised, every argument too great in every way.
 
 mod by_itself;
 mod claims;
@@ -30,6 +30,7 @@ mod long;
 mod nights;
 mod outside;
 mod owners;
+mod remembers;
 mod retries;
 mod sessions;
 mod states;
@@ -166,6 +167,8 @@ fn compare_chosen(desk: &mut Desk, told: impl Fn(&str, &Desk)) -> Compared<()> {
     if !desk.waits_for_a_retry() {
         outside::run(desk)?;
         told("every call from chosen states, every order of refusals", desk);
+        remembers::run(desk)?;
+        told("targets of both kinds in chosen states, images and sessions", desk);
     }
     Ok(())
 }

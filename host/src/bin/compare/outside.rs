@@ -98,20 +98,22 @@ pub fn lent(desk: &mut Desk, state: &State) -> Vec<u8> {
 /// Where the target, the connection of node 1, mastership and the configuration stand.
 #[derive(Clone, Copy)]
 pub struct Net {
-    running: bool,
-    connected: bool,
-    id: u32,
-    master: u64,
-    state: ConfigurationState,
+    pub running: bool,
+    pub remembers: bool,
+    pub connected: bool,
+    pub id: u32,
+    pub master: u64,
+    pub state: ConfigurationState,
     /// Whether the configuration's term is the mastership's.
-    same_term: bool,
+    pub same_term: bool,
     /// Whether the target's id and the mastership's term can be counted no further.
-    at_limit: bool,
+    pub at_limit: bool,
 }
 
 /// The line is open for node 1.
 pub const OPEN: Net = Net {
     running: true,
+    remembers: false,
     connected: true,
     id: CONN,
     master: 1,
@@ -121,14 +123,15 @@ pub const OPEN: Net = Net {
 };
 
 /// The target is stopped.
-const STOPPED: Net = Net { running: false, ..OPEN };
+pub const STOPPED: Net = Net { running: false, ..OPEN };
 
 /// The next synchronise of node 1 writes.
-const SYNCHRONISING: Net = Net { state: ConfigurationState::InProgress, same_term: false, ..OPEN };
+pub const SYNCHRONISING: Net = Net { state: ConfigurationState::InProgress, same_term: false, ..OPEN };
 
 /// The line open, closed by the target, closed by the term, and not the node's.
 fn few_nets() -> [Net; 5] {
-    [OPEN, STOPPED, Net { same_term: false, ..OPEN }, Net { master: 0, ..OPEN }, Net { master: 2, ..OPEN }]
+    let remembering = Net { remembers: true, ..OPEN };
+    [OPEN, STOPPED, Net { same_term: false, ..remembering }, Net { master: 0, ..OPEN }, Net { master: 2, ..remembering }]
 }
 
 fn nets() -> impl Iterator<Item = Net> {
@@ -138,6 +141,7 @@ fn nets() -> impl Iterator<Item = Net> {
     let nets = nets.flat_map(move |net| states.map(|state| Net { state, ..net }));
     let nets = nets.flat_map(|net| [0, 1, 2].map(|master| Net { master, ..net }));
     let nets = nets.flat_map(|net| [CONN, CONN + 1, u32::MAX].map(|id| Net { id, ..net }));
+    let nets = nets.flat_map(move |net| both.map(|remembers| Net { remembers, ..net }));
     nets.flat_map(move |net| {
         both.into_iter().flat_map(move |running| both.map(|connected| Net { running, connected, ..net }))
     })
@@ -147,7 +151,7 @@ fn nets() -> impl Iterator<Item = Net> {
 pub fn with_net(state: &State, net: Net) -> State {
     let mut state = state.clone();
     let term = if net.at_limit { u32::MAX } else { 3 };
-    state.target.running = net.running;
+    (state.target.running, state.target.remembers) = (net.running, net.remembers);
     state.target.id = if net.at_limit { u32::MAX } else { 1 };
     state.connections[0] = Connection { id: net.id, connected: net.connected };
     state.connections[1] = Connection { id: CONN, connected: true };
@@ -158,11 +162,11 @@ pub fn with_net(state: &State, net: Net) -> State {
 }
 
 /// A fresh state, each of its tables with values of its own.
-fn empty() -> State {
+pub fn empty() -> State {
     let values = |first: u16| std::array::from_fn::<u16, PATHS, _>(|path| first + path as u16);
     let mut state = State::fresh();
     (state.committed.values, state.applied.values) = (values(100), values(200));
-    state.target = Target { id: 0, running: false, values: values(300) };
+    state.target = Target { id: 0, running: false, remembers: false, values: values(300) };
     state
 }
 
@@ -276,7 +280,7 @@ fn log_requests(state: &State) -> Vec<Request> {
 }
 
 /// Every call on the target, the connections, mastership and the configuration.
-fn net_requests() -> Vec<Request> {
+pub fn net_requests() -> Vec<Request> {
     let calls = [Request::Connect, Request::Disconnect, Request::Master, Request::Sync];
     let of_nodes = [0, 1, 2, 8, 9].into_iter().flat_map(|node| calls.map(|call| call(node)));
     [Request::Start, Request::Stop].into_iter().chain(of_nodes).collect()

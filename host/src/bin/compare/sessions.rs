@@ -22,13 +22,19 @@ const GOES_ON_ONE_IN: usize = 6;
 /// Of how many sessions one begins with a list imported.
 const IMPORTED_ONE_IN: usize = 5;
 
-/// A controller with the line open for node 1. Where a last fold is named, all up to it was set, applied and folded.
+/// A controller with the line open for node 1, its target one that forgets. Where a last fold is named, all up to it was set,
+/// applied and folded.
 pub fn opened(desk: &mut Desk, folded: Number) -> Compared<(State, Vec<u8>)> {
+    opened_of(desk, false, folded)
+}
+
+/// The same with a target of either kind.
+pub fn opened_of(desk: &mut Desk, remembers: bool, folded: Number) -> Compared<(State, Vec<u8>)> {
     let mut state = State::fresh();
     let mut bytes = vec![0xff; LENGTH];
     desk.lend(&bytes);
     for request in [
-        Request::Fresh,
+        Request::Fresh(remembers.into()),
         Request::Start,
         Request::Connect(1),
         Request::Master(1),
@@ -88,7 +94,7 @@ fn session(desk: &mut Desk, random: &mut Random) -> Compared<()> {
         };
         let served = desk.call(&mut state, &mut bytes, &request)?;
         desk.switched(&mut switch, (&state, &bytes), &request, &served)?;
-        is_imported &= request != Request::Fresh;
+        is_imported &= !matches!(request, Request::Fresh(_));
         if is_imported && served.reply.is_ok() {
             desk.counts.imports.calls_behind += 1;
             desk.counts.imports.folds_behind += u64::from(matches!(request, Request::Fold(_)));
@@ -119,7 +125,7 @@ struct Begun {
     is_imported: bool,
 }
 
-/// Bytes at random, made fresh, or now and then what a list is imported as.
+/// Bytes at random, made fresh with a target of either kind, or now and then what a list is imported as.
 fn begun(desk: &mut Desk, random: &mut Random) -> Compared<Begun> {
     let mut bytes: Vec<u8> = (0..LENGTH).map(|_| random.bits() as u8).collect();
     if random.once_in(IMPORTED_ONE_IN) {
@@ -130,7 +136,9 @@ fn begun(desk: &mut Desk, random: &mut Random) -> Compared<Begun> {
     }
     desk.lend(&bytes);
     let mut state = State::fresh();
-    desk.call(&mut state, &mut bytes, &Request::Fresh)?;
+    let remembers = random.below(2);
+    desk.call(&mut state, &mut bytes, &Request::Fresh(remembers as u64))?;
+    desk.counts.remembers.sessions[remembers] += 1;
     Ok(Begun { state, bytes, is_imported: false })
 }
 

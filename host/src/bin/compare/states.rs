@@ -61,6 +61,7 @@ pub fn damaged(desk: &mut Desk, calls: u64, random: &mut Random) -> Compared<()>
         damage(&mut bytes, &state, random);
         desk.counts.folds.damaged(&bytes);
         desk.counts.owners.damaged(&bytes);
+        desk.counts.remembers.damaged(&bytes);
         let decoded = desk.decoded(&bytes);
         turn(desk);
         desk.lend(&bytes);
@@ -72,7 +73,8 @@ pub fn damaged(desk: &mut Desk, calls: u64, random: &mut Random) -> Compared<()>
             desk.call_from_bytes(decoded.as_ref(), &bytes, &request)?;
         }
         if random.once_in(20) {
-            desk.call_from_bytes(decoded.as_ref(), &bytes, &Request::Fresh)?;
+            let remembers = random.one_of(&[0, 1, 2]);
+            desk.call_from_bytes(decoded.as_ref(), &bytes, &Request::Fresh(remembers))?;
         }
         desk.read(decoded.as_ref(), &bytes, random.below(MOST_ROOM + 1))?;
         for _ in 0..4 {
@@ -157,7 +159,7 @@ fn damage_entry(bytes: &mut [u8], number: Number, random: &mut Random) {
 fn damage_record(bytes: &mut [u8], random: &mut Random) {
     let heads = [at::COMMITTED, at::APPLIED].into_iter().flat_map(|head| [head, head + 2, head + 4]);
     let numbers: Vec<usize> = heads.chain([at::COMMITTED_CHANGE, at::HIGHEST, at::FOLDED, at::FOLDED]).collect();
-    let flags = [at::TARGET + 4, at::CONNECTIONS + 4, at::CONNECTIONS + 39];
+    let flags = [at::RUNNING, at::REMEMBERS, at::CONNECTIONS + 4, at::CONNECTIONS + 39];
     match random.below(8) {
         0 | 1 => damage_number(bytes, random.one_of(&numbers), random),
         2 => put_u32(bytes, random.one_of(&[at::COMMITTED + 6, at::APPLIED + 6]), random.one_of(&ORDINALS)),
@@ -273,12 +275,14 @@ impl Focus {
             *connection = Connection { id, connected: random.below(3) > 0 };
         }
         let state = [ConfigurationState::Pending, ConfigurationState::InProgress, ConfigurationState::Complete];
+        let applied = self.applied(random);
+        let target_values = differing(&applied.values, random);
         State {
             folded: Number(self.folded),
             base: values(random),
             log,
             committed: self.committed(random),
-            applied: self.applied(random),
+            applied,
             configuration: Configuration {
                 state: random.one_of(&[state[0], state[1], state[2], state[2]]),
                 term: Term(random.one_of(&[term, term, term.saturating_sub(1), term.saturating_add(1), 0])),
@@ -292,7 +296,8 @@ impl Focus {
             target: Target {
                 id: random.one_of(&[0, 1, u32::MAX - 1, u32::MAX]),
                 running: random.below(4) > 0,
-                values: values(random),
+                remembers: random.once_in(2),
+                values: target_values,
             },
         }
     }
@@ -389,6 +394,16 @@ fn finish(transaction: &mut Transaction, random: &mut Random) {
         }
         _ => transaction.r.apply = done,
     }
+}
+
+/// These values but for all of the paths, none, one or a few, so that a synchronise has as many to write.
+fn differing(applied: &Values, random: &mut Random) -> Values {
+    let mut values = if random.once_in(2) { values(random) } else { *applied };
+    for _ in 0..random.one_of(&[0, 1, 1, 2, 5, 20]) {
+        let any = random.bits() as u16;
+        values[random.below(PATHS)] = random.one_of(&[0, any]);
+    }
+    values
 }
 
 fn values(random: &mut Random) -> Values {

@@ -11,7 +11,7 @@ use makowist_host::reads::{Query, CONNECTION_FIELDS, RECORD_FIELDS, TABLES, TRAN
 use std::ops::RangeInclusive;
 
 /// The functions that take numbers, each with its arguments in their order.
-const FUNCTIONS: [(&str, &[Argument]); 14] = [
+const FUNCTIONS: [(&str, &[Argument]); 15] = [
     ("rollback", &[Argument::Number]),
     ("fold", &[Argument::Number]),
     ("connect", &[Argument::Node]),
@@ -26,6 +26,7 @@ const FUNCTIONS: [(&str, &[Argument]); 14] = [
     ("why", &[Argument::Node, Argument::Job, Argument::Number]),
     ("night", &[Argument::Node, Argument::Budget]),
     ("owner", &[Argument::Path]),
+    ("fresh", &[Argument::Remembers]),
 ];
 
 /// The most arguments that a function has.
@@ -49,7 +50,8 @@ pub struct Seen {
 impl Seen {
     pub fn called(&mut self, state: &State, request: &Request, answer: u64) {
         let function = match request {
-            Request::Fresh | Request::Append(_) | Request::Start | Request::Stop => return,
+            Request::Append(_) | Request::Start | Request::Stop => return,
+            Request::Fresh(_) => 14,
             Request::Rollback(_) => 0,
             Request::Fold(_) => 1,
             Request::Connect(_) => 2,
@@ -143,6 +145,7 @@ fn in_range(function: &str, argument: Argument, state: &State) -> RangeInclusive
         Argument::Field if function == "record" => 1..=RECORD_FIELDS,
         Argument::Field => 1..=CONNECTION_FIELDS,
         Argument::Budget => 0..=BUDGET_LIMIT,
+        Argument::Remembers => 0..=1,
     }
 }
 
@@ -196,6 +199,7 @@ fn requests(state: &State) -> Vec<Request> {
     let nodes = 1..=NODES as u64;
     let calls = [Request::Connect, Request::Disconnect, Request::Master, Request::Sync];
     let mut all: Vec<Request> = nodes.flat_map(|node| calls.map(|call| call(node))).collect();
+    all.extend([0, 1].map(Request::Fresh));
     for number in state.kept().map(|(number, _)| u64::from(number.0)) {
         all.extend([Request::Rollback(number), Request::Fold(number)]);
         for (node, job) in [1, 2].into_iter().flat_map(|node| (1..=4).map(move |job| (node, job))) {
