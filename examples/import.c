@@ -3,7 +3,8 @@
  *     import LIST IMAGE
  *
  * LIST is the bytes of the list, as examples/import-csv writes them. Prints the answer as the stepper does, and why; IMAGE, which
- * must not be there yet, is written where it is accepted (0), and not where it is refused (1). Then server.c keeps it. */
+ * must not be there yet, is written where it is accepted (0), and not where it is refused (1). Then server.c keeps it. The switch
+ * is taken for one that forgets its values when it is stopped. */
 #include <errno.h>
 #include <stdio.h>
 #include <string.h>

@@ -15,11 +15,14 @@
  * call, and in a night too by one push alone, since a push is a slice by itself: so it is a step from the kept image. The
  * next start looks at the switch and makes the image show what it has: a start, a stop or a synchronise whole, and a push as
  * far as the first of its three stores, by cut 1, with no event. It is made good by who asks for the same job again, with the
- * same outcome and cut 0, or for the rest of the night; or by losing the line and synchronising, which takes it back. A host
- * that cannot read its switch asks for the job again, or synchronises, before anything else.
+ * same outcome and cut 0, or for the rest of the night; or by losing the line and synchronising, which takes it back, since the
+ * image shows it by then. A host that cannot read its switch asks for the job again, or gives the switch all applied values
+ * with a synchronise, before anything else.
  *
- * Where IMAGE does not exist it is made fresh. A first line that asks for an import is taken where the image is fresh, or shows a
- * start and nothing else; on any other image it cannot be read. (A start, since the switch is started before the image is kept: a
+ * Where IMAGE does not exist it is made fresh, with a switch that forgets. A first line that says that it remembers is taken where
+ * the image is fresh; the switch is told nothing by it, and keeps its values when it is stopped from then on. A first line that asks
+ * for an import is taken where the image is fresh, its switch one that forgets, or shows a start and nothing else. On any other image
+ * neither can be read. (A start, since the switch is started before the image is kept: a
  * server killed between the two shows the start when it begins again, and the import can be asked again.) Of an import no event is
  * recorded: keep the list. A file that is no well-formed image is refused and left as it is.
  * These files lie beside it: IMAGE.new, written before it takes IMAGE's name, and IMAGE.switch.new likewise; IMAGE.lock, held
@@ -115,7 +118,7 @@ static int load(struct place *place) {
     if (!file && errno != ENOENT)
         fail(place->name, strerror(errno));
     if (!file) {
-        makowist_fresh(image, sizeof image);
+        makowist_fresh(image, sizeof image, MAKOWIST_FORGETS);
         return 0;
     }
     size_t length = fread(found, 1, sizeof found, file);
@@ -232,27 +235,22 @@ static uint64_t work(struct place *place, const unsigned *n) {
     return makowist_work(image, sizeof image, n[0], n[1], n[2], n[3], n[4]);
 }
 
-/* A synchronise. Where it writes, the switch takes all applied values. */
+/* A synchronise. Where it writes paths, which its number says, the switch takes them. */
 static uint64_t synchronise(struct place *place, unsigned node) {
-    int writes = shown(MAKOWIST_CONFIGURATION_STATE) == MAKOWIST_STATUS_IN_PROGRESS;
-    if (writes && accepted(makowist_sync(copy(), sizeof tried, node))) {
-        for (unsigned path = 0; path < MAKOWIST_PATHS; ++path)
-            place->target.values[path] = (uint16_t)makowist_reply_value(
-                makowist_value(image, sizeof image, MAKOWIST_TABLE_APPLIED, path));
-        target_take(&place->target);
-    }
+    if (makowist_reply_number(makowist_sync(copy(), sizeof tried, node)) > 0)
+        target_follow(&place->target, tried);
     return makowist_sync(image, sizeof image, node);
 }
 
 static uint64_t start(struct place *place) {
     if (accepted(makowist_start(copy(), sizeof tried)))
-        target_power(&place->target, 1);
+        target_follow(&place->target, tried);
     return makowist_start(image, sizeof image);
 }
 
 static uint64_t stop(struct place *place) {
     if (accepted(makowist_stop(copy(), sizeof tried)))
-        target_power(&place->target, 0);
+        target_follow(&place->target, tried);
     return makowist_stop(image, sizeof image);
 }
 
@@ -291,12 +289,6 @@ static void catch_up(struct place *place) {
     fail(place->target.name, "no call leads from the image to what the switch has");
 }
 
-/* Makes the switch as the image has it, where there is none. */
-static void make_switch(struct place *place) {
-    target_set(&place->target, image);
-    target_take(&place->target);
-}
-
 /* Loads the image and opens what lies beside it. A fresh image is kept only then: beside an archive, a record or a switch it
  * would be refused. The record is looked at before the image catches up: it knows the image by its sum. */
 static struct archive opened(struct place *place) {
@@ -313,7 +305,7 @@ static struct archive opened(struct place *place) {
     if (is_there)
         catch_up(place);
     else
-        make_switch(place);
+        target_follow(&place->target, image); /* there is none yet */
     return archive;
 }
 
@@ -526,7 +518,7 @@ static int slept(struct place *place, const char *line, const char *end) {
     return 1;
 }
 
-/* ---- An import. */
+/* ---- What stands in place of the fresh start. */
 
 /* An old list, as far as it shows that it is too long. */
 struct list {
@@ -566,10 +558,14 @@ static int reads_list(const char *at, const char *end, struct list *list) {
     return 1;
 }
 
+/* Whether the image is a fresh one, of a target of that kind. */
+static int is_fresh(unsigned remembers) {
+    return accepted(makowist_fresh(tried, sizeof tried, remembers)) && memcmp(image, tried, sizeof image) == 0;
+}
+
 /* Whether nothing was called on the image but, at most, a start. */
 static int is_untouched(void) {
-    makowist_fresh(tried, sizeof tried);
-    if (memcmp(image, tried, sizeof image) == 0)
+    if (is_fresh(MAKOWIST_FORGETS))
         return 1;
     makowist_start(tried, sizeof tried);
     return memcmp(image, tried, sizeof image) == 0;
@@ -584,11 +580,24 @@ static int imported(struct place *place, const char *line, const char *end) {
     size_t length = MAKOWIST_ENTRY_LENGTH * list.count;
     uint64_t reply = makowist_import(tried, sizeof tried, list.bytes, length);
     if (accepted(reply)) {
-        target_power(&place->target, 1);
+        target_follow(&place->target, tried);
         memcpy(image, tried, sizeof image);
         keep(place);
     }
     printf("answer=%u position=%u\n", makowist_reply_answer(reply), (unsigned)makowist_reply_position(reply));
+    return 1;
+}
+
+/* Answers a first line that says of what kind the switch is. It is taken where nothing was said or called before, and where the
+ * same was: it was kept, and the server killed before it was answered. */
+static int begun(struct place *place, const char *line, const char *end) {
+    unsigned remembers;
+    if (!is(line, end, "call=fresh remembers=#", &remembers) || !(is_fresh(MAKOWIST_FORGETS) || is_fresh(remembers)))
+        return 0;
+    uint64_t reply = makowist_fresh(image, sizeof image, remembers);
+    if (accepted(reply))
+        keep(place);
+    answer(reply);
     return 1;
 }
 
@@ -615,7 +624,8 @@ int main(int count, char **words) {
     ssize_t length;
     for (int is_first = 1; (length = getline(&line, &room, stdin)) > 0; is_first = 0) {
         const char *end = line + length - (line[length - 1] == '\n');
-        if (!told(line, end) && !slept(&place, line, end) && !(is_first && imported(&place, line, end)))
+        int begins = is_first && (begun(&place, line, end) || imported(&place, line, end));
+        if (!begins && !told(line, end) && !slept(&place, line, end))
             call(&place, &archive, line, end);
         if (fflush(stdout) != 0)
             fail("standard output", strerror(errno));

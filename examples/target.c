@@ -56,18 +56,16 @@ void target_take(struct target *target) {
     keep_whole(target->name, target->aside, target->folder, line, length);
 }
 
-void target_power(struct target *target, unsigned running) {
-    target->running = running;
-    if (!running)
-        memset(target->values, 0, sizeof target->values);
-    target_take(target);
-}
-
 void target_set(struct target *target, const uint8_t *image) {
     target->running = makowist_reply_value(makowist_record(image, MAKOWIST_IMAGE_LENGTH, MAKOWIST_TARGET_RUNNING));
     for (unsigned path = 0; path < MAKOWIST_PATHS; ++path)
         target->values[path] = (uint16_t)makowist_reply_value(
             makowist_value(image, MAKOWIST_IMAGE_LENGTH, MAKOWIST_TABLE_TARGET, path));
+}
+
+void target_follow(struct target *target, const uint8_t *image) {
+    target_set(target, image);
+    target_take(target);
 }
 
 int target_is(const struct target *target, const uint8_t *image) {

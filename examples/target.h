@@ -2,8 +2,9 @@
  *
  *     running=1 values=3:7,4:1
  *
- * Paths that are absent are left out; a switch that is stopped has none. Nothing but the functions here writes it, and what
- * the switch was told to take is on the disk when they return. To take the same values twice is to take them once. */
+ * Paths that are absent are left out; a switch that is stopped has none, unless it is one that remembers. Nothing but the functions
+ * here writes it, and what the switch was told to take is on the disk when they return. To take the same values twice is to take
+ * them once. */
 #ifndef TARGET_H
 #define TARGET_H
 
@@ -25,8 +26,8 @@ int target_open(struct target *target);
 /* Has the switch take the values that are set in it. */
 void target_take(struct target *target);
 
-/* The switch is started, or is stopped and forgets its values. */
-void target_power(struct target *target, unsigned running);
+/* The switch is started or stopped, or takes values: it has what an image says of it. */
+void target_follow(struct target *target, const uint8_t *image);
 
 /* Whether the switch has what an image says of it. */
 int target_is(const struct target *target, const uint8_t *image);
