@@ -1,10 +1,11 @@
 -- Order 13 on sessions, by computing: a group for each sentence of the order. Every line holds a call's answer and the number that
 -- it shows, what it is noted as, its stores, and of the state what the line names. Assumes nothing.
 use Prim.Native.Nat.{ℕ}
-use mathlib.Core.List.{List, [], _∷_, _++_}
+use mathlib.Core.List.{List, [], _∷_, _++_, map}
 use mathlib.Core.Bool.{Bool, true, false, _&&_}
 use mathlib.Core.Path.{_≡_, refl}
 use lib.Dec.{eqb}
+use Rattle.kinds.specs.declared.Event.{Event}
 use Rattle.machine.specs.State.{State, fresh}
 use Rattle.machine.specs.Stores.{Store, grow, entry, fold, change, committedHead, appliedHead, value, targetValues, configuration, mastership, connections, target, after, afters}
 use Rattle.machine.specs.Rows.{overlay, rowsOf}
@@ -18,9 +19,11 @@ use Rattle.machine.specs.Import.{adds, judgedFrom, judged, numberAt, cal
 use Rattle.machine.specs.Sessions.{Line, reads, nets, nodes, sameNumbers, begins, agrees}
 
 -- ---- a call after others made from a state: its answer and number, its note (0 nothing, 1 wrote), its row of stores (1 the target,
--- 2 all of its values, 3 the connections, 4 the configuration, 5 one value, with its path), and what the state then shows
+-- 2 all of its values, 3 the connections, 4 the configuration, 5 one value, with its path), and what the state then shows; and a run
+-- from fresh of a kind, with the number that each of its events shows, the newest first
 pub data Row : Type 0 where
   of : State → List Call → Call → (answer number noted : ℕ) → (row : List ℕ) → List Line → Row
+  ran : (remembers : Bool) → List Call → (numbers : List ℕ) → Row
 
 abbrev noteNumber : Note → ℕ
 noteNumber nothing = 0
@@ -46,12 +49,16 @@ unfoldable pub rowNumbers : List Store → List ℕ
 rowNumbers [] = []
 rowNumbers (e ∷ es) = storeNumbers e ++ rowNumbers es
 
+abbrev numberOf : Event → ℕ
+numberOf e = e .number .0
+
 unfoldable pub told : List Row → Bool
 told [] = true
 told (of s cs c a k n es ls ∷ rs) =
     let t = stateFrom s cs in
     let xs = rowNumbers (outcome t c .stores) in
     ((sameNumbers (step t c .reply) a 0 0 k 0 && eqb (noteNumber (note t c)) n) && ((begins xs es && begins es xs) && agrees (step t c .next) ls)) && told rs
+told (ran m cs es ∷ rs) = let xs = map numberOf (run m cs .events) in (begins xs es && begins es xs) && told rs
 
 -- ---- sessions, the newest first
 abbrev pair : (path value : ℕ) → Pair
@@ -78,6 +85,10 @@ cycled cs = master 1 ∷ master 1 ∷ connect 1 ∷ start ∷ stop ∷ cs
 
 abbrev lost : List Call → List Call
 lost cs = master 1 ∷ connect 1 ∷ master 1 ∷ disconnect 1 ∷ cs
+
+-- power is lost after a synchronise was begun: the next one writes, and the line is lost
+abbrev between : List Call
+between = disconnect 1 ∷ sync 1 ∷ cycled (sync 1 ∷ lost applied)
 
 -- what stands at paths 3, 4, 6 and 31: committed, applied and the target's
 abbrev held : List Line → List Line
@@ -129,16 +140,18 @@ unfolding told rowNumbers stateFrom step outcome decide differ differRow planOf 
 beginning-hold = refl
 
 -- ---- for both kinds it writes the paths that differ, rising, and no other, and answers how many: of one that was emptied all that
--- is applied; of one that remembers what changed meanwhile, and so where the power stayed
+-- is applied; of one that remembers what changed meanwhile, and so where the power stayed. A run has the kind that it begins with
 pub writing : List Row
 writing =
     of (fresh false) (sync 1 ∷ cycled applied) (sync 1) 0 3 1 (4 ∷ 5 ∷ 3 ∷ 7 ∷ 5 ∷ 4 ∷ 8 ∷ 5 ∷ 31 ∷ 9 ∷ []) (held (nets (3 ∷ 2 ∷ 1 ∷ 2 ∷ 2 ∷ 2 ∷ 1 ∷ []) ∷ []))
     ∷ of (fresh false) (sync 1 ∷ cycled ahead) (sync 1) 0 3 1 (4 ∷ 5 ∷ 3 ∷ 7 ∷ 5 ∷ 4 ∷ 8 ∷ 5 ∷ 31 ∷ 9 ∷ []) level
     ∷ of (fresh true) (sync 1 ∷ cycled ahead) (sync 1) 0 2 1 (4 ∷ 5 ∷ 3 ∷ 7 ∷ 5 ∷ 6 ∷ 0 ∷ []) level ∷ of (fresh true) (sync 1 ∷ lost ahead) (sync 1) 0 2 1 (4 ∷ 5 ∷ 3 ∷ 7 ∷ 5 ∷ 6 ∷ 0 ∷ []) level
-    ∷ of (fresh false) (sync 1 ∷ lost ahead) (sync 1) 0 2 1 (4 ∷ 5 ∷ 3 ∷ 7 ∷ 5 ∷ 6 ∷ 0 ∷ []) level ∷ []
+    ∷ of (fresh false) (sync 1 ∷ lost ahead) (sync 1) 0 2 1 (4 ∷ 5 ∷ 3 ∷ 7 ∷ 5 ∷ 6 ∷ 0 ∷ []) level
+    ∷ ran true between (0 ∷ 0 ∷ 0 ∷ 0 ∷ 0 ∷ 0 ∷ 0 ∷ 0 ∷ 0 ∷ 0 ∷ 0 ∷ 0 ∷ 1 ∷ 1 ∷ 1 ∷ 1 ∷ 1 ∷ 0 ∷ 0 ∷ 0 ∷ 0 ∷ 0 ∷ [])
+    ∷ ran false between (0 ∷ 3 ∷ 0 ∷ 0 ∷ 0 ∷ 0 ∷ 0 ∷ 0 ∷ 0 ∷ 0 ∷ 0 ∷ 0 ∷ 1 ∷ 1 ∷ 1 ∷ 1 ∷ 1 ∷ 0 ∷ 0 ∷ 0 ∷ 0 ∷ 0 ∷ []) ∷ []
 
 pub writing-hold : told writing ≡ true
-unfolding told rowNumbers stateFrom step outcome decide differ differRow planOf afters after overlay rowsOf allFrom allAtMost pairsOk entryOk headOk wellFormed valuesOk present agrees begins entryNumbers stateNumbers writing
+unfolding told rowNumbers run stateFrom step outcome decide differ differRow planOf afters after overlay rowsOf allFrom allAtMost pairsOk entryOk headOk wellFormed valuesOk present agrees begins entryNumbers stateNumbers writing
 writing-hold = refl
 
 -- ---- where no path differs it writes none and answers 0: it wrote all the same, and the line is open
