@@ -1,8 +1,8 @@
 -- A plan's stores as the code makes them, over variables: each row after the one before it. Assumes nothing.
 use Prim.Native.Nat.{ℕ, _+_, _≤_, _<_}
-use mathlib.Core.Path.{_≡_, refl, ap, sym, _∙_}
+use mathlib.Core.Path.{_≡_, refl, ap, ap₂, sym, _∙_}
 use mathlib.Core.Bool.{Bool, true, false, _&&_, cond}
-use mathlib.Core.List.{List, [], _∷_, _++_}
+use mathlib.Core.List.{List, [], _∷_, _++_, append-nil}
 use native.Mathlib.Omega.{arith}
 use borrow.Author.Tests.{lt-ltb, le-ltb}
 use lib.ListN.{getD}
@@ -14,16 +14,18 @@ use Rattle.kinds.specs.Events.{noEvent}
 use Rattle.rules.specs.Plans.{isPush}
 use Rattle.rules.specs.declared.Plan.{Plan}
 use Rattle.rules.specs.declared.Lay.{Lay}
-use Rattle.rules.specs.declared.Lay.the-variants.{Nothing}
+use Rattle.rules.specs.declared.Lay.the-variants.{Nothing, Values, Kept}
 use Rattle.rules.specs.declared.Order.{Order}
-use Rattle.rules.specs.declared.Order.the-variants.{Neither}
-use Rattle.machine.specs.Stores.{Table, ofCommitted, ofApplied, ofTarget, Store, change, committedHead, appliedHead}
-use Rattle.machine.specs.Rows.{overlay, laid, owned, changeRow, headRow, thenRow, rowsBy, rowsOf}
+use Rattle.rules.specs.declared.Order.the-variants.{Neither, EntryOnly, HeadOnly, EntryThenHead, HeadThenEntry, TargetThenHeadThenEntry}
+use Rattle.machine.specs.Stores.{Table, ofCommitted, ofApplied, ofOwners, Store, change, committedHead, appliedHead}
+use Rattle.machine.specs.Rows.{overlay, laid, owned, entryRow, changeRow, headRow, targetRow, rowsBy, rowsOf}
 use Rattle.image.specs.Layout.{valuesAt, committedAt, appliedAt}
 use Rattle.image.specs.Promises.{valuePut}
 use Rattle.image.specs.Records.{putHeadAt}
 use Rattle.image.specs.View.{write, written}
 use Rattle.image.proofs.Shown.{written-append}
+use Rattle.controller.specs.declared.perform.Comes.{Comes}
+use Rattle.controller.specs.Performs.{laidValues, laidOwners, laidCount, comesBy}
 
 -- a row after a row
 pub rows-on : (l m n : List ℕ) (es fs : List Store) → m ≡ written l es → n ≡ written m fs → n ≡ written l (es ++ fs)
@@ -67,25 +69,35 @@ module _ (ps vs : List ℕ) (n at : ℕ) (l : List ℕ) where
             rw (lt-ltb 0 n (omega arith), lt-ltb 1 n (omega arith), lt-ltb 2 n (omega arith), lt-ltb 3 n (omega arith), e)
             (q4 ∙ ap (Over at (getD ps 3 0) (getD vs 3 0)) three)
 
-pub laid-by : (l m : List ℕ) (at : ℕ) (x y : Lay) (t : Transaction) → x ≡ y → ((b : Table) → valuesAt b ≡ at → m ≡ written l (laid b y t))
-    → (b : Table) → valuesAt b ≡ at → m ≡ written l (laid b x t)
-laid-by l m at x y t e q b z = q b z ∙ ap (λ (w : Lay). written l (laid b w t)) (sym e)
+-- what a lay lays, chosen by it
+laid-chosen : (b : Table) (x : Lay) (t : Transaction) → overlay b (t .paths) (laidValues x t) (laidCount x t) ≡ laid b x t
+unfolding overlay
+laid-chosen b Nothing t = refl
+laid-chosen b Values t = refl
+laid-chosen b Kept t = refl
 
-pub laid-none : (l : List ℕ) (at : ℕ) (x : Lay) (t : Transaction) → x ≡ Nothing → (b : Table) → valuesAt b ≡ at → l ≡ written l (laid b x t)
-unfolding written
-laid-none l at x t e = laid-by l l at x Nothing t e (λ b z. refl)
+owned-chosen : (x : Lay) (t : Transaction) (i : ℕ) → overlay ofOwners (t .paths) (laidOwners x t i) (laidCount x t) ≡ owned x t i
+unfolding overlay
+owned-chosen Nothing t i = refl
+owned-chosen Values t i = refl
+owned-chosen Kept t i = refl
 
--- the owners, likewise, and both of a commit's tables
-pub owned-by : (l m : List ℕ) (x y : Lay) (t : Transaction) (i : ℕ) → x ≡ y → m ≡ written l (owned y t i) → m ≡ written l (owned x t i)
-owned-by l m x y t i e q = q ∙ ap (λ (w : Lay). written l (owned w t i)) (sym e)
+pub owners-are : (x y : Lay) (t : Transaction) (i : ℕ) (r : List ℕ) → x ≡ y → r ≡ laidOwners y t i → r ≡ laidOwners x t i
+owners-are x y t i r e q = q ∙ ap (λ (z : Lay). laidOwners z t i) (sym e)
 
-pub owned-none : (l : List ℕ) (x : Lay) (t : Transaction) (i : ℕ) → x ≡ Nothing → l ≡ written l (owned x t i)
-unfolding written
-owned-none l x t i e = owned-by l l x Nothing t i e refl
+module _ (l m : List ℕ) (x : Lay) (t : Transaction) (vs : List ℕ) (n : ℕ) (ev : vs ≡ laidValues x t) (en : n ≡ laidCount x t) where
+  pub laid-by : (at : ℕ) → ((b : Table) → valuesAt b ≡ at → m ≡ written l (overlay b (t .paths) vs n)) → (b : Table) → valuesAt b ≡ at → m ≡ written l (laid b x t)
+  laid-by at q b z = q b z ∙ ap₂ (λ (u : List ℕ) (k : ℕ). written l (overlay b (t .paths) u k)) ev en ∙ ap (written l) (laid-chosen b x t)
 
-pub laid-owned : (l l1 l2 : List ℕ) (x : Lay) (t : Transaction) (i : ℕ) → ((b : Table) → valuesAt b ≡ valuesAt ofCommitted → l1 ≡ written l (laid b x t))
-    → l2 ≡ written l1 (owned x t i) → l2 ≡ written l (laid ofCommitted x t ++ owned x t i)
-laid-owned l l1 l2 x t i q1 q2 = rows-on l l1 l2 (laid ofCommitted x t) (owned x t i) (q1 ofCommitted refl) q2
+  -- both of a commit's tables
+  pub laid-owned : (i : ℕ) (os : List ℕ) → os ≡ laidOwners x t i → m ≡ written l (overlay ofCommitted (t .paths) vs n ++ overlay ofOwners (t .paths) os n)
+      → m ≡ written l (laid ofCommitted x t ++ owned x t i)
+  laid-owned i os eo q =
+      let rows : List ℕ → List ℕ → ℕ → List ℕ = λ u w k. written l (overlay ofCommitted (t .paths) u k ++ overlay ofOwners (t .paths) w k) in
+      q
+      ∙ ap (rows vs os) en
+      ∙ ap₂ (λ (u w : List ℕ). rows u w (laidCount x t)) ev eo
+      ∙ ap₂ (λ (es fs : List Store). written l (es ++ fs)) (laid-chosen ofCommitted x t) (owned-chosen x t i)
 
 -- ---- Committed's change
 pub change-moved : (l m : List ℕ) (i : ℕ) (n : Number) (b : Bool) → b ≡ true → n ≡ num i → m ≡ write l (change n) → m ≡ written l (changeRow b i)
@@ -113,21 +125,43 @@ pub row-if : (l m : List ℕ) (b c : Bool) (i : ℕ) (p : Plan) → b ≡ c → 
 row-if l m b c i p e q = q ∙ ap (λ (x : Bool). written l (headRow x p i)) (sym e)
 
 -- ---- the plan
--- a row, cut or not before what follows "then"
-pub cut-then : (l m : List ℕ) (b : Bool) (x y : List Store) → b ≡ true → m ≡ written l x → m ≡ written l (thenRow b x y)
-cut-then l m b x y t q = q ∙ ap (λ (z : Bool). written l (thenRow z x y)) (sym t)
+-- a row, where it comes
+pub row-comes : (l m : List ℕ) (b : Bool) (r : List Store) → b ≡ true → m ≡ written l r → m ≡ written l (cond b r [])
+row-comes l m b r t q = q ∙ ap (λ (x : Bool). written l (cond x r [])) (sym t)
 
-pub on-then : (l m n : List ℕ) (b : Bool) (x y : List Store) → b ≡ false → m ≡ written l x → n ≡ written m y → n ≡ written l (thenRow b x y)
-on-then l m n b x y t q r = rows-on l m n x y q r ∙ ap (λ (z : Bool). written l (thenRow z x y)) (sym t)
+pub row-stays-out : (l : List ℕ) (b : Bool) (r : List Store) → b ≡ false → l ≡ written l (cond b r [])
+unfolding written
+row-stays-out l b r t = rw t
 
-module _ (l : List ℕ) (c : Bool) (p : Plan) (i : ℕ) (first second : Bool) where
-  pub by-order : (w : Order) (m : List ℕ) → p .order ≡ w → m ≡ written l (rowsBy w c p i first second) → m ≡ written l (rowsOf c p i first second)
+pub comes-are : (o w : Order) (first second : Bool) (r : Comes) → o ≡ w → r ≡ comesBy w first second → r ≡ comesBy o first second
+comes-are o w first second r e q = q ∙ ap (λ (x : Order). comesBy x first second) (sym e)
+
+-- the rows at their places
+module _ (c : Bool) (p : Plan) (i : ℕ) where
+  abbrev placed : Comes → List Store
+  placed x = cond (x .target) (targetRow p) [] ++ (cond (x .before) (entryRow p i) [] ++ (cond (x .head) (headRow c p i) [] ++ cond (x .after) (entryRow p i) []))
+
+  -- are those of the order
+  rows-placed : (w : Order) (first second : Bool) → placed (comesBy w first second) ≡ rowsBy w c p i first second
+  rows-placed Neither first second = refl
+  rows-placed EntryOnly first second = refl
+  rows-placed HeadOnly first second = append-nil (headRow c p i)
+  rows-placed EntryThenHead true second = refl
+  rows-placed EntryThenHead false second = ap (λ (es : List Store). entryRow p i ++ es) (append-nil (headRow c p i))
+  rows-placed HeadThenEntry true second = append-nil (headRow c p i)
+  rows-placed HeadThenEntry false second = refl
+  rows-placed TargetThenHeadThenEntry true second = append-nil (targetRow p)
+  rows-placed TargetThenHeadThenEntry false true = ap (λ (es : List Store). targetRow p ++ es) (append-nil (headRow c p i))
+  rows-placed TargetThenHeadThenEntry false false = refl
+
+  pub performed : (l l1 l2 l3 l4 : List ℕ) (first second : Bool) (x : Comes) → x ≡ comesBy (p .order) first second
+      → l1 ≡ written l (cond (x .target) (targetRow p) []) → l2 ≡ written l1 (cond (x .before) (entryRow p i) [])
+      → l3 ≡ written l2 (cond (x .head) (headRow c p i) []) → l4 ≡ written l3 (cond (x .after) (entryRow p i) []) → l4 ≡ written l (rowsOf c p i first second)
   unfolding rowsOf
-  by-order w m e q = q ∙ ap (λ (x : Order). written l (rowsBy x c p i first second)) (sym e)
-
-  pub no-store : p .order ≡ Neither → l ≡ written l (rowsOf c p i first second)
-  unfolding written
-  no-store e = by-order Neither l e refl
+  performed l l1 l2 l3 l4 first second x e q1 q2 q3 q4 =
+      rows-on l l1 l4 _ _ q1 (rows-on l1 l2 l4 _ _ q2 (rows-on l2 l3 l4 _ _ q3 q4))
+      ∙ ap (λ (y : Comes). written l (placed y)) e
+      ∙ ap (written l) (rows-placed (p .order) first second)
 
 -- ---- the event
 pub event-is : (o w : Order) (e : Event) (first : Bool) → o ≡ w → (isPush w && first) ≡ false → e ≡ cond (isPush o && first) noEvent e

@@ -1,4 +1,5 @@
 -- The definitions of the controller: all that one has to believe of this crate. Assumes nothing.
+pub mod Performs
 pub mod Claims
 pub mod Bytes
 pub mod Fresh

@@ -37,7 +37,6 @@ use kinds::Ordinal;
 use kinds::Side;
 use kinds::Status;
 use kinds::Transaction;
-use rules::Lay;
 use rules::Present;
 
 // The refusal, and the place in the list of the first bad entry, from 1; 0 and 0 where it is accepted.
@@ -275,7 +274,10 @@ fn enter_change(s: &mut [u8], list: &[u8], at: usize)
     grow(s, n, u);
     store_change(s, i);
     rests(s, i, i, ordinal);
-    lay_committed(s, Lay::Values, t, number);
+    let p = t.paths;
+    let v = t.values;
+    let o = [number; 4];
+    lay_committed(s, p, v, o, t.count);
 }
 
 // The rollback of the revision, as its request and its commit leave it.
@@ -292,7 +294,10 @@ fn enter_rollback(s: &mut [u8])
     let aim = t.index;
     store_entry(s, number, undone(t, ordinal));
     rests(s, revision, aim, ordinal);
-    lay_committed(s, Lay::Kept, t, number);
+    let p = t.paths;
+    let v = t.kept;
+    let o = t.owners;
+    lay_committed(s, p, v, o, t.count);
 }
 
 // The entry at a place.

@@ -28,13 +28,13 @@ rests-requires : tie.Need-rests-requires
 rests-requires c κs = omega (arith, size _ (c .before .before .before .before .before .before .before .before .before .before .before .before .before .before .before .before .pre .formed))
 
 lay-committed-requires : tie.Need-lay-committed-requires
-lay-committed-requires c κs = omega (arith, size _ (c .before .before .before .before .before .before .before .before .before .before .before .before .before .before .before .before .before .before .before .before .pre .formed))
+lay-committed-requires c κs = omega (arith, size _ (c .before .before .before .before .before .before .before .before .before .before .before .before .before .before .before .before .before .before .before .before .before .before .before .pre .formed))
 
 same-length : tie.Need-same-length
 same-length c = search needs
 
 returns : tie.Need-returns
-returns c = undo-row (c .before .before .before .before .before .before .before .before .before .before .before .before .before .before .before .before .before .before .before .before .before .before .before .args .s .now) (c .before .before .before .before .before .before .before .before .before .before .before .before .before .before .before .before .before .before .before .before .before .before .before .pre) _ (c .before .before .before .before .before .before .before .before .before .before .before .before .before .before .before .before .before .before .before .before .load-head .ensures) _ (c .before .before .before .before .before .before .before .before .before .before .before .before .before .before .before .before .before .before .get .ensures) _ (c .before .before .before .before .before .before .before .before .before .before .before .before .before .before .before .before .load-entry .ensures) _ (c .before .before .before .before .before .before .before .before .before .before .before .before .before .before .next .ensures) _ (c .before .before .before .before .before .before .before .before .before .before .before .undone .ensures) _ _ _ (c .before .before .before .before .before .before .before .before .before .before .store-entry .ensures) (c .before .before .before .before .before .before .rests .ensures) (c .before .before .lay-committed .ensures)
+returns c = undo-row (c .before .before .before .before .before .before .before .before .before .before .before .before .before .before .before .before .before .before .before .before .before .before .before .before .before .before .args .s .now) (c .before .before .before .before .before .before .before .before .before .before .before .before .before .before .before .before .before .before .before .before .before .before .before .before .before .before .pre) _ (c .before .before .before .before .before .before .before .before .before .before .before .before .before .before .before .before .before .before .before .before .before .before .before .load-head .ensures) _ (c .before .before .before .before .before .before .before .before .before .before .before .before .before .before .before .before .before .before .before .before .before .get .ensures) _ (c .before .before .before .before .before .before .before .before .before .before .before .before .before .before .before .before .before .before .before .load-entry .ensures) _ (c .before .before .before .before .before .before .before .before .before .before .before .before .before .before .before .before .before .next .ensures) _ (c .before .before .before .before .before .before .before .before .before .before .before .before .before .before .undone .ensures) _ _ _ (c .before .before .before .before .before .before .before .before .before .before .before .before .before .store-entry .ensures) (c .before .before .before .before .before .before .before .before .before .rests .ensures) (c .before .before .lay-committed .ensures)
 
 pub enter-rollback-spec : {M : Type 1} → statement M
 enter-rollback-spec =

@@ -1,17 +1,14 @@
 -- `lay_by` meets its contract. Assumes nothing.
-use Rattle.controller.proofs.Performed.{laid-none, laid-by}
+use Rattle.controller.proofs.Performed.{laid-by}
 use borrow.Author.Needs.{needs}
 use Rattle.controller.proofs.perform.lay_by.Statement.{statement}
 use Rattle.controller.proofs.perform.lay_by.Tie as tie
 
-enum-told : tie.Need-enum-told
-enum-told c = search needs
+laid-values-requires : tie.Need-laid-values-requires
+laid-values-requires c κs = search needs
 
-returns : tie.Need-returns
-returns c = laid-none _ _ _ _ (c .enum-told .given .1)
-
-enum-told-2 : tie.Need-enum-told-2
-enum-told-2 c = search needs
+laid-count-requires : tie.Need-laid-count-requires
+laid-count-requires c κs = search needs
 
 lay-requires : tie.Need-lay-requires
 lay-requires c κs = search needs
@@ -19,32 +16,8 @@ lay-requires c κs = search needs
 same-length : tie.Need-same-length
 same-length c = search needs
 
-returns-2 : tie.Need-returns-2
-returns-2 c = laid-by _ _ _ _ _ _ (c .before .before .before .before .before .enum-told2 .given .1) (c .before .before .lay .ensures)
-
-enum-told-3 : tie.Need-enum-told-3
-enum-told-3 c = search needs
-
-lay-requires-2 : tie.Need-lay-requires-2
-lay-requires-2 c κs = search needs
-
-same-length-2 : tie.Need-same-length-2
-same-length-2 c = search needs
-
-returns-3 : tie.Need-returns-3
-returns-3 c = laid-by _ _ _ _ _ _ (c .before .before .before .before .before .enum-told3 .given .1) (c .before .before .lay2 .ensures)
+returns : tie.Need-returns
+returns c = laid-by _ _ (c .before .before .before .before .before .before .before .before .args .l) (c .before .before .before .before .before .before .before .before .args .t) _ _ (c .before .before .before .before .before .laid-values .ensures) (c .before .before .before .before .laid-count .ensures) _ (c .before .before .lay .ensures)
 
 pub lay-by-spec : {M : Type 1} → statement M
-lay-by-spec =
-    tie.close
-    (tie.spec
-    enum-told
-    returns
-    enum-told-2
-    lay-requires
-    same-length
-    returns-2
-    enum-told-3
-    lay-requires-2
-    same-length-2
-    returns-3)
+lay-by-spec = tie.close (tie.spec laid-values-requires laid-count-requires lay-requires same-length returns)
