@@ -1,16 +1,16 @@
 -- The live list as the code walks it: a hop goes to a lower number, so the list from v is v and the list from where its
--- hop goes; and what a store and the rest of the walk write. Assumes nothing.
+-- hop goes; the links that it walks over, and what is written. Assumes nothing.
 use Prim.Native.Nat.{ℕ, zero, suc, _+_, _-_, _*_, _/_, _%_, _≤_, _<_}
 use mathlib.Core.Path.{_≡_, refl, ap, ap₂, sym, _∙_}
 use mathlib.Core.Bool.{Bool, true, false, cond}
 use mathlib.Core.List.{List, [], _∷_, _++_, append-assoc, append-nil}
-use native.Mathlib.Nat.{le-of-suc-le-suc, not-suc-le-zero, add-zero, zero-add}
+use native.Mathlib.Nat.{le-of-suc-le-suc, not-suc-le-zero, zero-add}
 use native.Mathlib.Numerals.{add-one}
 use native.Mathlib.Omega.{arith}
-use borrow.Author.Tests.{leb-true, leb-false, le-leb, lt-leb}
-use lib.Dec.{leb}
-use lib.ListN.{length, getD, take, drop, set, length-append, length-set, take-append-drop, List·getD-append}
-use lib.Seq.{length-take-le, take-suc-set, drop-set-lt, drop-drop}
+use borrow.Author.Tests.{leb-true, leb-false, le-leb, lt-leb, eqb-true, eqb-false}
+use lib.Dec.{eqb, leb}
+use lib.ListN.{length, getD, take, drop, set, length-append, length-set, drop-of-length-le, take-append-drop, List·getD-append}
+use lib.Seq.{length-take-le, take-suc-set, drop-cons, drop-set-lt, drop-drop, take-append-seam, getD-set-same, getD-set-other, getD-take, sets, length-sets, sets-eq}
 use Rattle.kinds.specs.declared.Transaction.{Transaction}
 use Rattle.kinds.specs.declared.Head.{Head}
 use Rattle.machine.specs.State.{Log, State, entryOf, last}
@@ -23,7 +23,7 @@ use Rattle.image.specs.Formed.{formed}
 use Rattle.image.proofs.Scanned.{view-folded}
 use Rattle.controller.specs.declared.walking.Listed.{Listed}
 use Rattle.controller.specs.Claims.{Entry}
-use Rattle.controller.specs.Live.{inBytes, unless, listing, listingOf, Lists, ListsLive, liveFrom, Chained, Placed, Put, Fitting, Leading, ListedIn}
+use Rattle.controller.specs.Live.{inBytes, unless, listing, listingOf, Lists, ListsLive, liveFrom, Chained, Linked, Passing, Walks, Fitting, Leading, ListedIn}
 use Rattle.controller.proofs.Decided.{entry-of, formed-view, last-is, room}
 
 -- ---- hops, in a well-formed state
@@ -131,15 +131,9 @@ module _ (l : List ℕ) (b v : ℕ) (c : Chained l b v) where
   pub counted-none : v ≤ b → 0 ≡ length (liveFrom (view l) v)
   counted-none h = sym (ap length (none-from h))
 
-  pub room-none : (m : ℕ) → v ≤ b → true ≡ leb (length (liveFrom (view l) v)) m
-  room-none m h = sym (le-leb (length (liveFrom (view l) v)) m (omega (arith, counted-none h)))
-
-  pub room-enough : (m : ℕ) → v - b ≤ m → true ≡ leb (length (liveFrom (view l) v)) m
-  unfolding liveFrom
-  room-enough m h =
-      let k = short (view l) (formed-view l (c .formed)) v v chain-last in
-      let g = c .folded in
-      sym (le-leb (length (liveFrom (view l) v)) m (omega (arith, view-folded l)))
+  -- there is a place for each number kept
+  pub places : v ≤ b + slots
+  places = let k = c .last in let g = c .folded in let r = room l (c .formed) .1 .0 in omega arith
 
   -- at most as many as are kept
   pub few : length (liveFrom (view l) v) ≤ slots
@@ -186,72 +180,155 @@ module _ (l : List ℕ) (b v : ℕ) (c : Chained l b v) where
       pub counted : (k : ℕ) → k ≡ length (liveFrom (view l) i) → k + 1 ≡ length (liveFrom (view l) v)
       counted k p = ap (λ (x : ℕ). x + 1) p ∙ add-one _ ∙ sym (ap length live-more)
 
-      pub room-here : (at m : ℕ) → at + 2 * length (liveFrom (view l) v) ≤ m → at + 2 ≤ m
-      room-here at m r = omega (arith, ap length live-more)
+-- ---- the links, as the loop writes them: those of the numbers above i are there
+pub record Linking (l : List ℕ) (v : ℕ) (t : List ℕ) (i : ℕ) : Type 0 where
+  pub low : i ≤ v
+  pub size : length t ≡ slots
+  pub links : (j : ℕ) → i < j → j ≤ v → getD t (v - j) 0 ≡ entryOf (view l .log) j .index .0
 
-      pub placed : (at m m′ : ℕ) → at + 2 * length (liveFrom (view l) v) ≤ m → m′ ≡ m → Placed l b i (at + 2) m′
-      placed at m m′ r e = record { chained = lower; room = omega (arith, ap length live-more) }
+module _ (l : List ℕ) (b v : ℕ) (c : Chained l b v) (t : List ℕ) where
+  pub linking-none : length t ≡ slots → Linking l v t v
+  linking-none e = record { low = omega arith; size = e; links = λ j h k. absurd (omega arith) }
 
--- ---- what is written
--- a store at f, then l from f + 1 on, is v ∷ l from f on; past it the room is as it was
-put-at : (xs : List ℕ) (f i v : ℕ) (l : List ℕ) → f < length xs → f ≤ i
-    → take (suc f) (set xs f v) ++ (l ++ drop (suc i) (set xs f v)) ≡ take f xs ++ (v ∷ (l ++ drop (suc i) xs))
-put-at [] f i v l h g = absurd (not-suc-le-zero h)
-put-at (x ∷ xs) zero i v l h g = refl
-put-at (x ∷ xs) (suc f) zero v l h g = absurd (not-suc-le-zero g)
-put-at (x ∷ xs) (suc f) (suc i) v l h g = ap (λ (r : List ℕ). x ∷ r) (put-at xs f i v l (le-of-suc-le-suc h) (le-of-suc-le-suc g))
+  module _ (i : ℕ) (g : Linking l v t i) where
+    pub link-here : b < i → v - i < slots
+    link-here h = let k = g .low in omega (arith, places l b v c)
 
-put-more : (xs : List ℕ) (f v : ℕ) (l : List ℕ) → f < length xs
-    → take (f + 1) (set xs f v) ++ (l ++ drop (f + 1 + length l) (set xs f v)) ≡ take f xs ++ ((v ∷ l) ++ drop (f + length (v ∷ l)) xs)
-put-more xs f v l h =
-    ap (λ (k : ℕ). take k (set xs f v) ++ (l ++ drop (f + 1 + length l) (set xs f v))) (add-one f)
-    ∙ ap (λ (k : ℕ). take (suc f) (set xs f v) ++ (l ++ drop k (set xs f v))) (to-suc f (length l))
-    ∙ put-at xs f (f + length l) v l h (omega arith)
-    ∙ ap (λ (k : ℕ). take f xs ++ (v ∷ (l ++ drop k xs))) (from-suc f (length l))
-  where
-    to-suc : (a b : ℕ) → a + 1 + b ≡ suc (a + b)
-    to-suc a b = omega arith
+    pub linking-entry : b < i → Entry l i
+    linking-entry h = let k = g .low in let m = c .last in let f = c .folded in record { formed = c .formed; kept = omega arith; last = omega arith }
 
-    from-suc : (a b : ℕ) → suc (a + b) ≡ a + suc b
-    from-suc a b = omega arith
+    pub linking-more : b < i → (x : ℕ) → x ≡ entryOf (view l .log) i .index .0 → Linking l v (set t (v - i) x) (i - 1)
+    linking-more n x q =
+        record {
+          low = let k = g .low in omega arith;
+          size = length-set t (v - i) x ∙ g .size;
+          links = λ j h k. go j h k (eqb j i) refl;
+        }
+      where
+        above : (a d : ℕ) → a - 1 < d → (d ≡ a → ⊥) → a < d
+        above a d h z = omega arith
 
--- two stores, the low byte and the high one
+        go : (j : ℕ) → i - 1 < j → j ≤ v → (y : Bool) → eqb j i ≡ y → getD (set t (v - i) x) (v - j) 0 ≡ entryOf (view l .log) j .index .0
+        go j h k true e =
+            let z : j ≡ i = eqb-true j i e in
+            ap (λ (y : ℕ). getD (set t (v - i) x) (v - y) 0) z ∙ getD-set-same t (v - i) x 0 (let m = link-here n in omega (arith, g .size)) ∙ q
+            ∙ ap (λ (y : ℕ). entryOf (view l .log) y .index .0) (sym z)
+        go j h k false e =
+            let z : j ≡ i → ⊥ = eqb-false j i e in
+            let low = g .low in
+            getD-set-other t (v - i) (v - j) x 0 (λ y. z (omega arith)) ∙ g .links j (above i j h z) k
+
+    pub linking-done : i ≤ b → Linked l b v v t
+    linking-done h = record { chained = c; size = g .size; links = λ j m k. g .links j (omega arith) k }
+
+-- ---- the walk over them
+module _ (l : List ℕ) (b top v : ℕ) (t : List ℕ) (k : Linked l b top v t) (n : b < v) where
+  -- where the hop goes
+  hops-to : (getD t (top - v) 0 ≡ entryOf (view l .log) v .index .0) × (getD t (top - v) 0 < v)
+  hops-to =
+      let e = k .links v n (omega arith) in
+      let g = k .chained .folded in
+      let f = falls (view l) (formed-view l (k .chained .formed)) v (omega (arith, view-folded l)) (chain-last l b v (k .chained)) in
+      (e, omega arith)
+
+  -- a number over a link that was passed leaves those to come
+  linked-more : (at x : ℕ) → at + v ≤ top → Linked l b top (getD t (top - v) 0) (set t at x)
+  linked-more at x p =
+      let f = hops-to .1 in
+      record {
+        chained = lower l b v (k .chained) n (getD t (top - v) 0) hops-to;
+        size = length-set t at x ∙ k .size;
+        links = λ i h m. getD-set-other t at (top - i) x 0 (λ y. absurd (omega arith)) ∙ k .links i h (omega arith);
+      }
+
+pub walks-none : (t : List ℕ) (top b v at : ℕ) → v ≤ b → Walks t top b v at 0 t
+walks-none t top b v at h l k = (counted-none l b v (k .chained) h, sym (ap (sets t at) (none-from l b v (k .chained) h)))
+
+module _ (t : List ℕ) (top b v at : ℕ) (p : Passing t top b v at) (n : b < v) where
+  pub link-place : top - v < slots
+  link-place = let m = p .places in let h = p .passed in omega arith
+
+  pub list-place : at < slots
+  list-place = let m = p .places in let h = p .passed in omega arith
+
+  pub falls-here : getD t (top - v) 0 < v
+  falls-here = hops-to (p .image) b top v t (p .linked) n .1
+
+  pub passing-more : Passing (set t at v) top b (getD t (top - v) 0) (at + 1)
+  passing-more =
+      record {
+        image = p .image;
+        linked = linked-more (p .image) b top v t (p .linked) n at v (p .passed);
+        places = p .places;
+        passed = let h = p .passed in omega (arith, falls-here);
+      }
+
+  module _ (r : ℕ) (t′ : List ℕ) (q : Walks (set t at v) top b (getD t (top - v) 0) (at + 1) r t′) where
+    pub walks-few : r < v
+    walks-few =
+        let e = q (p .image) (linked-more (p .image) b top v t (p .linked) n at v (p .passed)) .0 in
+        let h = live-short (view (p .image)) (getD t (top - v) 0) in
+        omega (arith, falls-here)
+
+    pub walks-more : Walks t top b v at (r + 1) t′
+    walks-more l k =
+        let h = hops-to l b top v t k n in
+        let z = q l (linked-more l b top v t k n at v (p .passed)) in (
+          counted l b v (k .chained) n (getD t (top - v) 0) h r (z .0),
+          z .1 ∙ ap (λ (x : ℕ). sets (set t at v) x (liveFrom (view l) (getD t (top - v) 0))) (add-one at)
+              ∙ ap (sets t at) (sym (live-more l b v (k .chained) n (getD t (top - v) 0) h)),
+        )
+
+-- ---- the list in bytes: what is still to come, behind what is written, gives the whole
 bytes-long : (l : List ℕ) → length (inBytes l) ≡ 2 * length l
 unfolding inBytes
 bytes-long [] = refl
 bytes-long (v ∷ l) = let h = bytes-long l in omega arith
 
-put-number : (m : List ℕ) (at v : ℕ) (l : List ℕ) → at + 2 ≤ length m → Put (set (set m at (v % 256)) (at + 1) (v / 256)) (at + 2) l ≡ Put m at (v ∷ l)
-unfolding inBytes
-put-number m at v l h =
-    let n = bytes-long l in
-    let m1 = set m at (v % 256) in
-    let m2 = set m1 (at + 1) (v / 256) in
-    ap₂ (λ (j k : ℕ). take j m2 ++ (inBytes l ++ drop k m2)) (two at) (three at (length l) (length (inBytes l)) n)
-    ∙ put-more m1 (at + 1) (v / 256) (inBytes l) (omega (arith, length-set m at (v % 256)))
-    ∙ put-more m at (v % 256) (v / 256 ∷ inBytes l) (omega arith)
-    ∙ ap (λ (k : ℕ). take at m ++ ((v % 256 ∷ v / 256 ∷ inBytes l) ++ drop k m)) (four at (length l) (length (inBytes l)) n)
-  where
-    two : (a : ℕ) → a + 2 ≡ a + 1 + 1
-    two a = omega arith
+pub record Putting (m list : List ℕ) (n : ℕ) (r : List ℕ) (k : ℕ) : Type 0 where
+  pub low : k ≤ n
+  pub size : length r ≡ length m
+  pub whole : sets r (2 * k) (inBytes (drop k (take n list))) ≡ sets m 0 (inBytes (take n list))
 
-    three : (a k j : ℕ) → j ≡ 2 * k → a + 2 + 2 * k ≡ a + 1 + 1 + j
-    three a k j e = omega arith
+module _ (m list : List ℕ) (n : ℕ) (z : (length list ≡ slots) × ((n ≤ slots) × (2 * n ≤ length m))) where
+  first-length : length (take n list) ≡ n
+  first-length = let e = z .0 in let h = z .1 .0 in length-take-le n list (omega arith)
 
-    four : (a k j : ℕ) → j ≡ 2 * k → a + suc (suc j) ≡ a + 2 * suc k
-    four a k j e = omega arith
+  pub putting-none : Putting m list n m 0
+  putting-none = record { low = omega arith; size = refl; whole = refl }
 
-pub walked-none : (l : List ℕ) (b v : ℕ) → Chained l b v → (m : List ℕ) (at : ℕ) → v ≤ b → m ≡ Put m at (liveFrom (view l) v)
-unfolding inBytes
-walked-none l b v c m at e =
-    sym (ap (Put m at) (none-from l b v c e) ∙ ap (λ (k : ℕ). take at m ++ drop k m) (add-zero at) ∙ take-append-drop at m)
+  module _ (r : List ℕ) (k : ℕ) (g : Putting m list n r k) where
+    pub number-here : k < n → 2 * k + 2 ≤ length r
+    number-here h = let e = g .size in let y = z .1 .1 in omega arith
 
-pub walked-more : (l : List ℕ) (b v : ℕ) (c : Chained l b v) (n : b < v) (i : ℕ) (h : (i ≡ entryOf (view l .log) v .index .0) × (i < v))
-    (m m′ m″ : List ℕ) (at : ℕ) → at + 2 * length (liveFrom (view l) v) ≤ length m → m′ ≡ set (set m at (v % 256)) (at + 1) (v / 256)
-    → m″ ≡ Put m′ (at + 2) (liveFrom (view l) i) → m″ ≡ Put m at (liveFrom (view l) v)
-walked-more l b v c n i h m m′ m″ at r p q =
-    q ∙ ap (λ x. Put x (at + 2) (liveFrom (view l) i)) p ∙ put-number m at v (liveFrom (view l) i) (room-here l b v c n i h at (length m) r)
-    ∙ ap (Put m at) (sym (live-more l b v c n i h))
+    pub putting-more : k < n → (r′ : List ℕ) → r′ ≡ set (set r (2 * k) (getD list k 0 % 256)) (2 * k + 1) (getD list k 0 / 256) → Putting m list n r′ (k + 1)
+    unfolding inBytes
+    putting-more h r′ e =
+        let x = getD list k 0 in
+        let rest = drop (k + 1) (take n list) in
+        let d : drop k (take n list) ≡ x ∷ rest =
+        drop-cons (take n list) k 0 (omega (arith, first-length))
+        ∙ ap₂ (λ (y j : ℕ). y ∷ drop j (take n list)) (getD-take n list k 0 h) (sym (add-one k)) in
+        record {
+          low = omega arith;
+          size = ap length e ∙ length-set (set r (2 * k) (x % 256)) (2 * k + 1) (x / 256) ∙ length-set r (2 * k) (x % 256) ∙ g .size;
+          whole =
+              ap (λ (y : List ℕ). sets y (2 * (k + 1)) (inBytes rest)) e
+              ∙ ap₂ (λ (i j : ℕ). sets (set (set r (2 * k) (x % 256)) i (x / 256)) j (inBytes rest)) (add-one (2 * k)) (twice k)
+              ∙ sym (ap (λ (y : List ℕ). sets r (2 * k) (inBytes y)) d) ∙ g .whole;
+        }
+      where
+        twice : (a : ℕ) → 2 * (a + 1) ≡ suc (suc (2 * a))
+        twice a = omega arith
+
+    pub putting-done : n ≤ k → r ≡ listing (take n list) m .room
+    unfolding inBytes
+    putting-done h =
+        let e : drop k (take n list) ≡ [] = drop-of-length-le (take n list) {i = k} (omega (arith, first-length)) in
+        let y = z .1 .1 in
+        sym (ap (λ (x : List ℕ). sets r (2 * k) (inBytes x)) e) ∙ g .whole
+        ∙ sets-eq (inBytes (take n list)) m 0 (omega (arith, bytes-long (take n list), first-length))
+        ∙ ap (λ (x : ℕ). inBytes (take n list) ++ drop x m) (zero-add (length (inBytes (take n list))) ∙ bytes-long (take n list))
 
 -- ---- fold's list: the first n of the room r are written, m is the room as it was, and the list from i is still to come
 pub record Going (l : List ℕ) (b v : ℕ) (m r : List ℕ) (i n : ℕ) : Type 0 where
@@ -322,27 +399,45 @@ module _ (l : List ℕ) (w : formed l ≡ true) (d : Head) (v b : ℕ) (ed : d �
   unfolding liveFrom
   live-is = ap (λ (x : ℕ). hops x (view l .log) x) from-revision
 
-  module _ (m : List ℕ) (y : Bool) (ey : y ≡ leb (length (liveFrom (view l) v)) (length m / 2)) where
-    pub starts : y ≡ true → Placed l b v 0 (length m)
-    starts h = let k = leb-true (length (liveFrom (view l) v)) (length m / 2) (sym ey ∙ h) in record { chained = revision-chained; room = omega arith }
+  pub begins : (t : List ℕ) → Linked l b v v t → Passing t v b v 0
+  begins t k = record { image = l; linked = k; places = places l b v revision-chained; passed = omega arith }
 
-    room-is : leb (2 * length (live (view l))) (length m) ≡ y
-    room-is = ap (λ (x : List ℕ). leb (2 * length x) (length m)) (sym live-is) ∙ halves (length (liveFrom (view l) v)) (length m) ∙ sym ey
+  module _ (m t t′ : List ℕ) (n : ℕ) (k : Linked l b v v t) (q : Walks t v b v 0 n t′) where
+    length-is : n ≡ length (live (view l))
+    length-is = q l k .0 ∙ ap length live-is
 
-    pub listed : (n : ℕ) (r : Listed) (m′ : List ℕ) → y ≡ true → (n ≡ length (liveFrom (view l) v)) × (m′ ≡ Put m 0 (liveFrom (view l) v))
-        → r ≡ record { answer = 0; length = n } → ListsLive l m r m′
-    listed n r m′ h q p = (
-      p ∙ ap (λ (x : ℕ). record { answer = 0; length = x }) (q .0 ∙ ap length live-is)
-          ∙ ap (λ (x : Bool). unless 14 m x (listing (live (view l)) m) .listed) (sym (room-is ∙ h)),
-      q .1 ∙ ap (Put m 0) live-is ∙ ap (λ (x : ℕ). inBytes (live (view l)) ++ drop x m) (zero-add (2 * length (live (view l))))
-          ∙ ap (λ (x : Bool). unless 14 m x (listing (live (view l)) m) .room) (sym (room-is ∙ h)),
-    )
+    pub fits-table : n ≤ slots
+    fits-table = omega (arith, q l k .0, few l b v revision-chained)
 
-    pub not-listed : (r : Listed) → y ≡ false → r ≡ record { answer = 14; length = 0 } → ListsLive l m r m
-    not-listed r h p = (
-      p ∙ ap (λ (x : Bool). unless 14 m x (listing (live (view l)) m) .listed) (sym (room-is ∙ h)),
-      ap (λ (x : Bool). unless 14 m x (listing (live (view l)) m) .room) (sym (room-is ∙ h)),
-    )
+    pub table-size : length t′ ≡ slots
+    table-size = ap length (q l k .1) ∙ length-sets t 0 (liveFrom (view l) v) ∙ k .size
+
+    -- what the walk has listed
+    first-is : take n t′ ≡ live (view l)
+    first-is =
+        ap₂ take (q l k .0) (q l k .1 ∙ sets-eq (liveFrom (view l) v) t 0 (let e = k .size in omega (arith, few l b v revision-chained)))
+        ∙ take-append-seam (liveFrom (view l) v) (drop (0 + length (liveFrom (view l) v)) t) ∙ live-is
+
+    room-is : leb (2 * length (live (view l))) (length m) ≡ leb n (length m / 2)
+    room-is = halves (length (live (view l))) (length m) ∙ ap (λ (x : ℕ). leb x (length m / 2)) (sym length-is)
+
+    pub fits-room : n ≤ length m / 2 → 2 * n ≤ length m
+    fits-room h = omega arith
+
+    pub listed : (r : Listed) (m′ : List ℕ) → n ≤ length m / 2 → m′ ≡ listing (take n t′) m .room → r ≡ record { answer = 0; length = n } → ListsLive l m r m′
+    listed r m′ h e p =
+        let y : leb (2 * length (live (view l))) (length m) ≡ true = room-is ∙ le-leb n (length m / 2) h in (
+          p ∙ ap (λ (x : ℕ). record { answer = 0; length = x }) length-is
+              ∙ ap (λ (x : Bool). unless 14 m x (listing (live (view l)) m) .listed) (sym y),
+          e ∙ ap (λ (x : List ℕ). listing x m .room) first-is ∙ ap (λ (x : Bool). unless 14 m x (listing (live (view l)) m) .room) (sym y),
+        )
+
+    pub not-listed : (r : Listed) → length m / 2 < n → r ≡ record { answer = 14; length = 0 } → ListsLive l m r m
+    not-listed r h p =
+        let y : leb (2 * length (live (view l))) (length m) ≡ false = room-is ∙ lt-leb n (length m / 2) h in (
+          p ∙ ap (λ (x : Bool). unless 14 m x (listing (live (view l)) m) .listed) (sym y),
+          ap (λ (x : Bool). unless 14 m x (listing (live (view l)) m) .room) (sym y),
+        )
 
 -- ---- refusal 1 comes first
 module _ (l m : List ℕ) (b : Bool) (r : Listed) (eb : b ≡ formed l) where

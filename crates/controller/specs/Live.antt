@@ -1,13 +1,15 @@
 -- What `live` claims of its answer and of the room that it is lent (paper: The live list). Assumes nothing.
-use Prim.Native.Nat.{ℕ, _+_, _*_, _/_, _%_, _≤_, _<_}
+use Prim.Native.Nat.{ℕ, _+_, _-_, _*_, _/_, _%_, _≤_, _<_}
 use mathlib.Core.Path.{_≡_}
 use mathlib.Core.Bool.{Bool, true, false}
 use mathlib.Core.List.{List, [], _∷_, _++_}
 use lib.Dec.{leb}
-use lib.ListN.{length, getD, take, drop}
-use Rattle.machine.specs.State.{State}
+use lib.ListN.{length, getD, drop}
+use lib.Seq.{sets}
+use Rattle.machine.specs.State.{State, entryOf}
 use Rattle.machine.specs.LiveList.{hops, live}
 use Rattle.machine.specs.Folding.{baseRow}
+use Rattle.image.specs.Layout.{slots}
 use Rattle.image.specs.Records.{lastOf, foldedOf}
 use Rattle.image.specs.View.{view}
 use Rattle.image.specs.Formed.{formed}
@@ -66,14 +68,22 @@ pub record Reaches (l : List ℕ) (b to v r : ℕ) : Type 0 where
   pub low : r ≤ to
   pub same : baseRow (view l .log) to (liveFrom (view l) r) ≡ baseRow (view l .log) to (liveFrom (view l) v)
 
--- a place in the room from which the list has room
-pub record Placed (l : List ℕ) (b v at n : ℕ) : Type 0 where
+-- the links of the chain down from v: as many places on as a number is below the top, where its hop goes
+pub record Linked (l : List ℕ) (b top v : ℕ) (t : List ℕ) : Type 0 where
   pub chained : Chained l b v
-  pub room : at + 2 * length (liveFrom (view l) v) ≤ n
+  pub size : length t ≡ slots
+  pub links : (i : ℕ) → b < i → i ≤ v → getD t (top - i) 0 ≡ entryOf (view l .log) i .index .0
 
--- the room with a list at a place
-abbrev pub Put : List ℕ → ℕ → List ℕ → List ℕ
-Put m at v = take at m ++ (inBytes v ++ drop (at + 2 * length v) m)
+-- a walk that has come to v over the links of an image, and a place for v where no link is that is still to be met
+pub record Passing (t : List ℕ) (top b v at : ℕ) : Type 0 where
+  pub image : List ℕ
+  pub linked : Linked image b top v t
+  pub places : top ≤ b + slots
+  pub passed : at + v ≤ top
+
+-- of every image with these links: how long the list from v is, and the table with the list from a place on
+abbrev pub Walks : List ℕ → ℕ → ℕ → ℕ → ℕ → ℕ → List ℕ → Type 0
+Walks t top b v at n t′ = (l : List ℕ) → Linked l b top v t → (n ≡ length (liveFrom (view l) v)) × (t′ ≡ sets t at (liveFrom (view l) v))
 
 -- ---- the list as fold makes it for itself (order 10)
 -- a number from which the list has room

@@ -1,15 +1,16 @@
 // The live list: a recursive walk from the committed revision; each hop goes to r.index until 0 or a folded number.
 ghost use mathlib.Core.Path.{_≡_};
 ghost use mathlib.Core.Bool.{true};
-ghost use Prim.Native.Nat.{_+_, _/_, _%_, _≤_, _<_};
-ghost use lib.Dec.{leb};
-ghost use lib.ListN.{length, set};
+ghost use Prim.Native.Nat.{_+_, _*_, _/_, _%_, _≤_, _<_};
+ghost use lib.ListN.{length, take, set};
 ghost use Rattle.machine.specs.State.{entryOf};
+ghost use Rattle.image.specs.Layout.{slots};
 ghost use Rattle.image.specs.View.{view};
 ghost use Rattle.image.specs.Formed.{formed};
 ghost use Rattle.controller.specs.Claims.{Entry};
-ghost use Rattle.controller.specs.Live.{Lists, ListsLive, liveFrom, Chained, Placed, Put};
+ghost use Rattle.controller.specs.Live.{listing, Lists, ListsLive, Chained, Linked, Passing, Walks};
 use image::COMMITTED_AT;
+use image::RING;
 use image::last_fold;
 use image::load_entry;
 use image::load_head;
@@ -31,33 +32,6 @@ pub fn hop(s: &[u8], v: u16) -> u16
     i.get()
 }
 
-// How many hops there are from v down to the last fold b.
-fn count(s: &[u8], b: u16, v: u16) -> u16
-    requires { ⌜ Chained (now s) b v ⌝ }
-    ensures { λ r. ⌜ r ≡ length (liveFrom (view (now (s .entry))) v) ⌝ }
-{
-    if v <= b {
-        return 0;
-    }
-    let next = hop(s, v);
-    count(s, b, next) + 1
-}
-
-// Whether the list from v has room: it has at most v - b numbers, so it is counted only where there is less space.
-fn has_room(s: &[u8], b: u16, v: u16, space: usize) -> bool
-    requires { ⌜ Chained (now s) b v ⌝ }
-    ensures { λ r. ⌜ r ≡ leb (length (liveFrom (view (now (s .entry))) v)) space ⌝ }
-{
-    if v <= b {
-        return true;
-    }
-    if (v - b) as usize <= space {
-        return true;
-    }
-    let n = count(s, b, v);
-    n as usize <= space
-}
-
 // A number at a place of the room: two bytes, the low one first.
 fn put_number(room: &mut [u8], at: usize, v: u16)
     requires { ⌜ at + 2 ≤ length (now room) ⌝ }
@@ -67,17 +41,45 @@ fn put_number(room: &mut [u8], at: usize, v: u16)
     room[at + 1] = (v / 256) as u8;
 }
 
-// Writes the list from v on, at a place and after it, and answers its length.
-fn walk(s: &[u8], b: u16, v: u16, room: &mut [u8], at: usize) -> u16
-    requires { ⌜ Placed (now s) b v at (length (now room)) ⌝ }
-    ensures { λ r. ⌜ (r ≡ length (liveFrom (view (now (s .entry))) v)) × (now (room .exit) ≡ Put (now (room .entry)) at (liveFrom (view (now (s .entry))) v)) ⌝ }
+// The links of the chain: where a hop goes from v and from each number kept below it, v's first.
+fn links(s: &[u8], b: u16, v: u16, chain: &mut [u16; RING])
+    requires { ⌜ Chained (now s) b v × (length (now chain) ≡ slots) ⌝ }
+    ensures { λ _. ⌜ Linked (now (s .entry)) b v v (now (chain .exit)) ⌝ }
+{
+    let mut i = v;
+    while b < i {
+        let k = (v - i) as usize;
+        chain[k] = hop(s, i);
+        i -= 1;
+    }
+}
+
+// Walks the chain from v on and answers how many numbers it met. The link of a number lies as many places on as the number is below
+// the top; the numbers are listed from a place on, over links that were passed. It has the links in hand and no slice, so that the
+// compiler makes a loop of it and a hop takes no stack.
+fn walk(chain: &mut [u16; RING], top: u16, b: u16, v: u16, at: usize) -> u16
+    requires { ⌜ Passing (now chain) top b v at ⌝ }
+    ensures { λ r. ⌜ Walks (now (chain .entry)) top b v at r (now (chain .exit)) ⌝ }
 {
     if v <= b {
         return 0;
     }
-    let next = hop(s, v);
-    put_number(room, at, v);
-    walk(s, b, next, room, at + 2) + 1
+    let k = (top - v) as usize;
+    let next = chain[k];
+    chain[at] = v;
+    walk(chain, top, b, next, at + 1) + 1
+}
+
+// Puts the first n of a list at the start of the room.
+fn put_list(room: &mut [u8], list: &[u16; RING], n: usize)
+    requires { ⌜ (length (now list) ≡ slots) × ((n ≤ slots) × (2 * n ≤ length (now room))) ⌝ }
+    ensures { λ _. ⌜ now (room .exit) ≡ listing (take n (now (list .entry))) (now (room .entry)) .room ⌝ }
+{
+    let mut k: usize = 0;
+    while k < n {
+        put_number(room, 2 * k, list[k]);
+        k += 1;
+    }
 }
 
 fn list(s: &[u8], room: &mut [u8]) -> Listed
@@ -87,8 +89,11 @@ fn list(s: &[u8], room: &mut [u8]) -> Listed
     let h = load_head(s, COMMITTED_AT);
     let v = h.revision.get();
     let b = last_fold(s);
-    if has_room(s, b, v, room.len() / 2) {
-        let n = walk(s, b, v, room, 0);
+    let mut chain = [0u16; RING];
+    links(s, b, v, &mut chain);
+    let n = walk(&mut chain, v, b, v, 0);
+    if n as usize <= room.len() / 2 {
+        put_list(room, &chain, n as usize);
         return Listed {
             answer: 0,
             length: n,

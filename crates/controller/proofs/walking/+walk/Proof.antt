@@ -1,124 +1,74 @@
 -- `walk` meets its contract: the measure is the number, which falls at each call. Assumes nothing.
-use mathlib.Core.Path.{_∙_}
 use native.Mathlib.Omega.{arith}
-use Rattle.image.specs.View.{view}
-use Rattle.controller.proofs.Walked.{counted-none, live-short, as-entry, counted, room-here, placed, walked-none, walked-more}
+use Rattle.controller.proofs.Walked.{walks-none, link-place, list-place, falls-here, passing-more, walks-few, walks-more}
+use borrow.Author.Needs.{needs}
 use Prim.Native.Nat.{ℕ, _<_}
 use borrow.Fn.Kinds.{In}
 use borrow.Fn.PlainCycle.{Measures, is, falls, and}
 use Rattle.controller.proofs.walking.walk.Reads as walk
 use Rattle.controller.proofs.walking.walk.Kinds as walk-kinds
 use Rattle.controller.proofs.walking.+walk.Lts-walk as walk-lts
-use Rattle.controller.proofs.walking.hop.Reads as hop-reads
-use Rattle.controller.proofs.walking.put_number.Reads as put-number-reads
 use Rattle.controller.proofs.walking.+walk.{statement}
 use Rattle.controller.proofs.walking.+walk.Tie.{close}
 
-abbrev μ-walk : Measures 2 walk-kinds.ps ℕ
-μ-walk κs a = a .1 .1 .0
+abbrev μ-walk : Measures 1 walk-kinds.ps ℕ
+μ-walk κs a = a .1 .1 .1 .0
 
-abbrev walk-at : ℕ → In 2 walk-kinds.ps
-walk-at t = and 2 walk-kinds.ps (is 2 walk-kinds.ps μ-walk t) walk.Pre
+abbrev walk-at : ℕ → In 1 walk-kinds.ps
+walk-at t = and 1 walk-kinds.ps (is 1 walk-kinds.ps μ-walk t) walk.Pre
 
-abbrev walk-below : ℕ → In 2 walk-kinds.ps
-walk-below t = and 2 walk-kinds.ps (falls 2 walk-kinds.ps _<_ μ-walk t) walk.Pre
+abbrev walk-below : ℕ → In 1 walk-kinds.ps
+walk-below t = and 1 walk-kinds.ps (falls 1 walk-kinds.ps _<_ μ-walk t) walk.Pre
 
-walk-returns : (t : ℕ) → walk-lts.Need-returns (
-  hop-reads.Asked,
-  hop-reads.Learnt,
-  put-number-reads.Asked,
-  put-number-reads.Learnt,
-  walk-below t,
-  walk.Post,
-) (walk-at t) walk.Post
-walk-returns t c = (counted-none _ _ _ (c .before .before .before .pre .1 .chained) (c .if1 .taken), walked-none _ _ _ (c .before .before .before .pre .1 .chained) (c .before .before .before .args .room .now) (c .before .before .before .args .at) (c .if1 .taken))
+walk-returns : (t : ℕ) → walk-lts.Need-returns (walk-below t, walk.Post) (walk-at t) walk.Post
+walk-returns t c = walks-none _ _ _ _ _ (c .if1 .taken)
 
-walk-hop-requires : (t : ℕ) → walk-lts.Need-hop-requires (
-  hop-reads.Asked,
-  hop-reads.Learnt,
-  put-number-reads.Asked,
-  put-number-reads.Learnt,
-  walk-below t,
-  walk.Post,
-) (walk-at t) walk.Post
-walk-hop-requires t c κs = as-entry _ _ _ (c .before .before .before .pre .1 .chained) (c .if1 .left)
+walk-sub-k : (t : ℕ) → walk-lts.Need-sub-k (walk-below t, walk.Post) (walk-at t) walk.Post
+walk-sub-k t c = let h = c .before .pre .1 .passed in omega arith
 
-walk-put-number-requires : (t : ℕ) → walk-lts.Need-put-number-requires (
-  hop-reads.Asked,
-  hop-reads.Learnt,
-  put-number-reads.Asked,
-  put-number-reads.Learnt,
-  walk-below t,
-  walk.Post,
-) (walk-at t) walk.Post
-walk-put-number-requires t c κs = room-here _ _ _ (c .before .before .before .before .before .pre .1 .chained) (c .before .before .if1 .left) _ (c .before .hop .ensures) _ _ (c .before .before .before .before .before .pre .1 .room)
+walk-cast-k : (t : ℕ) → walk-lts.Need-cast-k (walk-below t, walk.Post) (walk-at t) walk.Post
+walk-cast-k t c = search needs
 
-walk-add-walk : (t : ℕ) → walk-lts.Need-add-walk (
-  hop-reads.Asked,
-  hop-reads.Learnt,
-  put-number-reads.Asked,
-  put-number-reads.Learnt,
-  walk-below t,
-  walk.Post,
-) (walk-at t) walk.Post
-walk-add-walk t c = let h = room-here _ _ _ (c .before .before .before .before .before .before .before .before .before .pre .1 .chained) (c .before .before .before .before .before .before .if1 .left) _ (c .before .before .before .before .before .hop .ensures) _ _ (c .before .before .before .before .before .before .before .before .before .pre .1 .room) in omega (arith, c .before .before .before .before .before .before .before .before .before .good .1 .1 .1 .0)
+walk-mul-next : (t : ℕ) → walk-lts.Need-mul-next (walk-below t, walk.Post) (walk-at t) walk.Post
+walk-mul-next t c = let h = link-place _ _ _ _ _ (c .before .pre .1) (c .if1 .left) in omega arith
 
-walk-walk-requires : (t : ℕ) → walk-lts.Need-walk-requires (
-  hop-reads.Asked,
-  hop-reads.Learnt,
-  put-number-reads.Asked,
-  put-number-reads.Learnt,
-  walk-below t,
-  walk.Post,
-) (walk-at t) walk.Post
-walk-walk-requires t c κs = (omega (arith, c .before .before .before .before .before .hop .ensures .1, c .before .before .before .before .before .before .before .before .before .pre .0), placed _ _ _ (c .before .before .before .before .before .before .before .before .before .pre .1 .chained) (c .before .before .before .before .before .before .if1 .left) _ (c .before .before .before .before .before .hop .ensures) (c .before .before .before .before .before .before .before .before .before .args .at) _ _ (c .before .before .before .before .before .before .before .before .before .pre .1 .room) (c .before .before .before .put-number .kept .0))
+walk-element-copy-out-next : (t : ℕ) → walk-lts.Need-element-copy-out-next (walk-below t, walk.Post) (walk-at t) walk.Post
+walk-element-copy-out-next t c = link-place _ _ _ _ _ (c .before .pre .1) (c .if1 .left)
 
-walk-add-result : (t : ℕ) → walk-lts.Need-add-result (
-  hop-reads.Asked,
-  hop-reads.Learnt,
-  put-number-reads.Asked,
-  put-number-reads.Learnt,
-  walk-below t,
-  walk.Post,
-) (walk-at t) walk.Post
-walk-add-result t c = let h = live-short (view (c .before .before .before .before .before .before .before .before .before .before .before .before .args .s .now)) (c .before .before .before .before .before .before .before .before .hop .result) in omega (arith, c .before .before .walk .ensures .0, c .before .before .before .before .before .before .before .before .hop .ensures .1)
+walk-mul-chain : (t : ℕ) → walk-lts.Need-mul-chain (walk-below t, walk.Post) (walk-at t) walk.Post
+walk-mul-chain t c = let h = list-place _ _ _ _ _ (c .before .before .pre .1) (c .before .if1 .left) in omega arith
 
-walk-same-length : (t : ℕ) → walk-lts.Need-same-length (
-  hop-reads.Asked,
-  hop-reads.Learnt,
-  put-number-reads.Asked,
-  put-number-reads.Learnt,
-  walk-below t,
-  walk.Post,
-) (walk-at t) walk.Post
-walk-same-length t c = c .before .before .walk .kept .1 .1 .1 .0 ∙ c .before .before .before .before .before .before .put-number .kept .0
+walk-element-write-chain : (t : ℕ) → walk-lts.Need-element-write-chain (walk-below t, walk.Post) (walk-at t) walk.Post
+walk-element-write-chain t c = list-place _ _ _ _ _ (c .before .before .pre .1) (c .before .if1 .left)
 
-walk-returns-2 : (t : ℕ) → walk-lts.Need-returns-2 (
-  hop-reads.Asked,
-  hop-reads.Learnt,
-  put-number-reads.Asked,
-  put-number-reads.Learnt,
-  walk-below t,
-  walk.Post,
-) (walk-at t) walk.Post
-walk-returns-2 t c = (counted _ _ _ (c .before .before .before .before .before .before .before .before .before .before .before .before .pre .1 .chained) (c .before .before .before .before .before .before .before .before .before .if1 .left) _ (c .before .before .before .before .before .before .before .before .hop .ensures) _ (c .before .before .walk .ensures .0), walked-more _ _ _ (c .before .before .before .before .before .before .before .before .before .before .before .before .pre .1 .chained) (c .before .before .before .before .before .before .before .before .before .if1 .left) _ (c .before .before .before .before .before .before .before .before .hop .ensures) (c .before .before .before .before .before .before .before .before .before .before .before .before .args .room .now) _ _ (c .before .before .before .before .before .before .before .before .before .before .before .before .args .at) (c .before .before .before .before .before .before .before .before .before .before .before .before .pre .1 .room) (c .before .before .before .before .before .before .put-number .ensures) (c .before .before .walk .ensures .1))
+walk-add-walk : (t : ℕ) → walk-lts.Need-add-walk (walk-below t, walk.Post) (walk-at t) walk.Post
+walk-add-walk t c = let h = list-place _ _ _ _ _ (c .before .before .before .pre .1) (c .before .before .if1 .left) in omega arith
+
+walk-walk-requires : (t : ℕ) → walk-lts.Need-walk-requires (walk-below t, walk.Post) (walk-at t) walk.Post
+walk-walk-requires t c κs = (omega (arith, falls-here _ _ _ _ _ (c .before .before .before .pre .1) (c .before .before .if1 .left), c .before .before .before .pre .0), passing-more _ _ _ _ _ (c .before .before .before .pre .1) (c .before .before .if1 .left))
+
+walk-add-result : (t : ℕ) → walk-lts.Need-add-result (walk-below t, walk.Post) (walk-at t) walk.Post
+walk-add-result t c = let h = walks-few _ _ _ _ _ (c .before .before .before .before .pre .1) (c .before .before .before .if1 .left) _ _ (c .walk .ensures) in omega arith
+
+walk-returns-2 : (t : ℕ) → walk-lts.Need-returns-2 (walk-below t, walk.Post) (walk-at t) walk.Post
+walk-returns-2 t c = walks-more _ _ _ _ _ (c .before .before .before .before .pre .1) (c .before .before .before .if1 .left) _ _ (c .walk .ensures)
 
 pub +walk-spec : {M : Type 1} → statement M
-+walk-spec = close μ-walk λ t. walk-lts.spec (
-  hop-reads.Asked,
-  hop-reads.Learnt,
-  put-number-reads.Asked,
-  put-number-reads.Learnt,
-  walk-below t,
-  walk.Post,
-)
++walk-spec =
+    close
+    μ-walk
+    λ t. walk-lts.spec
+    (walk-below t, walk.Post)
     (walk-at t)
     walk.Post
     (walk-returns t)
-    (walk-hop-requires t)
-    (walk-put-number-requires t)
+    (walk-sub-k t)
+    (walk-cast-k t)
+    (walk-mul-next t)
+    (walk-element-copy-out-next t)
+    (walk-mul-chain t)
+    (walk-element-write-chain t)
     (walk-add-walk t)
     (walk-walk-requires t)
     (walk-add-result t)
-    (walk-same-length t)
     (walk-returns-2 t)

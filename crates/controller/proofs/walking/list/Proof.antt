@@ -1,5 +1,8 @@
 -- `list` meets its contract. Assumes nothing.
-use Rattle.controller.proofs.Walked.{revision-chained, starts, listed, not-listed}
+use Prim.Native.Nat.{ℕ}
+use lib.ListN.{length-replicate}
+use Rattle.image.specs.Layout.{slots}
+use Rattle.controller.proofs.Walked.{revision-chained, begins, table-size, fits-table, fits-room, listed, not-listed}
 use Rattle.controller.proofs.Decided.{size}
 use mathlib.Core.Path.{refl}
 use native.Mathlib.Omega.{arith}
@@ -16,20 +19,29 @@ get-requires c κs = search needs
 last-fold-requires : tie.Need-last-fold-requires
 last-fold-requires c κs = let h = size _ (c .before .before .before .before .pre) in omega arith
 
-has-room-requires : tie.Need-has-room-requires
-has-room-requires c κs = revision-chained _ (c .before .before .before .before .before .pre) _ _ _ (c .before .before .load-head .ensures) (c .before .get .ensures) (c .last-fold .ensures)
+links-requires : tie.Need-links-requires
+links-requires c κs = (revision-chained _ (c .before .before .before .before .before .before .pre) _ _ _ (c .before .before .before .load-head .ensures) (c .before .before .get .ensures) (c .before .last-fold .ensures), length-replicate {A = ℕ} slots 0)
 
 walk-requires : tie.Need-walk-requires
-walk-requires c κs = starts _ (c .before .before .before .before .before .before .before .before .pre) _ _ _ (c .before .before .before .before .before .load-head .ensures) (c .before .before .before .before .get .ensures) (c .before .before .before .last-fold .ensures) (c .before .before .before .before .before .before .before .before .args .room .now) _ (c .before .before .has-room .ensures) (c .before .if1 .taken)
+walk-requires c κs = begins _ (c .before .before .before .before .before .before .before .before .pre) _ _ _ (c .before .before .before .before .before .load-head .ensures) (c .before .before .before .before .get .ensures) (c .before .before .before .last-fold .ensures) _ (c .before .links .ensures)
+
+cast-if1 : tie.Need-cast-if1
+cast-if1 c = search needs
+
+cast-put-list : tie.Need-cast-put-list
+cast-put-list c = search needs
+
+put-list-requires : tie.Need-put-list-requires
+put-list-requires c κs = (table-size _ (c .before .before .before .before .before .before .before .before .before .before .before .before .pre) _ _ _ (c .before .before .before .before .before .before .before .before .before .load-head .ensures) (c .before .before .before .before .before .before .before .before .get .ensures) (c .before .before .before .before .before .before .before .last-fold .ensures) (c .before .before .before .before .before .before .before .before .before .before .before .before .args .room .now) _ _ _ (c .before .before .before .before .before .links .ensures) (c .before .before .before .walk .ensures), (fits-table _ (c .before .before .before .before .before .before .before .before .before .before .before .before .pre) _ _ _ (c .before .before .before .before .before .before .before .before .before .load-head .ensures) (c .before .before .before .before .before .before .before .before .get .ensures) (c .before .before .before .before .before .before .before .last-fold .ensures) (c .before .before .before .before .before .before .before .before .before .before .before .before .args .room .now) _ _ _ (c .before .before .before .before .before .links .ensures) (c .before .before .before .walk .ensures), fits-room _ (c .before .before .before .before .before .before .before .before .before .before .before .before .pre) _ _ _ (c .before .before .before .before .before .before .before .before .before .load-head .ensures) (c .before .before .before .before .before .before .before .before .get .ensures) (c .before .before .before .before .before .before .before .last-fold .ensures) (c .before .before .before .before .before .before .before .before .before .before .before .before .args .room .now) _ _ _ (c .before .before .before .before .before .links .ensures) (c .before .before .before .walk .ensures) (c .before .before .if1 .taken)))
 
 same-length : tie.Need-same-length
 same-length c = search needs
 
 returns : tie.Need-returns
-returns c = listed _ (c .before .before .before .before .before .before .before .before .before .before .before .pre) _ _ _ (c .before .before .before .before .before .before .before .before .load-head .ensures) (c .before .before .before .before .before .before .before .get .ensures) (c .before .before .before .before .before .before .last-fold .ensures) (c .before .before .before .before .before .before .before .before .before .before .before .args .room .now) _ (c .before .before .before .before .before .has-room .ensures) _ _ _ (c .before .before .before .before .if1 .taken) (c .before .before .walk .ensures) refl
+returns c = listed _ (c .before .before .before .before .before .before .before .before .before .before .before .before .before .before .before .pre) _ _ _ (c .before .before .before .before .before .before .before .before .before .before .before .before .load-head .ensures) (c .before .before .before .before .before .before .before .before .before .before .before .get .ensures) (c .before .before .before .before .before .before .before .before .before .before .last-fold .ensures) (c .before .before .before .before .before .before .before .before .before .before .before .before .before .before .before .args .room .now) _ _ _ (c .before .before .before .before .before .before .before .before .links .ensures) (c .before .before .before .before .before .before .walk .ensures) _ _ (c .before .before .before .before .before .if1 .taken) (c .before .before .put-list .ensures) refl
 
 returns-2 : tie.Need-returns-2
-returns-2 c = not-listed _ (c .before .before .before .before .before .before .before .pre) _ _ _ (c .before .before .before .before .load-head .ensures) (c .before .before .before .get .ensures) (c .before .before .last-fold .ensures) (c .before .before .before .before .before .before .before .args .room .now) _ (c .before .has-room .ensures) _ (c .if1 .left) refl
+returns-2 c = not-listed _ (c .before .before .before .before .before .before .before .before .before .before .pre) _ _ _ (c .before .before .before .before .before .before .before .load-head .ensures) (c .before .before .before .before .before .before .get .ensures) (c .before .before .before .before .before .last-fold .ensures) (c .before .before .before .before .before .before .before .before .before .before .args .room .now) _ _ _ (c .before .before .before .links .ensures) (c .before .walk .ensures) _ (c .if1 .left) refl
 
 pub list-spec : {M : Type 1} → statement M
 list-spec =
@@ -38,8 +50,11 @@ list-spec =
     load-head-requires
     get-requires
     last-fold-requires
-    has-room-requires
+    links-requires
     walk-requires
+    cast-if1
+    cast-put-list
+    put-list-requires
     same-length
     returns
     returns-2)
