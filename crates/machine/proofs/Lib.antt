@@ -16,6 +16,7 @@ pub mod PushWitnesses
 pub mod ImportWitnesses
 pub mod OwnerWitnesses
 pub mod RememberWitnesses
+pub mod ClassWitnesses
 pub mod Worked
 pub mod Traps
 pub mod Reconnected

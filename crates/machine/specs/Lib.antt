@@ -22,6 +22,7 @@ pub mod Witnesses
 pub mod FoldSessions
 pub mod Why
 pub mod WhySessions
+pub mod Class
 pub mod Night
 pub mod NightSessions
 pub mod PushSessions
