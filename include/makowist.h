@@ -148,7 +148,7 @@ extern "C" {
 #endif
 
 /* An image's length in bytes. Bytes of any other length are no image (MAKOWIST_NOT_WELL_FORMED). */
-#define MAKOWIST_IMAGE_LENGTH 6038
+#define MAKOWIST_IMAGE_LENGTH 5782
 
 /* Limits of the state. */
 enum {

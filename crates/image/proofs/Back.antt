@@ -7,30 +7,21 @@ use mathlib.Core.List.{List}
 use native.Mathlib.Omega.{arith}
 use borrow.Author.Tests.{leb-true}
 use lib.Dec.{leb}
-use Rattle.kinds.specs.Statuses.{codeOf, statusOf, progressCode, progressOf}
+use Rattle.kinds.specs.Statuses.{progressCode, progressOf}
 use Rattle.kinds.specs.declared.Progress.the-variants as progress
 use Rattle.fields.specs.Field.{field, putField, fieldsAt, putFields}
 use Rattle.fields.proofs.Laws.{Bytes, put-back}
 use Rattle.fields.proofs.Runs.{puts-back}
 use Rattle.machine.specs.Stores.{Table}
+use Rattle.image.specs.Packed.{packedOf}
 use Rattle.image.specs.Layout.{entryWidths, headWidths, tableWidths, configurationWidths, mastershipWidths, targetWidths, nodeWidths, connectionsWidths, placeOf, changeAt, valuesAt, configurationAt, mastershipAt, targetAt, connectionsAt, nodeAt, connectedAt, runningIn, remembersIn}
 use Rattle.image.specs.Records.{flagCode, flagOf, entryAt, putEntryAt, changeOf, headAt, putHeadAt, configurationOf, putConfiguration, mastershipOf, putMastership, targetOf, putTarget, toNode, putNodeAt, connectionsOf, putConnections}
 use Rattle.image.specs.View.{tableOf}
 use Rattle.image.specs.Formed.{flagOk, statusesOk, flagsOk}
+use Rattle.image.proofs.Packed.{packed-back}
 use Rattle.image.proofs.UpTo.{and-left, and-right}
 
 -- ---- a code that is one is read and written back as it was
-code-back : (n : ℕ) → n ≤ 6 → codeOf (statusOf n) ≡ n
-unfolding statusOf
-code-back zero h = refl
-code-back (suc zero) h = refl
-code-back (suc (suc zero)) h = refl
-code-back (suc (suc (suc zero))) h = refl
-code-back (suc (suc (suc (suc zero)))) h = refl
-code-back (suc (suc (suc (suc (suc zero))))) h = refl
-code-back (suc (suc (suc (suc (suc (suc zero)))))) h = refl
-code-back (suc (suc (suc (suc (suc (suc (suc n))))))) h = absurd (omega arith)
-
 state-back : (n : ℕ) → 1 ≤ n → n ≤ 3 → progressCode (progressOf n) ≡ n
 unfolding progressOf
 state-back zero a b = absurd (omega arith)
@@ -64,25 +55,8 @@ module _ (l : List ℕ) (y : Bytes l) where
 
   -- ---- an entry whose statuses are codes
   pub entry-stored-back : (n : ℕ) → statusesOk l (placeOf n) ≡ true → putEntryAt l n (entryAt l n) ≡ l
-  unfolding statusesOk putEntryAt entryAt fieldsAt
-  entry-stored-back n s =
-      let a : field l (placeOf n) 1 ≤ 6 = leb-true _ _ (and-left _ _ s) in
-      let s2 = and-right (leb (field l (placeOf n) 1) 6) _ s in
-      let b : field l (placeOf n + 1) 1 ≤ 6 = leb-true _ _ (and-left _ _ s2) in
-      let s3 = and-right (leb (field l (placeOf n + 1) 1) 6) _ s2 in
-      let c : field l (placeOf n + 2) 1 ≤ 6 = leb-true _ _ (and-left _ _ s3) in
-      let d : field l (placeOf n + 3) 1 ≤ 6 = leb-true _ _ (and-right (leb (field l (placeOf n + 2) 1) 6) _ s3) in
-      let x : placeOf n + 1 + 1 ≡ placeOf n + 2 = omega arith in
-      let z : placeOf n + 1 + 1 + 1 ≡ placeOf n + 3 = omega arith in
-      let c' : field l (placeOf n + 1 + 1) 1 ≤ 6 = rw x c in
-      let d' : field l (placeOf n + 1 + 1 + 1) 1 ≤ 6 = rw z d in
-      rw (
-        code-back (field l (placeOf n) 1) a,
-        code-back (field l (placeOf n + 1) 1) b,
-        code-back (field l (placeOf n + 1 + 1) 1) c',
-        code-back (field l (placeOf n + 1 + 1 + 1) 1) d',
-      )
-      (puts-back entryWidths l (placeOf n) y)
+  unfolding statusesOk putEntryAt entryAt fieldsAt packedOf
+  entry-stored-back n s = rw (packed-back (field l (placeOf n) 2) (leb-true _ _ s)) (puts-back entryWidths l (placeOf n) y)
 
   -- ---- configuration, target and connections, where the flags are flags
   module _ (f : flagsOk l ≡ true) where

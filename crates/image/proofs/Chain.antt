@@ -16,23 +16,23 @@ use Rattle.kinds.specs.declared.Number.{Number}
 use Rattle.kinds.specs.declared.Ordinal.{Ordinal}
 use Rattle.kinds.specs.declared.Connection.{Connection}
 use Rattle.kinds.specs.Numbers.{num, ord, follows}
-use Rattle.kinds.specs.Statuses.{codeOf}
 use Rattle.fields.specs.Field.{field, putField, fieldsAt, putFields, ones, twos, quad}
 use Rattle.fields.proofs.Runs.{table-at, length-fields, length-puts, puts-append, total-twos}
 use Rattle.machine.specs.State.{absent, never, nodeOf}
 use Rattle.machine.specs.Stores.{Table, targetValues}
-use Rattle.image.specs.Layout.{codeWidths, markWidths, valueSize, tableWidths, nodeWidths, placeOf, changeApplyIn, rollbackCommitIn, rollbackApplyIn, phaseIn, countIn, indexIn, changeOrdinalIn, rollbackOrdinalIn, pathsIn, valuesIn, keptIn, ownersIn, targetValuesAt, connectionsAt, valuesAt, nodeAt}
+use Rattle.image.specs.Packed.{packedOf, changeIn, rollbackIn}
+use Rattle.image.specs.Layout.{codeWidths, markWidths, valueSize, tableWidths, nodeWidths, placeOf, phaseIn, countIn, indexIn, changeOrdinalIn, rollbackOrdinalIn, pathsIn, valuesIn, keptIn, ownersIn, targetValuesAt, connectionsAt, valuesAt, nodeAt}
 use Rattle.image.specs.Records.{toSide, toConnections, codes, marks, entryAt, putEntryAt, toNode, putNodeAt, connectionsOf, putConnections}
 use Rattle.image.specs.View.{tableOf, write}
 
 -- ---- an entry
-pub loaded : (l : List ℕ) (n at : ℕ) → at ≡ placeOf n → (x y : Side) (f g h : ℕ) (i : Number) (p v r w : List ℕ)
-    → x ≡ toSide l at (at + changeOrdinalIn) → y ≡ toSide l (at + rollbackCommitIn) (at + rollbackOrdinalIn)
+pub loaded : (l : List ℕ) (n at : ℕ) → at ≡ placeOf n → (c a b : ℕ) (x y : Side) (f g h : ℕ) (i : Number) (p v r w : List ℕ)
+    → c ≡ field l at 2 → a ≡ changeIn c → x ≡ toSide a (field l (at + changeOrdinalIn) 4) → b ≡ rollbackIn c → y ≡ toSide b (field l (at + rollbackOrdinalIn) 4)
     → f ≡ field l (at + phaseIn) 1 → g ≡ field l (at + countIn) 1 → h ≡ field l (at + indexIn) 2 → i ≡ num h
     → p ≡ fieldsAt l (at + pathsIn) ones → v ≡ fieldsAt l (at + valuesIn) twos → r ≡ fieldsAt l (at + keptIn) twos → w ≡ fieldsAt l (at + ownersIn) twos
     → _≡_ {A = Transaction} (record { phase = f; count = g; paths = p; values = v; change = x; rollback = y; index = i; kept = r; owners = w }) (entryAt l n)
 unfolding entryAt fieldsAt
-loaded l n at e x y f g h i p v r w q0 q1 q2 q3 q4 q5 q6 q7 q8 q9 = simp (q0, q1, q2, q3, q5, q4, q6, q7, q8, q9, e, add-assoc)
+loaded l n at e c a b x y f g h i p v r w qc qa q0 qb q1 q2 q3 q4 q5 q6 q7 q8 q9 = simp (q0, qa, q1, qb, qc, q2, q3, q5, q4, q6, q7, q8, q9, e, add-assoc)
 
 -- of which only the ordinals were read
 pub carried : (l : List ℕ) (n at : ℕ) → at ≡ placeOf n → (a x y : Ordinal) (p q r : Bool) (f g : ℕ) → f ≡ field l (at + changeOrdinalIn) 4 → x ≡ ord f
@@ -41,12 +41,10 @@ pub carried : (l : List ℕ) (n at : ℕ) → at ≡ placeOf n → (a x y : Ordi
 unfolding entryAt fieldsAt
 carried l n at e a x y p q r f g ef ex eg ey ep eq er = simp (er, ep, eq, ex, ey, ef, eg, e, add-assoc)
 
-pub coded : (l l1 l2 l3 l4 l5 l6 : List ℕ) (at a b d e : ℕ) (t : Transaction)
-    → a ≡ codeOf (t .change .commit) → b ≡ codeOf (t .change .apply) → d ≡ codeOf (t .rollback .commit) → e ≡ codeOf (t .rollback .apply)
-    → l1 ≡ putField l at 1 a → l2 ≡ putField l1 (at + changeApplyIn) 1 b → l3 ≡ putField l2 (at + rollbackCommitIn) 1 d → l4 ≡ putField l3 (at + rollbackApplyIn) 1 e
-    → l5 ≡ putField l4 (at + phaseIn) 1 (t .phase) → l6 ≡ putField l5 (at + countIn) 1 (t .count) → l6 ≡ putFields l at codeWidths (codes t)
+pub coded : (l l1 l2 l3 : List ℕ) (at n : ℕ) (t : Transaction) → n ≡ packedOf t
+    → l1 ≡ putField l at 2 n → l2 ≡ putField l1 (at + phaseIn) 1 (t .phase) → l3 ≡ putField l2 (at + countIn) 1 (t .count) → l3 ≡ putFields l at codeWidths (codes t)
 unfolding putFields
-coded l l1 l2 l3 l4 l5 l6 at a b d e t p1 p2 p3 p4 q1 q2 q3 q4 q5 q6 = simp (q6, q5, q4, q3, q2, q1, p1, p2, p3, p4, add-assoc)
+coded l l1 l2 l3 at n t p q1 q2 q3 = simp (q3, q2, q1, p, add-assoc)
 
 pub stored : (l l1 l2 l3 l4 l5 l6 : List ℕ) (n at : ℕ) → at ≡ placeOf n → (t : Transaction)
     → l1 ≡ putFields l at codeWidths (codes t) → l2 ≡ putFields l1 (at + indexIn) markWidths (marks t)

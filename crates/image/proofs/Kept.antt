@@ -35,15 +35,7 @@ module _ (l m : List ℕ) (a e : ℕ) (o : Outside l m a e) where
 
   pub statuses-kept : (n : ℕ) → Apart a e (placeOf n) stride → statusesOk m (placeOf n) ≡ statusesOk l (placeOf n)
   unfolding statusesOk
-  statuses-kept n h =
-      let k : (d : ℕ) → d < stride → Apart a e (placeOf n + d) 1 = λ d q. ⊎-elim (λ x. inl (omega arith)) (λ y. inr (omega arith)) h in
-      let z : Apart a e (placeOf n) 1 = ⊎-elim (λ x. inl (omega arith)) (λ y. inr (omega arith)) h in
-      rw (
-        field-kept l m a e o 1 (placeOf n) z,
-        field-kept l m a e o 1 (placeOf n + 1) (k 1 (omega arith)),
-        field-kept l m a e o 1 (placeOf n + 2) (k 2 (omega arith)),
-        field-kept l m a e o 1 (placeOf n + 3) (k 3 (omega arith)),
-      )
+  statuses-kept n h = rw (field-kept l m a e o 2 (placeOf n) (⊎-elim (λ x. inl (omega arith)) (λ y. inr (omega arith)) h))
 
   pub last-kept : Apart a e lastAt 2 → lastOf m ≡ lastOf l
   unfolding lastOf

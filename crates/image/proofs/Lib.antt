@@ -1,4 +1,6 @@
 -- The laws of the image: why its contracts and theorems hold. Assumes nothing.
+pub mod Packed
+pub mod PackedWitnesses
 pub mod UpTo
 pub mod Kept
 pub mod Sized
@@ -10,3 +12,4 @@ pub mod Freshened
 pub mod Tables
 pub mod Back
 pub mod Differed
+pub mod Classed

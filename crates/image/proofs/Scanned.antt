@@ -15,7 +15,7 @@ use Rattle.fields.specs.Field.{field, fieldsAt, ones, twos}
 use Rattle.machine.specs.State.{State, last, entryOf}
 use Rattle.machine.specs.Stores.{ofOwners}
 use Rattle.machine.specs.WellFormed.{allEntries, pairsOk, recallsOk, allAtMost, logOk, entryOk, headsOk, sizesOk, wellFormed}
-use Rattle.image.specs.Layout.{slots, highest, highestOrdinal, changeApplyIn, rollbackCommitIn, rollbackApplyIn, phaseIn, countIn, indexIn, changeOrdinalIn, rollbackOrdinalIn, pathsIn, ownersIn, valueSize, valuesAt, lastAt, foldedAt, imageLength}
+use Rattle.image.specs.Layout.{slots, highest, highestOrdinal, phaseIn, countIn, indexIn, changeOrdinalIn, rollbackOrdinalIn, pathsIn, ownersIn, valueSize, valuesAt, lastAt, foldedAt, imageLength}
 use Rattle.image.specs.Records.{entryAt, lastOf, foldedOf, connectionsOf}
 use Rattle.image.specs.View.{upFrom, tableOf, view}
 use Rattle.image.specs.Formed.{allKept, statusesOk, entryStatusesOk, marksOk, flagsOk, entryFormed, codesOk, formed}
@@ -208,12 +208,7 @@ module _ (l : List ℕ) (at n : ℕ) (p : n ≡ field l (at + countIn) 1) where
             four-pairs w y c v =
                 v ∙ sym (pairs-are l at n a p q ∙ rw (le-leb 1 n h, le-leb n 4 k, lt-ltb a 32 r, le-ltb n 2 s, ← e, f, le-ltb n 3 x, ← g, w, le-ltb n 4 y))
 
--- ---- the last test of the statuses, and of the marks
-pub last-status : (l : List ℕ) (at a b d e : ℕ) → a ≡ field l at 1 → b ≡ field l (at + changeApplyIn) 1 → d ≡ field l (at + rollbackCommitIn) 1 → e ≡ field l (at + rollbackApplyIn) 1
-    → a ≤ 6 → b ≤ 6 → d ≤ 6 → leb e 6 ≡ statusesOk l at
-unfolding statusesOk
-last-status l at a b d e p q r s x y z = rw (← p, ← q, ← r, ← s, le-leb a 6 x, le-leb b 6 y, le-leb d 6 z)
-
+-- ---- the last test of the marks
 pub last-mark : (l : List ℕ) (at n a b d e : ℕ) (w : Bool) → a ≡ field l (at + phaseIn) 1 → b ≡ field l (at + indexIn) 2 → d ≡ field l (at + changeOrdinalIn) 4 → e ≡ field l (at + rollbackOrdinalIn) 4
     → w ≡ recallsOk n (fieldsAt l (at + ownersIn) twos) → 1 ≤ a → a ≤ 2 → b < n → w ≡ true → d ≤ highestOrdinal → leb e highestOrdinal ≡ marksOk l at n
 unfolding marksOk

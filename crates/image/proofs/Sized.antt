@@ -10,41 +10,23 @@ use lib.Seq.{ext-getD}
 use Rattle.kinds.specs.declared.Transaction.{Transaction}
 use Rattle.kinds.specs.declared.Head.{Head}
 use Rattle.kinds.specs.declared.Status.{Status}
-use Rattle.kinds.specs.declared.Status.the-variants.{None, Pending, InProgress, Complete, Aborted, Canceled, Failed}
 use Rattle.kinds.specs.declared.Progress.{Progress}
 use Rattle.kinds.specs.declared.Progress.the-variants as progress
 use Rattle.kinds.specs.declared.Configuration.{Configuration}
 use Rattle.kinds.specs.declared.Mastership.{Mastership}
 use Rattle.kinds.specs.declared.Connection.{Connection}
 use Rattle.kinds.specs.declared.Target.{Target}
-use Rattle.kinds.specs.Statuses.{codeOf, statusOf, progressCode, progressOf}
+use Rattle.kinds.specs.Statuses.{progressCode, progressOf}
 use Rattle.machine.specs.State.{never}
 use Rattle.fields.specs.Field.{quad}
 use Rattle.fields.proofs.Laws.{quad-all}
 use Rattle.fields.proofs.Runs.{Fit}
+use Rattle.image.specs.Packed.{packedOf}
 use Rattle.image.specs.Layout.{entryWidths, headWidths, tableWidths, configurationWidths, mastershipWidths, targetWidths, nodeWidths, connectionsWidths}
 use Rattle.image.specs.Records.{flagCode, flagOf, entryNumbers, toEntry, headNumbers, configurationNumbers, toConfiguration, mastershipNumbers, targetNumbers, toTarget, connectionsNumbers, toConnections, eight}
+use Rattle.image.proofs.Packed.{packed-low, change-commit, change-apply, rollback-commit, rollback-apply}
 
 -- ---- codes and back
-pub status-code : (s : Status) → statusOf (codeOf s) ≡ s
-unfolding statusOf
-status-code None = refl
-status-code Pending = refl
-status-code InProgress = refl
-status-code Complete = refl
-status-code Aborted = refl
-status-code Canceled = refl
-status-code Failed = refl
-
-pub code-low : (s : Status) → codeOf s ≤ 6
-code-low None = omega arith
-code-low Pending = omega arith
-code-low InProgress = omega arith
-code-low Complete = omega arith
-code-low Aborted = omega arith
-code-low Canceled = omega arith
-code-low Failed = omega arith
-
 pub progress-code : (s : Progress) → progressOf (progressCode s) ≡ s
 unfolding progressOf
 progress-code progress.Pending = refl
@@ -102,71 +84,7 @@ pub record SizedConnections (xs : List Connection) : Type 0 where
 
 -- ---- room, as the laws of runs ask it
 pub entry-room : (t : Transaction) → SizedEntry t → Fit entryWidths (entryNumbers t)
-entry-room t h =
-    let c : (s : Status) → codeOf s < 256 = λ s. omega (arith, code-low s) in (
-      c (t .change .commit),
-      (
-        c (t .change .apply),
-        (
-          c (t .rollback .commit),
-          (
-            c (t .rollback .apply),
-            (
-              h .phase,
-              (
-                h .count,
-                (
-                  h .index,
-                  (
-                    h .changeOrdinal,
-                    (
-                      h .rollbackOrdinal,
-                      (
-                        h .paths .small 0,
-                        (
-                          h .paths .small 1,
-                          (
-                            h .paths .small 2,
-                            (
-                              h .paths .small 3,
-                              (
-                                h .values .small 0,
-                                (
-                                  h .values .small 1,
-                                  (
-                                    h .values .small 2,
-                                    (
-                                      h .values .small 3,
-                                      (
-                                        h .kept .small 0,
-                                        (
-                                          h .kept .small 1,
-                                          (
-                                            h .kept .small 2,
-                                            (
-                                              h .kept .small 3,
-                                              (h .owners .small 0, (h .owners .small 1, (h .owners .small 2, (h .owners .small 3, tt)))),
-                                            ),
-                                          ),
-                                        ),
-                                      ),
-                                    ),
-                                  ),
-                                ),
-                              ),
-                            ),
-                          ),
-                        ),
-                      ),
-                    ),
-                  ),
-                ),
-              ),
-            ),
-          ),
-        ),
-      ),
-    )
+entry-room t h = let p : packedOf t < 65536 = omega (arith, packed-low t) in (p, (h .phase, (h .count, (h .index, (h .changeOrdinal, (h .rollbackOrdinal, (h .paths .small 0, (h .paths .small 1, (h .paths .small 2, (h .paths .small 3, (h .values .small 0, (h .values .small 1, (h .values .small 2, (h .values .small 3, (h .kept .small 0, (h .kept .small 1, (h .kept .small 2, (h .kept .small 3, (h .owners .small 0, (h .owners .small 1, (h .owners .small 2, (h .owners .small 3, tt))))))))))))))))))))))
 
 pub head-room : (h : Head) → SizedHead h → Fit headWidths (headNumbers h)
 head-room h k = (k .index, (k .target, (k .revision, (k .ordinal, tt))))
@@ -215,8 +133,8 @@ made t a b d e p v r w q1 q2 q3 q4 q5 q6 q7 q8 = simp (q1, q2, q3, q4, ← q5, �
 pub entry-back : (t : Transaction) → SizedEntry t → toEntry (entryNumbers t) ≡ t
 unfolding make
 entry-back t h =
-    made t _ _ _ _ (quad (t .paths)) (quad (t .values)) (quad (t .kept)) (quad (t .owners)) (status-code (t .change .commit)) (status-code (t .change .apply))
-    (status-code (t .rollback .commit)) (status-code (t .rollback .apply)) (quad-all (t .paths) (h .paths .size)) (quad-all (t .values) (h .values .size))
+    made t _ _ _ _ (quad (t .paths)) (quad (t .values)) (quad (t .kept)) (quad (t .owners)) (change-commit t) (change-apply t)
+    (rollback-commit t) (rollback-apply t) (quad-all (t .paths) (h .paths .size)) (quad-all (t .values) (h .values .size))
     (quad-all (t .kept) (h .kept .size)) (quad-all (t .owners) (h .owners .size))
 
 configured : (g : Configuration) (s : Progress) → s ≡ g .state → _≡_ {A = Configuration} (record { state = s; term = g .term }) g

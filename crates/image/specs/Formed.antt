@@ -7,7 +7,8 @@ use lib.Dec.{eqb, leb, ltb}
 use lib.ListN.{length}
 use Rattle.fields.specs.Field.{field, fieldsAt, ones, twos}
 use Rattle.machine.specs.WellFormed.{pairsOk, recallsOk, wellFormed}
-use Rattle.image.specs.Layout.{highestOrdinal, placeOf, changeApplyIn, rollbackCommitIn, rollbackApplyIn, phaseIn, countIn, indexIn, changeOrdinalIn, rollbackOrdinalIn, pathsIn, ownersIn, configurationAt, targetAt, runningIn, remembersIn, connectedAt, imageLength}
+use Rattle.image.specs.Layout.{highestOrdinal, placeOf, statusesSize, phaseIn, countIn, indexIn, changeOrdinalIn, rollbackOrdinalIn, pathsIn, ownersIn, configurationAt, targetAt, runningIn, remembersIn, connectedAt, imageLength}
+use Rattle.image.specs.Packed.{highestPacked}
 use Rattle.image.specs.Records.{lastOf, foldedOf}
 use Rattle.image.specs.View.{view}
 
@@ -20,9 +21,9 @@ allUpTo p (suc n) = allUpTo p n && p (suc n)
 unfoldable pub allKept : (ℕ → Bool) → ℕ → ℕ → Bool
 allKept p b n = allUpTo (λ j. p (b + j)) (n - b)
 
--- the four statuses of the entry at a place
+-- the four statuses of the entry at a place, in one number
 unfoldable pub statusesOk : List ℕ → ℕ → Bool
-statusesOk l at = leb (field l at 1) 6 && (leb (field l (at + changeApplyIn) 1) 6 && (leb (field l (at + rollbackCommitIn) 1) 6 && leb (field l (at + rollbackApplyIn) 1) 6))
+statusesOk l at = leb (field l at statusesSize) highestPacked
 
 abbrev pub entryStatusesOk : List ℕ → ℕ → Bool
 entryStatusesOk l n = statusesOk l (placeOf n)

@@ -6,11 +6,16 @@ use lib.Dec.{eqb}
 use lib.ListN.{replicate}
 use Rattle.fields.specs.Field.{ones, twos, total}
 use Rattle.machine.specs.Stores.{Table, ofCommitted, ofApplied, ofTarget, ofBase, ofOwners}
+use Rattle.image.specs.Packed.{highestPacked}
 
 -- ---- the widths of each record's numbers
--- c.commit, c.apply, r.commit, r.apply, phase, number of pairs
+-- the four statuses in one number (order 12)
+abbrev pub statusesSize : ℕ
+statusesSize = 2
+
+-- these, phase, number of pairs
 abbrev pub codeWidths : List ℕ
-codeWidths = 1 ∷ 1 ∷ 1 ∷ 1 ∷ 1 ∷ 1 ∷ []
+codeWidths = statusesSize ∷ 1 ∷ 1 ∷ []
 
 -- r.index, c.ordinal, r.ordinal
 abbrev pub markWidths : List ℕ
@@ -76,22 +81,9 @@ slotOf n = (n - 1) % slots
 abbrev pub placeOf : ℕ → ℕ
 placeOf n = stride * slotOf n
 
--- ---- in an entry, after c.commit: each follows from the one before it
--- a side's apply stands next to its commit
-abbrev pub applyIn : ℕ
-applyIn = 1
-
-abbrev pub changeApplyIn : ℕ
-changeApplyIn = applyIn
-
-abbrev pub rollbackCommitIn : ℕ
-rollbackCommitIn = changeApplyIn + 1
-
-abbrev pub rollbackApplyIn : ℕ
-rollbackApplyIn = rollbackCommitIn + applyIn
-
+-- ---- in an entry, after its statuses: each follows from the one before it
 abbrev pub phaseIn : ℕ
-phaseIn = rollbackApplyIn + 1
+phaseIn = statusesSize
 
 abbrev pub countIn : ℕ
 countIn = phaseIn + 1
@@ -201,7 +193,7 @@ valuesAt ofOwners = committedAt + headSize + tableSize
 unfoldable pub tablePlace : ℕ → ℕ
 tablePlace b = cond (eqb b 1) (valuesAt ofCommitted) (cond (eqb b 2) (valuesAt ofApplied) (cond (eqb b 3) (valuesAt ofTarget) (valuesAt ofBase)))
 
--- 6,038
+-- 5,782
 abbrev pub imageLength : ℕ
 imageLength = valuesAt ofBase + tableSize
 
@@ -214,11 +206,11 @@ connectedAt n = nodeAt n + connectedIn
 
 -- ---- the code's constants, in its order (src/layout.rt)
 abbrev pub limits : List ℕ
-limits = slots ∷ highest ∷ highestOrdinal ∷ []
+limits = slots ∷ highest ∷ highestOrdinal ∷ highestPacked ∷ []
 
 abbrev pub entryPlaces : List ℕ
 entryPlaces =
-    applyIn ∷ changeApplyIn ∷ rollbackCommitIn ∷ rollbackApplyIn ∷ phaseIn ∷ countIn ∷ indexIn ∷ changeOrdinalIn ∷ rollbackOrdinalIn
+    phaseIn ∷ countIn ∷ indexIn ∷ changeOrdinalIn ∷ rollbackOrdinalIn
     ∷ pathsIn ∷ (pathsIn + 1) ∷ (pathsIn + 2) ∷ valuesIn ∷ keptIn ∷ ownersIn ∷ stride ∷ []
 
 abbrev pub headPlaces : List ℕ

@@ -23,6 +23,7 @@ use Rattle.image.specs.Records.{entryAt, putEntryAt, lastOf, foldedOf, c
 use Rattle.image.specs.View.{write, written, tableOf, view}
 use Rattle.image.specs.Fresh.{freshImage}
 use Rattle.machine.specs.Settled.{entrySettled}
+use Rattle.machine.specs.Class.{classOf}
 use Rattle.machine.specs.WellFormed.{allEntries}
 use Rattle.machine.specs.State.{nodeOf, absent}
 use Rattle.machine.specs.Stores.{grow, fold, change, targetValues, ofApplied, ofTarget}
@@ -51,6 +52,13 @@ LoadsEntry s n r = r ≡ entryAt s n
 
 pub loads-entry-only : (s : List ℕ) (n : ℕ) (r q : Transaction) → LoadsEntry s n r → LoadsEntry s n q → r ≡ q
 loads-entry-only s n r q = one
+
+-- of an entry whose statuses are in range
+abbrev pub LoadsClass : List ℕ → ℕ → ℕ → Type 0
+LoadsClass s n r = r ≡ classOf (entryAt s n)
+
+pub loads-class-only : (s : List ℕ) (n r q : ℕ) → LoadsClass s n r → LoadsClass s n q → r ≡ q
+loads-class-only s n r q = one
 
 abbrev pub StoresEntry : List ℕ → ℕ → Transaction → List ℕ → Type 0
 StoresEntry s n t s′ = s′ ≡ putEntryAt s n t

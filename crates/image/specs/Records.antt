@@ -12,10 +12,11 @@ use Rattle.kinds.specs.declared.Mastership.{Mastership}
 use Rattle.kinds.specs.declared.Connection.{Connection}
 use Rattle.kinds.specs.declared.Target.{Target}
 use Rattle.kinds.specs.Numbers.{num, ord, trm}
-use Rattle.kinds.specs.Statuses.{codeOf, statusOf, progressCode, progressOf}
+use Rattle.kinds.specs.Statuses.{progressCode, progressOf}
 use Rattle.machine.specs.State.{never}
 use Rattle.fields.specs.Field.{field, fieldsAt, putFields, quad}
-use Rattle.image.specs.Layout.{entryWidths, headWidths, configurationWidths, mastershipWidths, targetWidths, nodeWidths, connectionsWidths, applyIn, connectedIn, placeOf, lastAt, changeAt, configurationAt, mastershipAt, targetAt, connectionsAt, foldedAt, numberSize}
+use Rattle.image.specs.Packed.{packedOf, changeIn, rollbackIn, commitIn, applyIn}
+use Rattle.image.specs.Layout.{entryWidths, headWidths, configurationWidths, mastershipWidths, targetWidths, nodeWidths, connectionsWidths, connectedIn, placeOf, lastAt, changeAt, configurationAt, mastershipAt, targetAt, connectionsAt, foldedAt, numberSize}
 
 -- ---- flags
 abbrev pub flagCode : Bool → ℕ
@@ -27,7 +28,7 @@ flagOf n = eqb n 1
 
 -- ---- a transaction
 abbrev pub codes : Transaction → List ℕ
-codes t = codeOf (t .change .commit) ∷ codeOf (t .change .apply) ∷ codeOf (t .rollback .commit) ∷ codeOf (t .rollback .apply) ∷ t .phase ∷ t .count ∷ []
+codes t = packedOf t ∷ t .phase ∷ t .count ∷ []
 
 abbrev pub marks : Transaction → List ℕ
 marks t = t .index .0 ∷ t .change .ordinal .0 ∷ t .rollback .ordinal .0 ∷ []
@@ -35,23 +36,23 @@ marks t = t .index .0 ∷ t .change .ordinal .0 ∷ t .rollback .ordinal .0 ∷ 
 abbrev pub entryNumbers : Transaction → List ℕ
 entryNumbers t = codes t ++ (marks t ++ (quad (t .paths) ++ (quad (t .values) ++ (quad (t .kept) ++ quad (t .owners)))))
 
+-- one side, by its two statuses in one number and its ordinal
+abbrev pub toSide : ℕ → ℕ → Side
+toSide h o = record { commit = commitIn h; apply = applyIn h; ordinal = ord o }
+
 abbrev pub toEntry : List ℕ → Transaction
 toEntry l =
     record {
-      phase = getD l 4 0;
-      count = getD l 5 0;
-      paths = take 4 (drop 9 l);
-      values = take 4 (drop 13 l);
-      change = record { commit = statusOf (getD l 0 0); apply = statusOf (getD l 1 0); ordinal = ord (getD l 7 0) };
-      rollback = record { commit = statusOf (getD l 2 0); apply = statusOf (getD l 3 0); ordinal = ord (getD l 8 0) };
-      index = num (getD l 6 0);
-      kept = take 4 (drop 17 l);
-      owners = take 4 (drop 21 l);
+      phase = getD l 1 0;
+      count = getD l 2 0;
+      paths = take 4 (drop 6 l);
+      values = take 4 (drop 10 l);
+      change = toSide (changeIn (getD l 0 0)) (getD l 4 0);
+      rollback = toSide (rollbackIn (getD l 0 0)) (getD l 5 0);
+      index = num (getD l 3 0);
+      kept = take 4 (drop 14 l);
+      owners = take 4 (drop 18 l);
     }
-
--- one side, its statuses at a place and its ordinal at another
-abbrev pub toSide : List ℕ → ℕ → ℕ → Side
-toSide l at o = record { commit = statusOf (field l at 1); apply = statusOf (field l (at + applyIn) 1); ordinal = ord (field l o 4) }
 
 -- the entry of number n
 unfoldable pub entryAt : List ℕ → ℕ → Transaction

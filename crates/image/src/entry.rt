@@ -2,13 +2,10 @@
 ghost use mathlib.Core.Path.{_≡_};
 ghost use Prim.Native.Nat.{_+_, _≤_, _<_};
 ghost use lib.ListN.{length};
-ghost use Rattle.kinds.specs.Statuses.{statusOf};
 ghost use Rattle.fields.specs.Field.{field, putFields};
 ghost use Rattle.image.specs.Layout.{highest, codeWidths, markWidths, imageLength, placeOf, indexIn, pathsIn};
 ghost use Rattle.image.specs.Records.{codes, marks, toSide, lastOf};
 ghost use Rattle.image.specs.Promises.{LoadsEntry, StoresEntry, TellsCarried, Grows};
-use crate::layout::APPLY_IN;
-use crate::layout::CHANGE_APPLY_IN;
 use crate::layout::CHANGE_ORDINAL_IN;
 use crate::layout::COUNT_IN;
 use crate::layout::INDEX_IN;
@@ -18,11 +15,14 @@ use crate::layout::OWNERS_IN;
 use crate::layout::PATHS_IN;
 use crate::layout::PHASE_IN;
 use crate::layout::RING;
-use crate::layout::ROLLBACK_APPLY_IN;
-use crate::layout::ROLLBACK_COMMIT_IN;
 use crate::layout::ROLLBACK_ORDINAL_IN;
 use crate::layout::STRIDE;
 use crate::layout::VALUES_IN;
+use crate::statuses::apply_in;
+use crate::statuses::change_in;
+use crate::statuses::commit_in;
+use crate::statuses::pack;
+use crate::statuses::rollback_in;
 use fields::get_ones;
 use fields::get_twos;
 use fields::get1;
@@ -36,7 +36,6 @@ use fields::put4;
 use kinds::Number;
 use kinds::Ordinal;
 use kinds::Side;
-use kinds::Status;
 use kinds::Transaction;
 
 // Where the entry of number n lies: at its slot of the ring. No other function says it.
@@ -47,19 +46,13 @@ pub fn place_of(n: usize) -> usize
     STRIDE * ((n - 1) % RING)
 }
 
-fn load_status(s: &[u8], at: usize) -> Status
-    requires { ⌜ at + 1 ≤ length (now s) ⌝ }
-    ensures { λ r. ⌜ r ≡ statusOf (field (now (s .entry)) at 1) ⌝ }
+// A side: its two statuses in one number, its ordinal at a place.
+fn load_side(s: &[u8], h: u16, o: usize) -> Side
+    requires { ⌜ (h ≤ 1337) × (o + 4 ≤ length (now s)) ⌝ }
+    ensures { λ r. ⌜ r ≡ toSide h (field (now (s .entry)) o 4) ⌝ }
 {
-    Status::of(get1(s, at))
-}
-
-fn load_side(s: &[u8], at: usize, o: usize) -> Side
-    requires { ⌜ (at + 2 ≤ length (now s)) × (o + 4 ≤ length (now s)) ⌝ }
-    ensures { λ r. ⌜ r ≡ toSide (now (s .entry)) at o ⌝ }
-{
-    let commit = load_status(s, at);
-    let apply = load_status(s, at + APPLY_IN);
+    let commit = commit_in(h);
+    let apply = apply_in(h);
     let ordinal = Ordinal::of(get4(s, o));
     Side {
         commit,
@@ -74,8 +67,9 @@ pub fn load_entry(s: &[u8], n: u16) -> Transaction
     ensures { λ r. ⌜ LoadsEntry (now (s .entry)) n r ⌝ }
 {
     let at = place_of(n as usize);
-    let change = load_side(s, at, at + CHANGE_ORDINAL_IN);
-    let rollback = load_side(s, at + ROLLBACK_COMMIT_IN, at + ROLLBACK_ORDINAL_IN);
+    let statuses = get2(s, at);
+    let change = load_side(s, change_in(statuses), at + CHANGE_ORDINAL_IN);
+    let rollback = load_side(s, rollback_in(statuses), at + ROLLBACK_ORDINAL_IN);
     let phase = get1(s, at + PHASE_IN);
     let count = get1(s, at + COUNT_IN);
     let index = Number::of(get2(s, at + INDEX_IN));
@@ -113,16 +107,7 @@ fn store_codes(s: &mut [u8], at: usize, t: Transaction)
     requires { ⌜ at + indexIn ≤ length (now s) ⌝ }
     ensures { λ _. ⌜ now (s .exit) ≡ putFields (now (s .entry)) at codeWidths (codes t) ⌝ }
 {
-    let x = t.change;
-    let y = t.rollback;
-    let a = x.commit;
-    let b = x.apply;
-    let c = y.commit;
-    let d = y.apply;
-    put1(s, at, a.code());
-    put1(s, at + CHANGE_APPLY_IN, b.code());
-    put1(s, at + ROLLBACK_COMMIT_IN, c.code());
-    put1(s, at + ROLLBACK_APPLY_IN, d.code());
+    put2(s, at, pack(t));
     put1(s, at + PHASE_IN, t.phase);
     put1(s, at + COUNT_IN, t.count);
 }

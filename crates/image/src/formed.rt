@@ -15,7 +15,6 @@ ghost use Rattle.image.specs.Formed.{allKept, statusesOk, marksOk, flags
 ghost use Rattle.image.specs.Promises.{TellsFormed};
 use crate::entry::place_of;
 use crate::layout::APPLIED_AT;
-use crate::layout::CHANGE_APPLY_IN;
 use crate::layout::CHANGE_AT;
 use crate::layout::CHANGE_ORDINAL_IN;
 use crate::layout::COMMITTED_AT;
@@ -32,6 +31,7 @@ use crate::layout::CONNECTED_8_AT;
 use crate::layout::COUNT_IN;
 use crate::layout::FOLDED_AT;
 use crate::layout::HIGHEST_ORDINAL;
+use crate::layout::HIGHEST_PACKED;
 use crate::layout::IMAGE_LENGTH;
 use crate::layout::INDEX_IN;
 use crate::layout::LAST_AT;
@@ -44,8 +44,6 @@ use crate::layout::PHASE_IN;
 use crate::layout::REMEMBERS_AT;
 use crate::layout::REVISION_IN;
 use crate::layout::RING;
-use crate::layout::ROLLBACK_APPLY_IN;
-use crate::layout::ROLLBACK_COMMIT_IN;
 use crate::layout::ROLLBACK_ORDINAL_IN;
 use crate::layout::RUNNING_AT;
 use crate::layout::SECOND_PATH_IN;
@@ -60,21 +58,12 @@ use fields::get1;
 use fields::get2;
 use fields::get4;
 
-// The four statuses of the entry at a place.
+// The four statuses of the entry at a place, in one number.
 fn statuses_formed(s: &[u8], at: usize) -> bool
     requires { ⌜ at + stride ≤ length (now s) ⌝ }
     ensures { λ r. ⌜ r ≡ statusesOk (now (s .entry)) at ⌝ }
 {
-    if 6 < get1(s, at) {
-        return false;
-    }
-    if 6 < get1(s, at + CHANGE_APPLY_IN) {
-        return false;
-    }
-    if 6 < get1(s, at + ROLLBACK_COMMIT_IN) {
-        return false;
-    }
-    get1(s, at + ROLLBACK_APPLY_IN) <= 6
+    get2(s, at) <= HIGHEST_PACKED
 }
 
 // The owners that entry n at a place remembers.

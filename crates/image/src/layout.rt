@@ -3,7 +3,7 @@
 ghost use mathlib.Core.Path.{_≡_};
 ghost use Rattle.image.specs.Layout.{limits, entryPlaces, headPlaces, places, nodePlaces};
 
-// ---- the ring: how many entries, how wide each, and the highest number and ordinal that there are
+// ---- the ring: how many entries, how wide each, and the highest number, ordinal and number of four statuses that there are
 pub const SLOTS: u16 = 128;
 
 pub const RING: usize = SLOTS as usize;
@@ -14,17 +14,11 @@ pub const HIGHEST: u16 = 65535;
 
 pub const HIGHEST_ORDINAL: u32 = 131070;
 
-// ---- in an entry, after c.commit: the other statuses (apply next to commit), the phase, the number of pairs, r.index, the
-// ordinals, the pairs, r.values, the owners remembered
-pub const APPLY_IN: usize = 1;
+pub const HIGHEST_PACKED: u16 = 2400;
 
-pub const CHANGE_APPLY_IN: usize = APPLY_IN;
-
-pub const ROLLBACK_COMMIT_IN: usize = CHANGE_APPLY_IN + 1;
-
-pub const ROLLBACK_APPLY_IN: usize = ROLLBACK_COMMIT_IN + APPLY_IN;
-
-pub const PHASE_IN: usize = ROLLBACK_APPLY_IN + 1;
+// ---- in an entry, after its statuses: the phase, the number of pairs, r.index, the ordinals, the pairs, r.values, the owners
+// remembered
+pub const PHASE_IN: usize = 2;
 
 pub const COUNT_IN: usize = PHASE_IN + 1;
 
@@ -149,20 +143,21 @@ pub const CONNECTED_8_AT: usize = NODE_8_AT + CONNECTED_IN;
 
 // ---- the same numbers as in specs/Layout: computed, and nothing else is in these functions
 
-fn limits() -> [u32; 3]
+fn limits() -> [u32; 4]
     ensures { λ r. ⌜ r ≡ limits ⌝ }
 {
-    [SLOTS as u32, HIGHEST as u32, HIGHEST_ORDINAL]
+    [
+        SLOTS as u32,
+        HIGHEST as u32,
+        HIGHEST_ORDINAL,
+        HIGHEST_PACKED as u32,
+    ]
 }
 
-fn entry_places() -> [usize; 16]
+fn entry_places() -> [usize; 12]
     ensures { λ r. ⌜ r ≡ entryPlaces ⌝ }
 {
     [
-        APPLY_IN,
-        CHANGE_APPLY_IN,
-        ROLLBACK_COMMIT_IN,
-        ROLLBACK_APPLY_IN,
         PHASE_IN,
         COUNT_IN,
         INDEX_IN,

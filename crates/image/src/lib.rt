@@ -1,13 +1,16 @@
 // The state image: where each record lies, each record loaded from the lent bytes and stored into them, and the scans
 // that read many of them. No rule is here, and no number of the layout is anywhere else.
 mod layout; // layout.rt: every place and width, by name
+mod statuses; // statuses.rt: four statuses in one number
 mod entry; // entry.rt: the entries of the ring
+mod classes; // classes.rt: the class of an entry, by its statuses
 mod parts; // parts.rt: numbers, heads and tables of values
 mod nodes; // nodes.rt: configuration, mastership, target, connections
 mod formed; // formed.rt: whether an image is well-formed
 mod settled; // settled.rt: whether what carries an ordinal is Done
 mod fresh; // fresh.rt: a fresh image
 
+pub use classes::load_class;
 pub use entry::carries_next;
 pub use entry::grow;
 pub use entry::load_entry;

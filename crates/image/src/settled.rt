@@ -4,29 +4,47 @@ ghost use mathlib.Core.Path.{_≡_};
 ghost use mathlib.Core.Bool.{true};
 ghost use Prim.Native.Nat.{_+_, _≤_};
 ghost use lib.ListN.{length};
-ghost use Rattle.image.specs.Layout.{imageLength};
+ghost use Rattle.fields.specs.Field.{field};
+ghost use Rattle.image.specs.Packed.{changeIn, rollbackIn};
+ghost use Rattle.image.specs.Layout.{imageLength, stride, statusesSize, changeOrdinalIn, rollbackOrdinalIn};
 ghost use Rattle.image.specs.Formed.{allKept, formed};
 ghost use Rattle.image.specs.Settled.{sideSettledAt, entrySettledAt};
 ghost use Rattle.image.specs.Promises.{TellsSettled};
 use crate::entry::place_of;
-use crate::layout::CHANGE_APPLY_IN;
 use crate::layout::CHANGE_ORDINAL_IN;
-use crate::layout::ROLLBACK_APPLY_IN;
 use crate::layout::ROLLBACK_ORDINAL_IN;
 use crate::parts::last_fold;
 use crate::parts::last_number;
-use fields::get1;
+use crate::statuses::apply_in;
+use crate::statuses::change_in;
+use crate::statuses::rollback_in;
+use fields::get2;
 use fields::get4;
 use kinds::Ordinal;
 
-// Whether a side does not carry ordinal o, or is Done applying: its apply code is at a place, its ordinal at another.
-fn side_settled(s: &[u8], o: Ordinal, apply: usize, at: usize) -> bool
-    requires { ⌜ (apply + 1 ≤ length (now s)) × (at + 4 ≤ length (now s)) ⌝ }
-    ensures { λ r. ⌜ r ≡ sideSettledAt (now (s .entry)) (o .0) apply at ⌝ }
+// Whether the change of the entry at a place does not carry ordinal o, or is Done applying. Its statuses are loaded only where it
+// carries it.
+fn change_settled(s: &[u8], o: Ordinal, at: usize) -> bool
+    requires { ⌜ at + stride ≤ length (now s) ⌝ }
+    ensures { λ r. ⌜ r ≡ sideSettledAt (now (s .entry)) (o .0) (changeIn (field (now (s .entry)) at statusesSize)) (at + changeOrdinalIn) ⌝ }
 {
-    let carried = Ordinal::of(get4(s, at));
+    let carried = Ordinal::of(get4(s, at + CHANGE_ORDINAL_IN));
     if carried.is(o) {
-        return 3 <= get1(s, apply);
+        let apply = apply_in(change_in(get2(s, at)));
+        return apply.done();
+    }
+    true
+}
+
+// The same of its rollback.
+fn rollback_settled(s: &[u8], o: Ordinal, at: usize) -> bool
+    requires { ⌜ at + stride ≤ length (now s) ⌝ }
+    ensures { λ r. ⌜ r ≡ sideSettledAt (now (s .entry)) (o .0) (rollbackIn (field (now (s .entry)) at statusesSize)) (at + rollbackOrdinalIn) ⌝ }
+{
+    let carried = Ordinal::of(get4(s, at + ROLLBACK_ORDINAL_IN));
+    if carried.is(o) {
+        let apply = apply_in(rollback_in(get2(s, at)));
+        return apply.done();
     }
     true
 }
@@ -36,8 +54,8 @@ fn entry_settled(s: &[u8], o: Ordinal, n: usize) -> bool
     ensures { λ r. ⌜ r ≡ entrySettledAt (now (s .entry)) (o .0) n ⌝ }
 {
     let at = place_of(n);
-    if side_settled(s, o, at + CHANGE_APPLY_IN, at + CHANGE_ORDINAL_IN) {
-        return side_settled(s, o, at + ROLLBACK_APPLY_IN, at + ROLLBACK_ORDINAL_IN);
+    if change_settled(s, o, at) {
+        return rollback_settled(s, o, at);
     }
     false
 }

@@ -30,7 +30,7 @@ use Rattle.machine.proofs.Cases.{and-right, commit-change, commit-rollback, app
 use Rattle.machine.proofs.Turns.{night-made, night-refused}
 use Rattle.image.specs.View.{view}
 use Rattle.image.specs.Formed.{formed}
-use Rattle.image.proofs.Sized.{code-low}
+use Rattle.image.proofs.Packed.{code-low}
 use Rattle.controller.specs.Claims.{outcomeOf}
 use Rattle.controller.specs.declared.nights.Night.{Night}
 use Rattle.controller.specs.Nights.{lentFrom, fours, eventNumbers, roomAfter, given, nightIn, Nights}

@@ -75,11 +75,7 @@ module _ (l m : List ℕ) (a : Agree l m) where
 
   same-statuses : (k : ℕ) → foldedOf l < k → k ≤ lastOf l → statusesOk m (placeOf k) ≡ statusesOk l (placeOf k)
   unfolding statusesOk
-  same-statuses k u v =
-      let z : field m (placeOf k) 1 ≡ field l (placeOf k) 1 = field-same 1 l m (placeOf k) (λ j p q. a .used j (slot k u v p (omega arith))) in
-      let at : (d : ℕ) → d ≤ 3 → field m (placeOf k + d) 1 ≡ field l (placeOf k + d) 1 =
-      λ d e. field-same 1 l m (placeOf k + d) (λ j p q. a .used j (slot k u v (omega arith) (omega arith))) in
-      rw (z, at 1 (omega arith), at 2 (omega arith), at 3 (omega arith))
+  same-statuses k u v = rw (field-same 2 l m (placeOf k) (λ j p q. a .used j (slot k u v p (omega arith))))
 
   same-codes : codesOk m ≡ codesOk l
   same-codes =

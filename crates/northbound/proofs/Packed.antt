@@ -10,7 +10,7 @@ use Rattle.kinds.specs.Statuses.{codeOf}
 use Rattle.machine.specs.Calls.{Call}
 use Rattle.machine.specs.Reads.{Query}
 use Rattle.image.specs.Formed.{formed}
-use Rattle.image.proofs.Sized.{status-code, code-low}
+use Rattle.image.proofs.Packed.{status-code, code-low}
 use Rattle.controller.specs.declared.reads.Read.{Read}
 use Rattle.controller.specs.declared.walking.Listed.{Listed}
 use Rattle.controller.specs.declared.reasons.Why.{Why}

@@ -127,7 +127,7 @@ fn refused(image: &[u8]) -> u64
 
 // ---- the calls
 
-// Makes a fresh image, of a switch that remembers (1) or forgets (0); 1 where the length is not 6,038, then 2 where it is neither.
+// Makes a fresh image, of a switch that remembers (1) or forgets (0); 1 where the length is not 5,782, then 2 where it is neither.
 #[no_mangle]
 pub extern "C" fn makowist_fresh(image: &mut [u8], remembers: u64) -> u64
     ensures { λ r. ⌜ Freshens (now (image .entry)) remembers r (now (image .exit)) ⌝ }

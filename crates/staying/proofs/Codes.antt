@@ -20,6 +20,7 @@ use Rattle.fields.proofs.Laws.{Outside, put-outside}
 use Rattle.fields.proofs.Runs.{Fit, puts-outside, puts-same, fields-kept}
 use Rattle.machine.proofs.Entries.{and-both}
 use Rattle.machine.specs.Stores.{Table, ofCommitted, ofApplied, ofTarget, ofBase, ofOwners, Store, grow, entry, fold, change, committedHead, appliedHead, value, targetValues, configuration, mastership, connections, target}
+use Rattle.image.specs.Packed.{highestPacked}
 use Rattle.image.specs.Layout.{entryWidths, headWidths, tableWidths, configurationWidths, mastershipWidths, targetWidths, connectionsWidths, placeOf, lastAt, changeAt, committedAt, appliedAt, valuesAt, configurationAt, mastershipAt, targetAt, connectionsAt, foldedAt, imageLength, slots, highest, stride, valueSize, tableLength, connectionsSize, numberSize}
 use Rattle.image.specs.Records.{flagCode, entryNumbers, putEntryAt, lastOf, foldedOf, headNumbers, putHeadAt, configurationNumbers, putConfiguration, mastershipNumbers, putMastership, targetNumbers, putTarget, connectionsNumbers, eight, putConnections}
 use Rattle.image.specs.View.{write, written}
@@ -27,7 +28,8 @@ use Rattle.image.specs.Formed.{allKept, statusesOk, entryStatusesOk, flagsOk, c
 use Rattle.image.proofs.UpTo.{and-left, and-right, kept-at, kept-from}
 use Rattle.image.proofs.Kept.{Apart, statuses-kept, last-kept, folded-kept}
 use Rattle.image.proofs.Scanned.{Room}
-use Rattle.image.proofs.Sized.{SizedEntry, SizedConnections, code-low, progress-low, flag-low, entry-room, configuration-room, target-room, connections-room, eight-all}
+use Rattle.image.proofs.Packed.{packed-low}
+use Rattle.image.proofs.Sized.{SizedEntry, SizedConnections, progress-low, flag-low, entry-room, configuration-room, target-room, connections-room, eight-all}
 use Rattle.image.proofs.Shown.{Fits, FitsAll, entries-apart, entry-outside, grow-outside, length-write, ends-write, room-write, rest-fits}
 
 -- ---- the flags, in the three runs where they lie
@@ -72,13 +74,7 @@ nodes-ok xs = rw (low 0, low 1, low 2, low 3, low 4, low 5, low 6, low 7)
 -- ---- the statuses of an entry that was stored
 stored-statuses : (m : List ℕ) (at : ℕ) (t : Transaction) → fieldsAt m at entryWidths ≡ entryNumbers t → statusesOk m at ≡ true
 unfolding statusesOk fieldsAt
-stored-statuses m at t q =
-    let two : at + 2 ≡ at + 1 + 1 = omega arith in
-    let three : at + 3 ≡ at + 1 + 1 + 1 = omega arith in
-    and-both _ _ (ap (λ (x : List ℕ). leb (getD x 0 0) 6) q ∙ le-leb _ _ (code-low (t .change .commit)))
-    (and-both _ _ (ap (λ (x : List ℕ). leb (getD x 1 0) 6) q ∙ le-leb _ _ (code-low (t .change .apply)))
-    (and-both _ _ (ap (λ (x : ℕ). leb (field m x 1) 6) two ∙ ap (λ (x : List ℕ). leb (getD x 2 0) 6) q ∙ le-leb _ _ (code-low (t .rollback .commit)))
-    (ap (λ (x : ℕ). leb (field m x 1) 6) three ∙ ap (λ (x : List ℕ). leb (getD x 3 0) 6) q ∙ le-leb _ _ (code-low (t .rollback .apply)))))
+stored-statuses m at t q = ap (λ (x : List ℕ). leb (getD x 0 0) highestPacked) q ∙ le-leb _ _ (packed-low t)
 
 -- ---- an image of which the codes are codes
 pub record Codes (l : List ℕ) : Type 0 where

@@ -3,14 +3,11 @@ use borrow.Author.Needs.{needs}
 use Rattle.image.proofs.entry.load_side.Statement.{statement}
 use Rattle.image.proofs.entry.load_side.Tie as tie
 
-load-status-requires : tie.Need-load-status-requires
-load-status-requires c κs = search needs
+commit-in-requires : tie.Need-commit-in-requires
+commit-in-requires c κs = search needs
 
-add-load-status : tie.Need-add-load-status
-add-load-status c = search needs
-
-load-status-requires-2 : tie.Need-load-status-requires-2
-load-status-requires-2 c κs = search needs
+apply-in-requires : tie.Need-apply-in-requires
+apply-in-requires c κs = search needs
 
 get4-requires : tie.Need-get4-requires
 get4-requires c κs = search needs
@@ -23,11 +20,4 @@ returns c = cc
 
 pub load-side-spec : {M : Type 1} → statement M
 load-side-spec =
-    tie.close
-    (tie.spec
-    load-status-requires
-    add-load-status
-    load-status-requires-2
-    get4-requires
-    of-requires
-    returns)
+    tie.close (tie.spec commit-in-requires apply-in-requires get4-requires of-requires returns)

@@ -1,0 +1,18 @@
+-- `commit_in` meets its contract. Assumes nothing.
+use Rattle.image.specs.Packed.{commitIn}
+use borrow.Author.Needs.{needs}
+use Rattle.image.proofs.statuses.commit_in.Statement.{statement}
+use Rattle.image.proofs.statuses.commit_in.Tie as tie
+
+cast-of : tie.Need-cast-of
+cast-of c = search needs
+
+of-requires : tie.Need-of-requires
+of-requires c κs = search needs
+
+returns : tie.Need-returns
+unfolding commitIn
+returns c = cc
+
+pub commit-in-spec : {M : Type 1} → statement M
+commit-in-spec = tie.close (tie.spec cast-of of-requires returns)
