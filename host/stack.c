@@ -581,8 +581,9 @@ static void put(size_t at, size_t width, uint64_t number) {
         image[at + k] = (uint8_t)(number >> 8 * k);
 }
 
-/* Where the counters are: docs/IMAGE.md. */
-enum { HIGHEST_AT = 5632, COMMITTED_ORDINAL_AT = 5642, MASTER_TERM_AT = 5918, TARGET_ID_AT = 5926, NODES_AT = 5932, FOLD_AT = 5972 };
+/* An entry's bytes, and where the counters are: docs/IMAGE.md. */
+enum { ENTRY = 42, HIGHEST_AT = 5376, COMMITTED_ORDINAL_AT = 5386, MASTER_TERM_AT = 5662, TARGET_ID_AT = 5670, NODES_AT = 5676, FOLD_AT = 5716 };
+_Static_assert(FOLD_AT + 2 + 2 * MAKOWIST_PATHS == LENGTH, "the layout has moved: docs/IMAGE.md");
 
 static void at_limits(void) {
     begin(MAKOWIST_FORGETS);
@@ -608,7 +609,17 @@ static void at_limits(void) {
     every_call(image, "the term at its limit (no session)");
 }
 
-/* Statuses, ordinals and heads written over at random in logs of up to three, where the image stays well-formed. */
+/* An entry's four statuses in one number, another of its bytes as far as the ordinals, or one of the heads. */
+static void hit(void) {
+    const size_t entry = ENTRY * below(3);
+    switch (below(4)) {
+    case 0: put(entry, 2, below(2401)); break;
+    case 1: put(entry + 2 + below(12), 1, below(7)); break;
+    default: put(HIGHEST_AT + 2 + below(12), 1, below(7));
+    }
+}
+
+/* They are written over at random in logs of up to three, where the image stays well-formed. */
 static void damaged(uint64_t count) {
     for (uint64_t k = 0; k < count; ++k) {
         begin(k % 2);
@@ -616,8 +627,8 @@ static void damaged(uint64_t count) {
             append(number, k % 2);
         for (int step = 0; step < 6; ++step)
             CALL(WORK, image, 1, 1 + below(4), 1 + below(3), 0, 0);
-        for (uint64_t hit = 0; hit <= 2 + k % 8; ++hit)
-            put(below(2) ? 44 * below(3) + below(16) : HIGHEST_AT + 2 + below(12), 1, below(7));
+        for (uint64_t hits = 0; hits <= 2 + k % 8; ++hits)
+            hit();
         if (makowist_well_formed(image, LENGTH) == MAKOWIST_ACCEPTED)
             every_call(image, "a damaged log (no session)");
     }

@@ -1,12 +1,13 @@
 //! Wrong copies of one rule, to show that the comparison finds them. Only the comparison asks for one.
-//! Those of imports, of nights, of the order of refusals, of the calls from outside, of owners, of a push's stores and of reasons
-//! are in the modules below.
+//! Those of imports, of nights, of the order of refusals, of the calls from outside, of owners, of statuses in one number, of a
+//! push's stores and of reasons are in the modules below.
 
 pub mod import;
 pub mod night;
 pub mod order;
 pub mod outside;
 pub mod owner;
+pub mod packed;
 pub mod push;
 pub mod why;
 
@@ -25,6 +26,7 @@ use self::night::Lapse;
 use order::{Call, Swapped};
 use outside::Slip;
 use owner::Claim;
+use packed::Packing;
 use push::Split;
 use why::Guess;
 
@@ -94,6 +96,8 @@ pub enum Fault {
     UnusedKept,
     /// A fresh image keeps the bytes that carry nothing.
     FreshOverOld,
+    /// An entry's four statuses are in one number otherwise (order 12).
+    Packed(Packing),
     /// An image whose target's flag is above 1 is taken, as of one that remembers, or by the flag's lowest bit (order 13).
     FlagAboveOneTaken,
     FlagByLowestBit,
@@ -134,6 +138,7 @@ impl Fault {
         all.extend(Argument::ALL.iter().flat_map(|argument| [16, 32].map(|bits| Fault::Narrowed(*argument, bits))));
         all.extend([Fault::OddRoomTakenAsMore, Fault::UnusedKept, Fault::FreshOverOld]);
         all.extend([Fault::FlagAboveOneTaken, Fault::FlagByLowestBit, Fault::FlagNotStored, Fault::ImportRemembers]);
+        all.extend(Packing::ALL.map(Fault::Packed));
         all.extend(Slip::ALL.iter().copied().map(Fault::Outside));
         all.extend(Swapped::all().map(|Swapped(call, first, then)| Fault::Swapped(call, first, then)));
         all.extend(Guess::all().into_iter().map(Fault::Why));
@@ -247,6 +252,7 @@ impl Fault {
     pub fn decode(self, bytes: &[u8]) -> Option<State> {
         match self {
             Fault::Owner(claim) => claim.decode(bytes),
+            Fault::Packed(packing) => packing.decode(bytes),
             Fault::FlagAboveOneTaken => decode_with_flag(bytes, |flag| flag.min(1)),
             Fault::FlagByLowestBit => decode_with_flag(bytes, |flag| flag & 1),
             _ => image::decode(bytes),
@@ -355,6 +361,9 @@ impl Fault {
             _ => northbound::store(state, request, image),
         }
         image[..at::HIGHEST].rotate_right(slots);
+        if let Fault::Packed(packing) = self {
+            packing.store(state, image);
+        }
         if self == Fault::FlagNotStored {
             image[at::REMEMBERS] = 0;
         }

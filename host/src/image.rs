@@ -9,10 +9,10 @@ use crate::controller::{
 };
 
 /// An image's length; bytes of any other length are no image.
-pub const LENGTH: usize = 6038;
+pub const LENGTH: usize = 5782;
 
 /// How far apart the slots of the log's ring lie.
-pub const ENTRY: usize = 44;
+pub const ENTRY: usize = 42;
 
 /// The slot of a transaction's number.
 pub fn slot(number: Number) -> usize {
@@ -31,40 +31,48 @@ pub fn entry_at_mut(image: &mut [u8], number: Number) -> &mut [u8] {
 
 /// Where the fields of an entry lie in it.
 pub mod entry {
-    pub const C_COMMIT: usize = 0;
-    pub const C_APPLY: usize = 1;
-    pub const R_COMMIT: usize = 2;
-    pub const R_APPLY: usize = 3;
-    pub const PHASE: usize = 4;
-    pub const PAIRS: usize = 5;
-    pub const R_INDEX: usize = 6;
-    pub const C_ORDINAL: usize = 8;
-    pub const R_ORDINAL: usize = 12;
-    pub const PATHS: usize = 16;
-    pub const VALUES: usize = 20;
-    pub const R_VALUES: usize = 28;
-    pub const R_OWNERS: usize = 36;
+    pub const STATUSES: usize = 0;
+    pub const PHASE: usize = 2;
+    pub const PAIRS: usize = 3;
+    pub const R_INDEX: usize = 4;
+    pub const C_ORDINAL: usize = 6;
+    pub const R_ORDINAL: usize = 10;
+    pub const PATHS: usize = 14;
+    pub const VALUES: usize = 18;
+    pub const R_VALUES: usize = 26;
+    pub const R_OWNERS: usize = 34;
 }
+
+/// What each of an entry's four statuses counts in the one number of them (order 12).
+pub mod weight {
+    pub const C_COMMIT: u16 = 343;
+    pub const C_APPLY: u16 = 49;
+    pub const R_COMMIT: u16 = 7;
+    pub const R_APPLY: u16 = 1;
+}
+
+/// The highest number of four statuses: each is Failed.
+pub const HIGHEST_STATUSES: u16 = 2400;
 
 /// Where the fields after the log lie.
 pub mod at {
-    pub const HIGHEST: usize = 5632;
-    pub const COMMITTED_CHANGE: usize = 5634;
-    pub const COMMITTED: usize = 5636;
-    pub const COMMITTED_VALUES: usize = 5646;
-    pub const OWNERS: usize = 5710;
-    pub const APPLIED: usize = 5774;
-    pub const APPLIED_VALUES: usize = 5784;
-    pub const TARGET_VALUES: usize = 5848;
-    pub const CONFIGURATION: usize = 5912;
-    pub const MASTERSHIP: usize = 5917;
-    pub const TARGET: usize = 5926;
-    pub const RUNNING: usize = 5930;
-    pub const REMEMBERS: usize = 5931;
-    pub const CONNECTIONS: usize = 5932;
+    pub const HIGHEST: usize = 5376;
+    pub const COMMITTED_CHANGE: usize = 5378;
+    pub const COMMITTED: usize = 5380;
+    pub const COMMITTED_VALUES: usize = 5390;
+    pub const OWNERS: usize = 5454;
+    pub const APPLIED: usize = 5518;
+    pub const APPLIED_VALUES: usize = 5528;
+    pub const TARGET_VALUES: usize = 5592;
+    pub const CONFIGURATION: usize = 5656;
+    pub const MASTERSHIP: usize = 5661;
+    pub const TARGET: usize = 5670;
+    pub const RUNNING: usize = 5674;
+    pub const REMEMBERS: usize = 5675;
+    pub const CONNECTIONS: usize = 5676;
     pub const CONNECTION: usize = 5;
-    pub const FOLDED: usize = 5972;
-    pub const BASE: usize = 5974;
+    pub const FOLDED: usize = 5716;
+    pub const BASE: usize = 5718;
 }
 
 pub fn u16_at(bytes: &[u8], at: usize) -> u16 {
@@ -81,6 +89,17 @@ pub fn put_u16(bytes: &mut [u8], at: usize, value: u16) {
 
 pub fn put_u32(bytes: &mut [u8], at: usize, value: u32) {
     bytes[at..at + 4].copy_from_slice(&value.to_le_bytes());
+}
+
+/// The code of one of an entry's statuses.
+pub fn status_at(bytes: &[u8], weight: u16) -> u8 {
+    (u16_at(bytes, entry::STATUSES) / weight % 7) as u8
+}
+
+/// Puts another code in its place.
+pub fn put_status(bytes: &mut [u8], weight: u16, code: u8) {
+    let others = u16_at(bytes, entry::STATUSES) - weight * u16::from(status_at(bytes, weight));
+    put_u16(bytes, entry::STATUSES, others + weight * u16::from(code));
 }
 
 /// The state in the image, where the image is well-formed.
@@ -114,7 +133,10 @@ pub fn decode_whatever_owners(image: &[u8]) -> Option<State> {
 
 /// The transaction in an entry's bytes, where its codes are in range and its pairs a valid change.
 pub fn decode_entry(bytes: &[u8]) -> Option<Transaction> {
-    let status = |at: usize| Status::from_code(bytes[at]);
+    if u16_at(bytes, entry::STATUSES) > HIGHEST_STATUSES {
+        return None;
+    }
+    let status = |weight: u16| Status::from_code(status_at(bytes, weight));
     let ordinal = |at: usize| Ordinal(u32_at(bytes, at));
     let count = usize::from(bytes[entry::PAIRS]);
     if count > 4 {
@@ -133,13 +155,13 @@ pub fn decode_entry(bytes: &[u8]) -> Option<Transaction> {
         },
         change: Change::new((0..count).map(pair))?,
         c: Progress {
-            commit: status(entry::C_COMMIT)?,
-            apply: status(entry::C_APPLY)?,
+            commit: status(weight::C_COMMIT)?,
+            apply: status(weight::C_APPLY)?,
             ordinal: ordinal(entry::C_ORDINAL),
         },
         r: Progress {
-            commit: status(entry::R_COMMIT)?,
-            apply: status(entry::R_APPLY)?,
+            commit: status(weight::R_COMMIT)?,
+            apply: status(weight::R_APPLY)?,
             ordinal: ordinal(entry::R_ORDINAL),
         },
         r_index: Number(u16_at(bytes, entry::R_INDEX)),
@@ -254,14 +276,11 @@ pub fn encode(state: &State, image: &mut [u8]) {
 /// which become 0; every other store keeps those places. The paper does not look at them, the image's definition does. Of the
 /// owners that it remembers the transaction has all four places.
 pub fn encode_entry(transaction: &Transaction, bytes: &mut [u8]) {
-    let begins = bytes[entry::C_COMMIT] == Status::Pending.code() && transaction.c.commit != Status::Pending;
+    let begins = status_at(bytes, weight::C_COMMIT) == Status::Pending.code() && transaction.c.commit != Status::Pending;
     if begins {
         bytes[entry::R_VALUES..entry::R_OWNERS].fill(0);
     }
-    bytes[entry::C_COMMIT] = transaction.c.commit.code();
-    bytes[entry::C_APPLY] = transaction.c.apply.code();
-    bytes[entry::R_COMMIT] = transaction.r.commit.code();
-    bytes[entry::R_APPLY] = transaction.r.apply.code();
+    put_u16(bytes, entry::STATUSES, statuses(transaction));
     bytes[entry::PHASE] = transaction.phase as u8;
     bytes[entry::PAIRS] = transaction.change.pairs().len() as u8;
     put_u16(bytes, entry::R_INDEX, transaction.r_index.0);
@@ -275,6 +294,12 @@ pub fn encode_entry(transaction: &Transaction, bytes: &mut [u8]) {
     for (place, owner) in transaction.r_owners.iter().enumerate() {
         put_u16(bytes, entry::R_OWNERS + 2 * place, owner.0);
     }
+}
+
+/// A transaction's four statuses in one number.
+pub fn statuses(transaction: &Transaction) -> u16 {
+    let Transaction { c, r, .. } = transaction;
+    [c.commit, c.apply, r.commit, r.apply].into_iter().fold(0, |number, status| 7 * number + u16::from(status.code()))
 }
 
 pub fn encode_committed(committed: &Committed, image: &mut [u8]) {

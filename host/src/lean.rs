@@ -7,7 +7,9 @@ use crate::controller::{
     self, counted, Change, Connection, ConfigurationState, Event, Node, Number, Ordinal, Phase, Refusal, State, Status, Term,
     Transaction, LOG_LIMIT,
 };
-use crate::image::{self, at, entry, put_u16, put_u32, u16_at, u32_at, ENTRY, LENGTH};
+use crate::image::{
+    self, at, entry, put_status, put_u16, put_u32, status_at, u16_at, u32_at, weight, ENTRY, HIGHEST_STATUSES, LENGTH,
+};
 use crate::jobs::{ranged, Cut, Job, Outcome, Work};
 use crate::night::EVENT;
 use crate::northbound::{Answer, Request, Served};
@@ -76,12 +78,8 @@ fn entries(image: &Image, kept: Kept) -> impl Iterator<Item = &[u8; ENTRY]> {
 }
 
 fn entry_is_formed(bytes: &[u8; ENTRY], number: u16) -> bool {
-    let highest = Status::Failed.code();
     let count = usize::from(bytes[entry::PAIRS]);
-    bytes[entry::C_COMMIT] <= highest
-        && bytes[entry::C_APPLY] <= highest
-        && bytes[entry::R_COMMIT] <= highest
-        && bytes[entry::R_APPLY] <= highest
+    u16_at(bytes, entry::STATUSES) <= HIGHEST_STATUSES
         && matches!(bytes[entry::PHASE], 1 | 2)
         && u16_at(bytes, entry::R_INDEX) < number
         && [0, 2, 4, 6].into_iter().all(|place| u16_at(bytes, entry::R_OWNERS + place) < number)
@@ -150,8 +148,8 @@ pub fn append(image: &mut [u8], pairs: &[u8]) -> u64 {
         let number = Number(kept.highest.checked_add(1).ok_or(Refusal::CounterAtLimit)?);
         let bytes = image::entry_at_mut(image, number);
         bytes.fill(0);
-        bytes[entry::C_COMMIT] = Status::Pending.code();
-        bytes[entry::C_APPLY] = Status::Pending.code();
+        put_status(bytes, weight::C_COMMIT, Status::Pending.code());
+        put_status(bytes, weight::C_APPLY, Status::Pending.code());
         bytes[entry::PHASE] = Phase::Change as u8;
         bytes[entry::PAIRS] = change.pairs().len() as u8;
         for (place, pair) in change.pairs().iter().enumerate() {
@@ -167,13 +165,13 @@ pub fn append(image: &mut [u8], pairs: &[u8]) -> u64 {
 pub fn rollback(image: &mut [u8], number: u64) -> u64 {
     on(image, |image, kept| {
         let bytes = image::entry_at_mut(image, kept.number(number)?);
-        let committed = bytes[entry::C_COMMIT] == Status::Complete.code();
+        let committed = status_at(bytes, weight::C_COMMIT) == Status::Complete.code();
         if bytes[entry::PHASE] != Phase::Change as u8 || !committed {
             return Err(Refusal::NoRollback);
         }
         bytes[entry::PHASE] = Phase::Rollback as u8;
-        bytes[entry::R_COMMIT] = Status::Pending.code();
-        bytes[entry::R_APPLY] = Status::Pending.code();
+        put_status(bytes, weight::R_COMMIT, Status::Pending.code());
+        put_status(bytes, weight::R_APPLY, Status::Pending.code());
         Ok(Answer::Nothing)
     })
 }
@@ -321,8 +319,8 @@ fn line_open(image: &Image, node: Node) -> bool {
 fn settled(image: &Image, kept: Kept, ordinal: Ordinal) -> bool {
     ordinal == Ordinal::NONE
         || entries(image, kept).all(|bytes| {
-            (u32_at(bytes, entry::C_ORDINAL) != ordinal.0 || is_done(bytes[entry::C_APPLY]))
-                && (u32_at(bytes, entry::R_ORDINAL) != ordinal.0 || is_done(bytes[entry::R_APPLY]))
+            (u32_at(bytes, entry::C_ORDINAL) != ordinal.0 || is_done(status_at(bytes, weight::C_APPLY)))
+                && (u32_at(bytes, entry::R_ORDINAL) != ordinal.0 || is_done(status_at(bytes, weight::R_APPLY)))
         })
 }
 
@@ -336,8 +334,8 @@ fn at_rest(image: &Image, kept: Kept) -> bool {
     if index == 0 {
         return target == 0;
     }
-    let done = |status: usize| index <= kept.folded || is_done(image[ENTRY * image::slot(Number(index)) + status]);
-    (target == index && done(entry::C_COMMIT)) || (target == revision && revision < index && done(entry::R_COMMIT))
+    let done = |weight: u16| index <= kept.folded || is_done(status_at(image::entry_at(image, Number(index)), weight));
+    (target == index && done(weight::C_COMMIT)) || (target == revision && revision < index && done(weight::R_COMMIT))
 }
 
 #[inline(never)]
@@ -404,14 +402,14 @@ fn next_waits(image: &Image, kept: Kept) -> bool {
     let mut number = kept.folded;
     entries(image, kept).all(|bytes| {
         number += 1;
-        (u32_at(bytes, entry::C_ORDINAL) != next || waits(bytes[entry::C_APPLY], number))
-            && (u32_at(bytes, entry::R_ORDINAL) != next || waits(bytes[entry::R_APPLY], u16_at(bytes, entry::R_INDEX)))
+        (u32_at(bytes, entry::C_ORDINAL) != next || waits(status_at(bytes, weight::C_APPLY), number))
+            && (u32_at(bytes, entry::R_ORDINAL) != next || waits(status_at(bytes, weight::R_APPLY), u16_at(bytes, entry::R_INDEX)))
     })
 }
 
 fn is_finished(bytes: &[u8; ENTRY]) -> bool {
-    let applied = bytes[entry::C_APPLY] == Status::Complete.code() && bytes[entry::PHASE] == Phase::Change as u8;
-    applied || bytes[entry::C_COMMIT] == Status::Failed.code() || is_done(bytes[entry::R_APPLY])
+    let applied = status_at(bytes, weight::C_APPLY) == Status::Complete.code() && bytes[entry::PHASE] == Phase::Change as u8;
+    applied || status_at(bytes, weight::C_COMMIT) == Status::Failed.code() || is_done(status_at(bytes, weight::R_APPLY))
 }
 
 /// Lays the live ones among the dropped on the base. They come newest first, so a path that has been laid stays.
@@ -460,14 +458,14 @@ pub fn live(image: &[u8], room: &mut [u8]) -> u64 {
 /// Where a field lies, from its record's beginning, and its width in bytes.
 type Field = (usize, usize);
 
-/// A transaction's fields, in the order of their numbers.
+/// A transaction's fields, in the order of their numbers. The statuses are parts of one: `WEIGHTS`.
 const IN_ENTRY: [Field; TRANSACTION_FIELDS as usize] = [
     (entry::PHASE, 1),
-    (entry::C_COMMIT, 1),
-    (entry::C_APPLY, 1),
+    (entry::STATUSES, 2),
+    (entry::STATUSES, 2),
     (entry::C_ORDINAL, 4),
-    (entry::R_COMMIT, 1),
-    (entry::R_APPLY, 1),
+    (entry::STATUSES, 2),
+    (entry::STATUSES, 2),
     (entry::R_ORDINAL, 4),
     (entry::R_INDEX, 2),
     (entry::PAIRS, 1),
@@ -484,6 +482,10 @@ const IN_ENTRY: [Field; TRANSACTION_FIELDS as usize] = [
     (entry::R_VALUES + 4, 2),
     (entry::R_VALUES + 6, 2),
 ];
+
+/// The numbers of the fields that are statuses, and what each counts in the number of them.
+const WEIGHTS: [(u64, u16); 4] =
+    [(2, weight::C_COMMIT), (3, weight::C_APPLY), (5, weight::R_COMMIT), (6, weight::R_APPLY)];
 
 /// The fields that a state has once.
 const ONCE: [Field; RECORD_FIELDS as usize] = [
@@ -533,9 +535,11 @@ pub fn value(image: &[u8], table: u64, path: u64) -> u64 {
 
 #[inline(never)]
 pub fn transaction(image: &[u8], number: u64, field: u64) -> u64 {
-    shown(image, |kept| {
+    answered(image, |image, kept| {
         let (at, width) = one_of(&IN_ENTRY, field)?;
-        Ok((ENTRY * image::slot(kept.number(number)?) + at, width))
+        let bytes = image::entry_at(image, kept.number(number)?);
+        let weight = WEIGHTS.iter().find_map(|(status, weight)| (*status == field).then_some(*weight));
+        Ok(weight.map_or(number_at(bytes, (at, width)), |weight| status_at(bytes, weight).into()))
     })
 }
 
@@ -570,14 +574,15 @@ fn one_of(fields: &[Field], field: u64) -> Result<Field, Refusal> {
 
 /// The number at the place that is found in a well-formed image, whose log keeps what is given.
 fn shown(image: &[u8], find: impl FnOnce(Kept) -> Result<Field, Refusal>) -> u64 {
-    answered(image, |image, kept| {
-        let (at, width) = find(kept)?;
-        Ok(match width {
-            1 => image[at].into(),
-            2 => u16_at(image, at).into(),
-            _ => u32_at(image, at),
-        })
-    })
+    answered(image, |image, kept| Ok(number_at(image, find(kept)?)))
+}
+
+fn number_at(bytes: &[u8], (at, width): Field) -> u32 {
+    match width {
+        1 => bytes[at].into(),
+        2 => u16_at(bytes, at).into(),
+        _ => u32_at(bytes, at),
+    }
 }
 
 /// What is read of a well-formed image, packed.
@@ -639,7 +644,7 @@ impl Stuck<'_> {
     fn commit_change(&self) -> Told {
         let change = u16_at(self.image, at::COMMITTED_CHANGE);
         let waits = change == self.number - 1;
-        match self.bytes[entry::C_COMMIT] {
+        match status_at(self.bytes, weight::C_COMMIT) {
             PENDING if waits && u16_at(self.image, at::COMMITTED + 2) == self.number => None,
             PENDING if waits => (!at_rest(self.image, self.kept)).then(|| self.in_flight()),
             IN_PROGRESS if waits || change == self.number => None,
@@ -655,7 +660,7 @@ impl Stuck<'_> {
         let revision = u16_at(self.image, at::COMMITTED + 4);
         let r_index = u16_at(self.bytes, entry::R_INDEX);
         let stands = revision == self.number;
-        match self.bytes[entry::R_COMMIT] {
+        match status_at(self.bytes, weight::R_COMMIT) {
             PENDING if stands && u16_at(self.image, at::COMMITTED + 2) == r_index => None,
             PENDING if stands => (!at_rest(self.image, self.kept)).then(|| self.in_flight()),
             IN_PROGRESS if stands || revision == r_index => None,
@@ -672,11 +677,11 @@ impl Stuck<'_> {
         let applied = u32_at(self.image, at::APPLIED + 6);
         let next = own == applied + 1;
         let r_index = u16_at(self.bytes, entry::R_INDEX);
-        let committed = self.bytes[entry::C_COMMIT] == COMPLETE;
-        match self.bytes[entry::C_APPLY] {
+        let committed = status_at(self.bytes, weight::C_COMMIT) == COMPLETE;
+        match status_at(self.bytes, weight::C_APPLY) {
             PENDING if committed && next => {
                 let goes = u16_at(self.image, at::APPLIED + 2) == self.number;
-                let ends = self.bytes[entry::R_COMMIT] == COMPLETE || u16_at(self.image, at::APPLIED + 4) <= r_index;
+                let ends = status_at(self.bytes, weight::R_COMMIT) == COMPLETE || u16_at(self.image, at::APPLIED + 4) <= r_index;
                 self.opens(goes, ends)
             }
             IN_PROGRESS if committed && (next || (own != 0 && own == applied)) => None,
@@ -691,10 +696,10 @@ impl Stuck<'_> {
         let own = u32_at(self.bytes, entry::R_ORDINAL);
         let applied = u32_at(self.image, at::APPLIED + 6);
         let next = own == applied + 1;
-        let commit = self.bytes[entry::R_COMMIT];
-        match self.bytes[entry::R_APPLY] {
+        let commit = status_at(self.bytes, weight::R_COMMIT);
+        match status_at(self.bytes, weight::R_APPLY) {
             PENDING if commit == COMPLETE && next => {
-                let change = self.bytes[entry::C_APPLY];
+                let change = status_at(self.bytes, weight::C_APPLY);
                 let began = matches!(change, COMPLETE | FAILED);
                 let stands = u16_at(self.image, at::APPLIED + 2) == u16_at(self.bytes, entry::R_INDEX);
                 self.opens(began && stands, began || change == ABORTED)
@@ -737,7 +742,7 @@ impl Stuck<'_> {
         if target > u16_at(self.image, at::COMMITTED_CHANGE) {
             return (Reason::CommitInFlight, target.into());
         }
-        let begun = |bytes: &[u8; ENTRY]| bytes[entry::C_COMMIT] == IN_PROGRESS || bytes[entry::R_COMMIT] == IN_PROGRESS;
+        let begun = |bytes: &[u8; ENTRY]| status_at(bytes, weight::C_COMMIT) == IN_PROGRESS || status_at(bytes, weight::R_COMMIT) == IN_PROGRESS;
         let place = entries(self.image, self.kept).position(begun);
         let named = place.map_or(revision.into(), |place| u32::from(self.kept.folded) + 1 + place as u32);
         (Reason::CommitInFlight, named)

@@ -2,7 +2,7 @@
 
 use makowist_host::arguments::Wide;
 use makowist_host::controller::{Number, State, LOG_LIMIT, PAIR_LIMIT, PATHS};
-use makowist_host::image::{self, at, entry, ENTRY, LENGTH};
+use makowist_host::image::{self, at, entry, weight, ENTRY, HIGHEST_STATUSES, LENGTH};
 use makowist_host::northbound::{self, bytes_of, Request};
 use makowist_host::random::Random;
 use makowist_host::lean;
@@ -205,7 +205,8 @@ fn append_zeroes_the_places_it_does_not_use() {
     bytes[2 * ENTRY..4 * ENTRY].fill(0xee);
     assert_eq!(serve(&mut bytes, Request::Append(bytes_of(&[(5, 6)]))), 3 << 32);
     let mut entry = [0; ENTRY];
-    entry[..6].copy_from_slice(&[1, 1, 0, 0, 1, 1]);
+    image::put_u16(&mut entry, entry::STATUSES, 343 + 49);
+    entry[entry::PHASE..entry::R_INDEX].copy_from_slice(&[1, 1]);
     entry[entry::PATHS] = 5;
     entry[entry::VALUES] = 6;
     assert_eq!(bytes[2 * ENTRY..3 * ENTRY], entry);
@@ -233,7 +234,7 @@ fn a_begun_change_gets_all_its_r_values_anew() {
 #[test]
 fn a_byte_out_of_range_is_refused() {
     let cases = [
-        (entry::C_COMMIT, 7), (entry::R_APPLY, 7), (entry::PHASE, 0), (entry::PHASE, 3), (entry::PAIRS, 0),
+        (entry::STATUSES + 1, 10), (entry::STATUSES + 1, 128), (entry::PHASE, 0), (entry::PHASE, 3), (entry::PAIRS, 0),
         (entry::PAIRS, 5), (entry::R_INDEX, 1), (entry::C_ORDINAL + 2, 2), (entry::R_ORDINAL + 3, 1),
         (entry::R_OWNERS, 1), (entry::R_OWNERS + 6, 1), (entry::R_OWNERS + 7, 1), (ENTRY + entry::R_OWNERS + 2, 2),
         (at::OWNERS, 2), (at::OWNERS + 63, 1),
@@ -250,6 +251,35 @@ fn a_byte_out_of_range_is_refused() {
         assert_eq!(serve(&mut bytes, Request::Start), 1);
         assert_eq!(lean::start(&mut bytes), 1);
         assert_eq!(bytes, before);
+    }
+}
+
+/// Order 12: c.commit × 343 + c.apply × 49 + r.commit × 7 + r.apply. Every four statuses have their number, and nothing above
+/// 2,400 is one.
+#[test]
+fn four_statuses_have_one_number() {
+    let mut bytes = some();
+    let first = image::entry_at(&bytes, Number(1)).to_vec();
+    let mut number = 0;
+    for [a, b, c, d] in (0..7).flat_map(|a| (0..7).flat_map(move |b| (0..7).flat_map(move |c| (0..7).map(move |d| [a, b, c, d])))) {
+        image::put_u16(&mut bytes, entry::STATUSES, number);
+        let one = image::decode_entry(&bytes[..ENTRY]).unwrap();
+        assert_eq!([one.c.commit, one.c.apply, one.r.commit, one.r.apply].map(|status| status.code()), [a, b, c, d]);
+        assert_eq!(image::statuses(&one), number);
+        let state = image::decode(&bytes);
+        for (field, code) in [(2, a), (3, b), (5, c), (6, d)] {
+            let query = Query::Transaction { number: 1, field };
+            assert_eq!(query.packed(state.as_ref(), &bytes), u64::from(code) << 32);
+            assert_eq!(lean::read(&bytes, query), u64::from(code) << 32);
+        }
+        number += 1;
+    }
+    assert_eq!(number, HIGHEST_STATUSES + 1);
+    for above in number..=u16::MAX {
+        bytes[..ENTRY].copy_from_slice(&first);
+        image::put_u16(&mut bytes, entry::STATUSES, above);
+        assert!(image::decode(&bytes).is_none());
+        assert_eq!(lean::read(&bytes, Query::Record { field: 1 }), 1);
     }
 }
 
@@ -285,7 +315,6 @@ fn the_lean_reasons_are_the_same() {
     let in_entries = |fields: &[usize]| -> Vec<usize> {
         fields.iter().flat_map(|field| [0, 1, 2].map(|slot| ENTRY * slot + field)).collect()
     };
-    let statuses = in_entries(&[entry::C_COMMIT, entry::C_APPLY, entry::R_COMMIT, entry::R_APPLY]);
     let mut numbers = in_entries(&[entry::R_INDEX, entry::C_ORDINAL, entry::R_ORDINAL]);
     numbers.extend([at::COMMITTED, at::APPLIED].iter().flat_map(|head| [0, 2, 4, 6].map(|field| head + field)));
     numbers.push(at::COMMITTED_CHANGE);
@@ -293,7 +322,9 @@ fn the_lean_reasons_are_the_same() {
     for _ in 0..6_000 {
         let mut bytes = begin.clone();
         for _ in 0..random.between(1, 4) {
-            bytes[random.one_of(&statuses)] = random.below(7) as u8;
+            let weight = random.one_of(&[weight::C_COMMIT, weight::C_APPLY, weight::R_COMMIT, weight::R_APPLY]);
+            let number = Number(random.between(1, 3) as u16);
+            image::put_status(image::entry_at_mut(&mut bytes, number), weight, random.below(7) as u8);
             bytes[random.one_of(&numbers)] = random.below(4) as u8;
         }
         let state = image::decode(&bytes);

@@ -29,6 +29,8 @@ pub struct Counts {
     pub freed: u64,
     /// Logs led to the last number.
     pub migrations: u64,
+    /// Numbers of two bytes in place of four statuses, in range and past it.
+    pub statuses: [u64; 2],
     /// Cut jobs called again, on copies; what is called there is not among the calls.
     pub retries: retries::Seen,
     /// What order 10 brings.
@@ -137,6 +139,7 @@ impl Counts {
         }
         println!("{:>12}  masters that had reconnected freed", self.freed);
         println!("{:>12}  logs led to the last number", self.migrations);
+        println!("{:>12}  numbers of four statuses in range, {} past it", self.statuses[0], self.statuses[1]);
         let unseen_retries = self.retries.told();
         let unseen_folds = self.folds.told();
         let unseen_whys = self.whys.told();
@@ -156,7 +159,7 @@ impl Counts {
         let unseen_rules = self.rules.iter().flatten().filter(|count| **count == 0).count();
         let rules = self.rules.iter().filter(|counts| counts.iter().sum::<u64>() > 0).count();
         println!("rules seen: {rules} of {}; refusals seen: {refusals} of {}", Rule::ALL.len(), Refusal::ALL.len());
-        let unseen = [self.states, self.freed, self.migrations].iter().filter(|count| **count == 0).count();
+        let unseen = [self.states, self.freed, self.migrations].iter().chain(&self.statuses).filter(|count| **count == 0).count();
         let unseen_orders = [unseen_retries, unseen_folds, unseen_whys, unseen_nights, unseen_imports, unseen_owners, unseen_switches];
         let unseen_orders = unseen_orders.into_iter().chain([unseen_remembers]);
         unseen + unseen_answers + unseen_rules + unseen_reads + unseen_orders.sum::<usize>() + unseen_wide

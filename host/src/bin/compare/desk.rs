@@ -105,6 +105,11 @@ impl Desk {
         self.fault.map_or(true, Fault::is_of_owners)
     }
 
+    /// Whether there is no fault put in, or one of the four statuses in one number.
+    pub fn packs_statuses(&self) -> bool {
+        matches!(self.fault, None | Some(Fault::Packed(_)))
+    }
+
     /// What bytes decode to.
     pub fn decoded(&self, bytes: &[u8]) -> Option<State> {
         self.fault.map_or_else(|| image::decode(bytes), |fault| fault.decode(bytes))

@@ -34,6 +34,7 @@ mod remembers;
 mod retries;
 mod sessions;
 mod states;
+mod statuses;
 mod switches;
 mod waiting;
 mod watch;
@@ -155,6 +156,10 @@ fn compare_chosen(desk: &mut Desk, told: impl Fn(&str, &Desk)) -> Compared<()> {
     if desk.asks_for_owners() {
         claims::run(desk)?;
         told("owners in chosen sessions, states and images", desk);
+    }
+    if desk.packs_statuses() {
+        statuses::run(desk)?;
+        told("every number of two bytes in place of four statuses", desk);
     }
     if desk.asks_for_reasons() {
         waiting::run(desk)?;

@@ -101,7 +101,7 @@ fn damage(bytes: &mut Vec<u8>, state: &State, random: &mut Random) {
         0 => bytes.iter_mut().for_each(|byte| *byte = random.bits() as u8),
         1 => {
             let (short, long) = ([0, 1, ENTRY, at::HIGHEST, at::FOLDED], [LENGTH + 1, LENGTH + ENTRY, 2 * LENGTH, 65536]);
-            let length = random.one_of(&[&short[..], &[BEFORE_OWNERS, LENGTH - 1], &long].concat());
+            let length = random.one_of(&[&short[..], &[BEFORE_OWNERS, LENGTH - 1, BEFORE_PACKED], &long].concat());
             bytes.resize(length, random.bits() as u8);
         }
         2..=7 => {
@@ -116,12 +116,17 @@ fn damage(bytes: &mut Vec<u8>, state: &State, random: &mut Random) {
             let number = kept_number(state, random);
             damage_entry(entry_at_mut(bytes, number), number, random);
         }
+        15 if !state.log.is_empty() => {
+            let number = kept_number(state, random);
+            put_u16(entry_at_mut(bytes, number), entry::STATUSES, any_statuses(random));
+        }
         _ => damage_record(bytes, random),
     }
 }
 
-/// An image's length before order 7.
+/// An image's length before order 7, and before order 12.
 const BEFORE_OWNERS: usize = 4949;
+const BEFORE_PACKED: usize = 6038;
 
 /// One of the kept numbers, of which there is one.
 fn kept_number(state: &State, random: &mut Random) -> Number {
@@ -140,11 +145,18 @@ fn place_in_use(state: &State, random: &mut Random) -> usize {
 /// Ordinals at their limit and past it.
 const ORDINALS: [u32; 7] = [0, 255, 131_069, 131_070, 131_071, 1 << 24, u32::MAX];
 
+/// A number of four statuses, at its limit or past it, or any in range.
+fn any_statuses(random: &mut Random) -> u16 {
+    match random.below(4) {
+        0 => random.below(2401) as u16,
+        _ => random.one_of(&[0, 399, 2399, 2400, 2401, 2402, 2744, 32768, 65535]),
+    }
+}
+
 /// Puts a number just outside its range, or far, into a field of an entry.
 fn damage_entry(bytes: &mut [u8], number: Number, random: &mut Random) {
-    let status = [entry::C_COMMIT, entry::C_APPLY, entry::R_COMMIT, entry::R_APPLY];
     match random.below(9) {
-        0 => bytes[random.one_of(&status)] = random.one_of(&[6, 7, 8, 128, 255]),
+        0 => put_u16(bytes, entry::STATUSES, any_statuses(random)),
         1 => bytes[entry::PHASE] = random.one_of(&[0, 1, 2, 3, 255]),
         2 => bytes[entry::PAIRS] = random.one_of(&[0, 1, 4, 5, 255]),
         3 => put_u16(bytes, entry::R_INDEX, random.one_of(&[0, 1, 2, 127, 128, 255, 256, 65535])),
