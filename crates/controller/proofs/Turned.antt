@@ -54,7 +54,7 @@ use Rattle.controller.specs.declared.nights.Scene.{Scene}
 use Rattle.controller.specs.declared.nights.Tried.{Tried}
 use Rattle.controller.specs.declared.nights.Found.{Found}
 use Rattle.controller.specs.Claims.{outcomeOf, Does}
-use Rattle.controller.specs.Nights.{lentFrom, putEvent, roomAfter, eventSize, fours, eventNumbers, fitting, given, Leaves, Nights, nightIn, refuses, Awake, sceneOf, isNext, settledAt, noPresent, presentAt, stands, idle, idleIn, Quiet, firstOf, tries, plansBy, outcomeIn, Finds, stoppedAt, Through, Nighted}
+use Rattle.controller.specs.Nights.{lentFrom, putEvent, roomAfter, eventSize, fours, eventNumbers, fitting, given, Leaves, Nights, nightIn, refuses, Awake, sceneOf, isNext, settledAt, noPresent, presentAt, stands, idle, idleIn, Quiet, firstOf, tries, plansBy, outcomeIn, Finds, Turns, stoppedAt, Through, Nighted}
 use Rattle.controller.proofs.Decided.{size, entry-of, room, last-is, next-change, next-rollback, begin-present}
 use Rattle.controller.proofs.Idle.{told-idle, idle-waits, folds-nothing, idle-stays}
 
@@ -548,7 +548,7 @@ module _ (m os : List ℕ) (n : ℕ) (w : Awake m n os) (f : Found) (y : Finds (
   pub found-number : (1 ≤ f .number) × (imageLength ≤ length m)
   found-number = (let q = worked (view m) n (f .job) (f .number) its-outcome 0 goes-on .number .0 in omega arith, size m (w .formed))
 
-  pub found-does : (d : Bool) (m′ : List ℕ) → d ≡ commits (f .job) → m′ ≡ written m (rowsOf d (f .plan) (f .number) false false)
+  found-does : (d : Bool) (m′ : List ℕ) → d ≡ commits (f .job) → m′ ≡ written m (rowsOf d (f .plan) (f .number) false false)
       → Does m call-is (record { answer = f .plan .answer; event = f .plan .event }) m′
   unfolding step
   found-does d m′ ed q =
@@ -558,6 +558,39 @@ module _ (m os : List ℕ) (n : ℕ) (w : Awake m n os) (f : Found) (y : Finds (
             ∙ ap (λ (p : Plan). record { answer = p .answer; event = eventOf p false }) (y .plan z) ∙ sym (ap (λ (x : Outcome). x .reply) o),
         q ∙ ap₂ (λ (x : Bool) (p : Plan). written m (rowsOf x p (f .number) false false)) ed (y .plan z) ∙ sym (ap (λ (x : Outcome). written m (x .stores)) o),
       )
+
+-- ---- a turn
+module _ (m os : List ℕ) (n : ℕ) (f : Found) (y : Finds (view m) n os f) where
+  -- why a night stops, by what its turn finds
+  pub why-is : stoppedAt (f .job) (f .lacks) ≡ whyStopped (view m) os n
+  why-is = go (eqb (f .job) 0) refl
+    where
+      by-12 : (x : Bool) → cond x 1 0 ≡ stoppedBy [] x
+      by-12 true = refl
+      by-12 false = refl
+
+      go : (x : Bool) → eqb (f .job) 0 ≡ x → cond x (cond (f .lacks) 1 0) 2 ≡ whyStopped (view m) os n
+      go true e =
+          let q = y .none (eqb-true (f .job) 0 e) in
+          by-12 (f .lacks) ∙ sym (ap₂ (λ (cs : List Call) (z : Bool). stoppedBy cs z) (q .0) (q .1))
+      go false e =
+          sym (ap (λ (cs : List Call). stoppedBy cs (needsLine (view m) (all (view m) os n))) (y .some (eqb-false (f .job) 0 e)))
+
+  module _ (r : List ℕ) (k : ℕ) where
+    pub turned-none : f .job ≡ 0 → Turns m n os r k (record { job = f .job; lacks = f .lacks }) m r
+    turned-none e = record { found = f; finds = y; tried = refl; done = λ z. absurd (z e); kept = λ z. (refl, refl) }
+
+    pub turned-one : (f .job ≡ 0 → ⊥) → (d : Bool) (m′ r′ : List ℕ) → d ≡ commits (f .job)
+        → m′ ≡ written m (rowsOf d (f .plan) (f .number) false false) → r′ ≡ putEvent r k (f .plan .event)
+        → Turns m n os r k (record { job = f .job; lacks = f .lacks }) m′ r′
+    turned-one z d m′ r′ ed q p =
+        record {
+          found = f;
+          finds = y;
+          tried = refl;
+          done = λ _. (q ∙ ap (λ (x : Bool). written m (rowsOf x (f .plan) (f .number) false false)) ed, p);
+          kept = λ e. absurd (z e);
+        }
 
 -- ---- the turns, one after another
 -- from l, k turns were made and each did a job, and m is left
@@ -642,7 +675,7 @@ module _ (l os room : List ℕ) (n : ℕ) where
       same-fold = ap (λ (s : State). s .log .folded .0) shows-more ∙ ap (λ (x : Number). x .0) (folds-nothing (view m) n j i o 0 accepted)
 
       -- of what nothing was left, nothing is left
-      pub quiet-stays : (low : ℕ) → Quiet m low → Quiet m′ low
+      quiet-stays : (low : ℕ) → Quiet m low → Quiet m′ low
       quiet-stays low q =
           let a : foldedOf m′ ≡ foldedOf m = same-fold in
           let z : lastOf m′ ≡ lastOf m = sym (last-is m′ (awake-more .formed)) ∙ ap (λ (s : State). last (s .log)) shows-more
@@ -653,7 +686,7 @@ module _ (l os room : List ℕ) (n : ℕ) where
             idle = λ k p x. ap (λ (s : State). idleIn s k) shows-more ∙ idle-stays (view m) n j i o 0 accepted k (q .idle k (omega (arith, a)) x);
           }
 
-      pub gone-more : (r′ : List ℕ) → r′ ≡ putEvent r k (a .event) → Gone l os room n (k + 1) m′ r′
+      gone-more : (r′ : List ℕ) → r′ ≡ putEvent r k (a .event) → Gone l os room n (k + 1) m′ r′
       unfolding eventsFrom roomAfter step
       gone-more r′ q =
           let u : suc k ≡ k + 1 = omega arith in
@@ -677,40 +710,57 @@ module _ (l os room : List ℕ) (n : ℕ) where
         go : (d : ℕ) → b ≡ d + k → turns (view l) os n b ≡ turns (view l) os n k
         go d z = ap (turns (view l) os n) z ∙ none-more (view l) os n k (seen [] e) d
 
+    -- ---- what a turn leaves
+    module _ (t : Tried) (m′ r′ : List ℕ) (y : Turns m n os r k t m′ r′) where
+      its-job : t .job ≡ y .found .job
+      its-job = ap (λ (x : Tried). x .job) (y .tried)
+
+      module _ (z : t .job ≡ 0 → ⊥) where
+        goes : y .found .job ≡ 0 → ⊥
+        goes e = z (its-job ∙ e)
+
+        does : Does m (call-is m os n (made .awake) (y .found) (y .finds) goes) (record { answer = y .found .plan .answer; event = y .found .plan .event }) m′
+        does = found-does m os n (made .awake) (y .found) (y .finds) goes (commits (y .found .job)) m′ refl (y .done goes .0)
+
+        pub turn-goes : Gone l os room n (k + 1) m′ r′
+        turn-goes = gone-more _ _ _ (y .finds .some goes) m′ _ does r′ (y .done goes .1)
+
+        pub turn-quiet : (low : ℕ) → Quiet m low → Quiet m′ low
+        turn-quiet = quiet-stays _ _ _ (y .finds .some goes) m′ _ does
+
+      module _ (z : t .job ≡ 0) where
+        stays : (m′ ≡ m) × (r′ ≡ r)
+        stays = y .kept (sym its-job ∙ z)
+
+        pub turn-none : Gone l os room n k m′ r′
+        turn-none = subst (λ (a : List ℕ). Gone l os room n k a r′) (sym (stays .0)) (subst (λ (a : List ℕ). Gone l os room n k m a) (sym (stays .1)) g)
+
     -- ---- the end
-    module _ (b : ℕ) (f : Found) (y : Finds (view m) n os f) where
-      why-is : stoppedAt (f .job) (f .lacks) ≡ whyStopped (view m) os n
-      why-is = go (eqb (f .job) 0) refl
-        where
-          by-12 : (x : Bool) → cond x 1 0 ≡ stoppedBy [] x
-          by-12 true = refl
-          by-12 false = refl
-
-          go : (x : Bool) → eqb (f .job) 0 ≡ x → cond x (cond (f .lacks) 1 0) 2 ≡ whyStopped (view m) os n
-          go true e =
-              let q = y .none (eqb-true (f .job) 0 e) in
-              by-12 (f .lacks) ∙ sym (ap₂ (λ (cs : List Call) (z : Bool). stoppedBy cs z) (q .0) (q .1))
-          go false e =
-              sym (ap (λ (cs : List Call). stoppedBy cs (needsLine (view m) (all (view m) os n))) (y .some (eqb-false (f .job) 0 e)))
-
-      over : (j x : ℕ) → turns (view l) os n b ≡ turns (view l) os n k → j ≡ stoppedAt (f .job) (f .lacks) → x ≡ fitting k (length r)
+    module _ (b j x : ℕ) (p : k ≤ b) where
+      over : turns (view l) os n b ≡ turns (view l) os n k → j ≡ whyStopped (view m) os n → x ≡ fitting k (length r)
           → Through l n b os room (record { answer = 0; jobs = k; stopped = j; events = x }) m r
-      over j x e ej ex =
+      over e ej ex =
           let jobs : k ≡ length (turns (view l) os n b) = sym (ap length e ∙ made .count) in
           let why : j ≡ whyStopped (stateFrom (view l) (turns (view l) os n b)) os n
-          = ej ∙ why-is ∙ ap (λ (s : State). whyStopped s os n) (made .state ∙ sym (ap (stateFrom (view l)) e)) in
+          = ej ∙ ap (λ (s : State). whyStopped s os n) (made .state ∙ sym (ap (stateFrom (view l)) e)) in
           let fits : x ≡ fitting (length (turns (view l) os n b)) (length room) = ex ∙ ap₂ fitting jobs (g .1 .1) in
           (rw (jobs, why, fits), made .lent ∙ sym (ap (lentFrom l) e), g .1 .0 ∙ sym (ap (λ (x : List Call). roomAfter room (eventsFrom (view l) x)) e))
 
       -- a turn that does nothing
-      pub over-early : (j x : ℕ) → k ≤ b → f .job ≡ 0 → j ≡ stoppedAt (f .job) (f .lacks) → x ≡ fitting k (length r)
-          → Through l n b os room (record { answer = 0; jobs = k; stopped = j; events = x }) m r
-      over-early j x p z ej ex = over j x (same-turns b p (y .none z .0)) ej ex
+      pub over-early : (t : Tried) (m′ r′ : List ℕ) (y : Turns m n os r k t m′ r′) → t .job ≡ 0 → j ≡ stoppedAt (t .job) (t .lacks) → x ≡ fitting k (length r′)
+          → Through l n b os room (record { answer = 0; jobs = k; stopped = j; events = x }) m′ r′
+      over-early t m′ r′ y z ej ex =
+          let q : (m′ ≡ m) × (r′ ≡ r) = stays t m′ r′ y z in
+          let none : turn (view m) os n ≡ [] = y .finds .none (sym (its-job t m′ r′ y) ∙ z) .0 in
+          let why : j ≡ whyStopped (view m) os n = ej ∙ ap (λ (u : Tried). stoppedAt (u .job) (u .lacks)) (y .tried) ∙ why-is m os n (y .found) (y .finds) in
+          let o = over (same-turns b p none) why (ex ∙ ap (λ (a : List ℕ). fitting k (length a)) (q .1)) in
+          subst (λ (a : List ℕ). Through l n b os room (record { answer = 0; jobs = k; stopped = j; events = x }) a r′) (sym (q .0))
+          (subst (λ (a : List ℕ). Through l n b os room (record { answer = 0; jobs = k; stopped = j; events = x }) m a) (sym (q .1)) o)
 
       -- the budget spent
-      pub over-spent : (j x : ℕ) → k ≤ b → b ≤ k → j ≡ stoppedAt (f .job) (f .lacks) → x ≡ fitting k (length r)
+      pub over-spent : b ≤ k → j ≡ whyStopped (view m) os n → x ≡ fitting k (length r)
           → Through l n b os room (record { answer = 0; jobs = k; stopped = j; events = x }) m r
-      over-spent j x p q ej ex = let z : b ≡ k = omega arith in over j x (ap (turns (view l) os n) z) ej ex
+      over-spent q ej ex = let z : b ≡ k = omega arith in over (ap (turns (view l) os n) z) ej ex
 
 -- ---- the call
 module _ (l os m : List ℕ) (n b : ℕ) (r : Night) where

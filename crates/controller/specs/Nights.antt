@@ -23,7 +23,8 @@ use Rattle.rules.specs.ApplyRollback.{applyRollback}
 use Rattle.machine.specs.State.{State, entryOf, four, isNode, isMaster, lineOpenFor}
 use Rattle.machine.specs.Settled.{settled}
 use Rattle.machine.specs.Rest.{restOf}
-use Rattle.machine.specs.Calls.{Call, work, presentOf, planOf}
+use Rattle.machine.specs.Rows.{rowsOf}
+use Rattle.machine.specs.Calls.{Call, work, presentOf, planOf, commits}
 use Rattle.machine.specs.Night as machine
 use Rattle.machine.specs.Night.{outcomeAt, tableOk, turn, all, needsLine, nightNot, through}
 use Rattle.fields.specs.Field.{putFields}
@@ -174,6 +175,15 @@ pub record Finds (s : State) (n : ℕ) (os : List ℕ) (r : Found) : Type 0 wher
   pub some : (r .job ≡ 0 → ⊥) → turn s os n ≡ work n (r .job) (r .number) (outcomeIn s os (r .job) (r .number)) 0 ∷ []
   pub plan : (r .job ≡ 0 → ⊥) → r .plan ≡ planOf s n (r .job) (r .number) (eqb (outcomeIn s os (r .job) (r .number)) 0)
   pub none : r .job ≡ 0 → (turn s os n ≡ []) × (needsLine s (all s os n) ≡ r .lacks)
+
+-- a turn that is made: where a job was found, its rows are in the image and its event is the k-th of the room
+pub record Turns (l : List ℕ) (n : ℕ) (os room : List ℕ) (k : ℕ) (r : Tried) (l′ room′ : List ℕ) : Type 0 where
+  pub found : Found
+  pub finds : Finds (view l) n os found
+  pub tried : r ≡ record { job = found .job; lacks = found .lacks }
+  pub done : (found .job ≡ 0 → ⊥)
+      → (l′ ≡ written l (rowsOf (commits (found .job)) (found .plan) (found .number) false false)) × (room′ ≡ putEvent room k (found .plan .event))
+  pub kept : found .job ≡ 0 → (l′ ≡ l) × (room′ ≡ room)
 
 -- why it stopped, by a turn's job
 abbrev pub stoppedAt : (job : ℕ) → (lacks : Bool) → ℕ

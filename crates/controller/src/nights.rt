@@ -5,11 +5,11 @@ ghost use Prim.Native.Nat.{_≤_};
 ghost use lib.ListN.{length};
 ghost use Rattle.rules.specs.Plans.{refuse};
 ghost use Rattle.machine.specs.State.{blank};
-ghost use Rattle.machine.specs.Night.{bits, tableOk, nightOk};
+ghost use Rattle.machine.specs.Night.{bits, tableOk, whyStopped, nightOk};
 ghost use Rattle.image.specs.Layout.{imageLength};
 ghost use Rattle.image.specs.View.{view};
 ghost use Rattle.image.specs.Formed.{formed};
-ghost use Rattle.controller.specs.Nights.{putEvent, fitting, refuses, Awake, sceneOf, isNext, settledAt, noPresent, presentAt, stands, idle, Quiet, tries, plansBy, Finds, stoppedAt, Through, Nighted};
+ghost use Rattle.controller.specs.Nights.{putEvent, fitting, refuses, Awake, sceneOf, isNext, settledAt, noPresent, presentAt, stands, idle, Quiet, tries, plansBy, Finds, Turns, stoppedAt, Through, Nighted};
 use crate::calls::is_node;
 use crate::calls::of_commit;
 use crate::deciding::line;
@@ -440,6 +440,37 @@ fn fitting(k: u16, room: usize) -> u16
 
 // ---- the call
 
+// A turn: its job is found, and done where there is one. What was found is held here alone, and `why_stopped` holds its own: so
+// one place on the stack serves both. The event is read when the plan is performed, or it would be kept beside it.
+fn turn(s: &mut [u8], node: u8, outcomes: &[u8], low: u16, events: &mut [u8], k: u16) -> Tried
+    requires { ⌜ Awake (now s) node (now outcomes) × Quiet (now s) low ⌝ }
+    ensures { λ r. ⌜ Turns (now (s .entry)) node (now (outcomes .entry)) (now (events .entry)) k r (now (s .exit)) (now (events .exit)) ⌝ }
+{
+    let f = find(s, node, outcomes, low);
+    if f.job == 0 {
+        return Tried {
+            job: f.job,
+            lacks: f.lacks,
+        };
+    }
+    perform(s, of_commit(f.job), f.number, f.plan, false, false);
+    let p = f.plan;
+    put_event(events, k, p.event);
+    Tried {
+        job: f.job,
+        lacks: f.lacks,
+    }
+}
+
+// Why a night stops, where its budget is spent.
+fn why_stopped(s: &[u8], node: u8, outcomes: &[u8], low: u16) -> u8
+    requires { ⌜ Awake (now s) node (now outcomes) × Quiet (now s) low ⌝ }
+    ensures { λ r. ⌜ r ≡ whyStopped (view (now (s .entry))) (now (outcomes .entry)) node ⌝ }
+{
+    let f = find(s, node, outcomes, low);
+    stopped_at(f.job, f.lacks)
+}
+
 // The turns of a night, at most as many as the budget.
 fn through(s: &mut [u8], node: u16, budget: u16, outcomes: &[u8], events: &mut [u8]) -> Night
     requires { ⌜ Awake (now s) node (now outcomes) ⌝ }
@@ -450,26 +481,21 @@ fn through(s: &mut [u8], node: u16, budget: u16, outcomes: &[u8], events: &mut [
     let mut k: u16 = 0;
     while k < budget {
         low = skip(s, low);
-        let f = find(s, at, outcomes, low);
-        if f.job == 0 {
+        let t = turn(s, at, outcomes, low, events, k);
+        if t.job == 0 {
             return Night {
                 answer: 0,
                 jobs: k,
-                stopped: stopped_at(f.job, f.lacks),
+                stopped: stopped_at(t.job, t.lacks),
                 events: fitting(k, events.len()),
             };
         }
-        let p = f.plan;
-        let e = p.event;
-        perform(s, of_commit(f.job), f.number, p, false, false);
-        put_event(events, k, e);
         k += 1;
     }
-    let f = find(s, at, outcomes, low);
     Night {
         answer: 0,
         jobs: k,
-        stopped: stopped_at(f.job, f.lacks),
+        stopped: why_stopped(s, at, outcomes, low),
         events: fitting(k, events.len()),
     }
 }

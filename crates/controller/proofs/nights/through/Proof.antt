@@ -4,7 +4,7 @@ use native.Mathlib.Omega.{arith}
 use borrow.Author.Needs.{needs}
 use Rattle.controller.specs.Nights.{Quiet}
 use Rattle.controller.proofs.Decided.{size}
-use Rattle.controller.proofs.Turned.{quiet-none, found-number, found-does, Gone, gone-none, gone-length, quiet-stays, gone-more, over-early, over-spent, awake-node}
+use Rattle.controller.proofs.Turned.{quiet-none, Gone, gone-none, gone-length, turn-goes, turn-quiet, turn-none, over-early, over-spent, awake-node}
 use Rattle.controller.proofs.nights.through.Statement.{statement}
 use Rattle.controller.proofs.nights.through.Tie as tie
 
@@ -26,8 +26,8 @@ loop-holds c = (omega arith, (gone-none _ _ _ _ (λ i. omega (arith, c .before .
 skip-requires : tie.Need-skip-requires Inv-loop μ-loop
 skip-requires c κs = (c .before .before .loop .inv .1 .0 .0 .awake .formed, c .before .before .loop .inv .1 .1)
 
-find-requires : tie.Need-find-requires Inv-loop μ-loop
-find-requires c κs = (c .before .before .before .before .loop .inv .1 .0 .0 .awake, c .before .skip .ensures)
+turn-requires : tie.Need-turn-requires Inv-loop μ-loop
+turn-requires c κs = (c .before .before .before .before .before .loop .inv .1 .0 .0 .awake, c .before .before .skip .ensures)
 
 stopped-at-requires : tie.Need-stopped-at-requires Inv-loop μ-loop
 stopped-at-requires c κs = search needs
@@ -36,49 +36,37 @@ fitting-requires : tie.Need-fitting-requires Inv-loop μ-loop
 fitting-requires c κs = search needs
 
 same-length : tie.Need-same-length Inv-loop μ-loop
-same-length c = gone-length _ _ _ _ _ _ _ (c .before .before .before .before .before .before .before .before .before .loop .inv .1 .0) (c .before .before .before .before .before .before .before .before .before .before .before .before .before .before .before .pre)
+same-length c = gone-length _ _ _ _ _ _ _ (turn-none _ _ _ _ _ _ _ (c .before .before .before .before .before .before .before .before .before .before .before .before .before .before .loop .inv .1 .0) _ _ _ (c .before .before .before .before .before .before .before .before .turn .ensures) (c .before .before .if1 .taken)) (c .before .before .before .before .before .before .before .before .before .before .before .before .before .before .before .before .before .before .before .before .pre)
 
 same-length-2 : tie.Need-same-length-2 Inv-loop μ-loop
-same-length-2 c = c .before .before .before .before .before .before .before .before .before .loop .inv .1 .0 .1 .1
+same-length-2 c = turn-none _ _ _ _ _ _ _ (c .before .before .before .before .before .before .before .before .before .before .before .before .before .before .loop .inv .1 .0) _ _ _ (c .before .before .before .before .before .before .before .before .turn .ensures) (c .before .before .if1 .taken) .1 .1
 
 returns : tie.Need-returns Inv-loop μ-loop
-returns c = over-early _ _ _ _ _ _ _ (c .before .before .before .before .before .before .before .before .before .loop .inv .1 .0) _ _ (c .before .before .before .before .find .ensures) _ _ (omega (arith, c .before .before .before .before .before .before .before .before .loop-test .taken)) (c .before .before .if1 .taken) (c .before .stopped-at .ensures) (c .fitting .ensures)
-
-of-commit-requires : tie.Need-of-commit-requires Inv-loop μ-loop
-of-commit-requires c κs = search needs
-
-perform-requires : tie.Need-perform-requires Inv-loop μ-loop
-perform-requires c κs = found-number _ _ _ (c .before .before .before .before .before .before .before .before .before .before .before .loop .inv .1 .0 .0 .awake) _ (c .before .before .before .before .before .before .find .ensures) (c .before .before .before .before .if1 .left)
-
-put-event-requires : tie.Need-put-event-requires Inv-loop μ-loop
-put-event-requires c κs = search needs
+returns c = over-early _ _ _ _ _ _ _ (c .before .before .before .before .before .before .before .before .before .before .before .before .before .before .loop .inv .1 .0) _ _ _ (omega (arith, c .before .before .before .before .before .before .before .before .before .before .before .before .before .loop-test .taken)) _ _ _ (c .before .before .before .before .before .before .before .before .turn .ensures) (c .before .before .if1 .taken) (c .before .stopped-at .ensures) (c .fitting .ensures)
 
 add-k : tie.Need-add-k Inv-loop μ-loop
-add-k c = omega (arith, c .before .before .before .before .before .before .before .before .before .before .before .before .before .before .before .before .before .loop-test .taken, c .before .before .before .before .before .before .before .before .before .before .before .before .before .before .before .before .before .before .before .before .before .before .before .before .fits .budget .fits)
+add-k c = omega (arith, c .before .before .before .before .before .before .before .before .before .before .before .loop-test .taken, c .before .before .before .before .before .before .before .before .before .before .before .before .before .before .before .before .before .before .fits .budget .fits)
 
 loop-less : tie.Need-loop-less Inv-loop μ-loop
-loop-less c = omega (arith, c .before .before .before .before .before .before .before .before .before .before .before .before .before .before .before .before .before .loop-test .taken)
+loop-less c = omega (arith, c .before .before .before .before .before .before .before .before .before .before .before .loop-test .taken)
 
 loop-again : tie.Need-loop-again Inv-loop μ-loop
-loop-again c = (omega (arith, c .before .before .before .before .before .before .before .before .before .before .before .before .before .before .before .before .before .loop-test .taken), (gone-more _ _ _ _ _ _ _ (c .before .before .before .before .before .before .before .before .before .before .before .before .before .before .before .before .before .before .loop .inv .1 .0) _ _ _ (c .before .before .before .before .before .before .before .before .before .before .before .before .before .find .ensures .some (c .before .before .before .before .before .before .before .before .before .before .before .if1 .left)) _ _ (found-does _ _ _ (c .before .before .before .before .before .before .before .before .before .before .before .before .before .before .before .before .before .before .loop .inv .1 .0 .0 .awake) _ (c .before .before .before .before .before .before .before .before .before .before .before .before .before .find .ensures) (c .before .before .before .before .before .before .before .before .before .before .before .if1 .left) _ _ (c .before .before .before .before .before .before .before .of-commit .ensures) (c .before .before .before .before .before .before .perform .ensures)) _ (c .before .before .put-event .ensures), quiet-stays _ _ _ _ _ _ _ (c .before .before .before .before .before .before .before .before .before .before .before .before .before .before .before .before .before .before .loop .inv .1 .0) _ _ _ (c .before .before .before .before .before .before .before .before .before .before .before .before .before .find .ensures .some (c .before .before .before .before .before .before .before .before .before .before .before .if1 .left)) _ _ (found-does _ _ _ (c .before .before .before .before .before .before .before .before .before .before .before .before .before .before .before .before .before .before .loop .inv .1 .0 .0 .awake) _ (c .before .before .before .before .before .before .before .before .before .before .before .before .before .find .ensures) (c .before .before .before .before .before .before .before .before .before .before .before .if1 .left) _ _ (c .before .before .before .before .before .before .before .of-commit .ensures) (c .before .before .before .before .before .before .perform .ensures)) _ (c .before .before .before .before .before .before .before .before .before .before .before .before .before .before .before .skip .ensures)))
+loop-again c = (omega (arith, c .before .before .before .before .before .before .before .before .before .before .before .loop-test .taken), (turn-goes _ _ _ _ _ _ _ (c .before .before .before .before .before .before .before .before .before .before .before .before .loop .inv .1 .0) _ _ _ (c .before .before .before .before .before .before .turn .ensures) (c .if1 .left), turn-quiet _ _ _ _ _ _ _ (c .before .before .before .before .before .before .before .before .before .before .before .before .loop .inv .1 .0) _ _ _ (c .before .before .before .before .before .before .turn .ensures) (c .if1 .left) _ (c .before .before .before .before .before .before .before .before .before .skip .ensures)))
 
-find-requires-2 : tie.Need-find-requires-2 Inv-loop μ-loop
-find-requires-2 c κs = (c .before .before .loop .inv .1 .0 .0 .awake, c .before .before .loop .inv .1 .1)
-
-stopped-at-requires-2 : tie.Need-stopped-at-requires-2 Inv-loop μ-loop
-stopped-at-requires-2 c κs = search needs
+why-stopped-requires : tie.Need-why-stopped-requires Inv-loop μ-loop
+why-stopped-requires c κs = (c .before .before .loop .inv .1 .0 .0 .awake, c .before .before .loop .inv .1 .1)
 
 fitting-requires-2 : tie.Need-fitting-requires-2 Inv-loop μ-loop
 fitting-requires-2 c κs = search needs
 
 same-length-3 : tie.Need-same-length-3 Inv-loop μ-loop
-same-length-3 c = gone-length _ _ _ _ _ _ _ (c .before .before .before .before .before .loop .inv .1 .0) (c .before .before .before .before .before .before .before .before .before .before .before .pre)
+same-length-3 c = gone-length _ _ _ _ _ _ _ (c .before .before .before .before .loop .inv .1 .0) (c .before .before .before .before .before .before .before .before .before .before .pre)
 
 same-length-4 : tie.Need-same-length-4 Inv-loop μ-loop
-same-length-4 c = c .before .before .before .before .before .loop .inv .1 .0 .1 .1
+same-length-4 c = c .before .before .before .before .loop .inv .1 .0 .1 .1
 
 returns-2 : tie.Need-returns-2 Inv-loop μ-loop
-returns-2 c = over-spent _ _ _ _ _ _ _ (c .before .before .before .before .before .loop .inv .1 .0) _ _ (c .before .before .find2 .ensures) _ _ (c .before .before .before .before .before .loop .inv .0) (c .before .before .before .before .loop-test .left) (c .before .stopped-at2 .ensures) (c .fitting2 .ensures)
+returns-2 c = over-spent _ _ _ _ _ _ _ (c .before .before .before .before .loop .inv .1 .0) _ _ _ (c .before .before .before .before .loop .inv .0) (c .before .before .before .loop-test .left) (c .before .why-stopped .ensures) (c .fitting2 .ensures)
 
 pub through-spec : {M : Type 1} → statement M
 through-spec =
@@ -90,20 +78,16 @@ through-spec =
     last-fold-requires
     loop-holds
     skip-requires
-    find-requires
+    turn-requires
     stopped-at-requires
     fitting-requires
     same-length
     same-length-2
     returns
-    of-commit-requires
-    perform-requires
-    put-event-requires
     add-k
     loop-less
     loop-again
-    find-requires-2
-    stopped-at-requires-2
+    why-stopped-requires
     fitting-requires-2
     same-length-3
     same-length-4
