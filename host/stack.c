@@ -95,7 +95,7 @@ static uint64_t measured(function *called, const uint64_t *numbers, size_t hande
 
 enum name {
     FRESH, APPEND, ROLLBACK, START, STOP, CONNECT, DISCONNECT, MASTER, SYNC, WORK, FOLD, NIGHT, IMPORT,
-    WELL_FORMED, LIVE, VALUE, OWNER, TRANSACTION, RECORD, CONNECTION, WHY, NAMES
+    WELL_FORMED, LIVE, VALUE, OWNER, DRIFT, TRANSACTION, CLASS, TOOK, UNDONE, RECORD, CONNECTION, WHY, TALLY, NAMES
 };
 
 struct row {
@@ -130,10 +130,15 @@ static struct row rows[NAMES] = {
     [LIVE] = {"makowist_live", (function *)makowist_live, 4, FIRST | BIT(14), 0, 0, ""},
     [VALUE] = {"makowist_value", (function *)makowist_value, 4, FIRST | BIT(2), 0, 0, ""},
     [OWNER] = {"makowist_owner", (function *)makowist_owner, 3, FIRST | BIT(2), 0, 0, ""},
+    [DRIFT] = {"makowist_drift", (function *)makowist_drift, 2, FIRST, 0, 0, ""},
     [TRANSACTION] = {"makowist_transaction", (function *)makowist_transaction, 4, FIRST | BIT(2) | BIT(5) | BIT(18), 0, 0, ""},
+    [CLASS] = {"makowist_class", (function *)makowist_class, 3, FIRST | BIT(5) | BIT(18), 0, 0, ""},
+    [TOOK] = {"makowist_took", (function *)makowist_took, 3, FIRST | BIT(5) | BIT(18), 0, 0, ""},
+    [UNDONE] = {"makowist_undone", (function *)makowist_undone, 3, FIRST | BIT(5) | BIT(18), 0, 0, ""},
     [RECORD] = {"makowist_record", (function *)makowist_record, 3, FIRST | BIT(2), 0, 0, ""},
     [CONNECTION] = {"makowist_connection", (function *)makowist_connection, 4, FIRST | BIT(2), 0, 0, ""},
     [WHY] = {"makowist_why", (function *)makowist_why, 5, FIRST | BIT(2) | BIT(5) | BIT(18) | BIT(10) | BIT(15), 0, 0, ""},
+    [TALLY] = {"makowist_tally", (function *)makowist_tally, 5, FIRST | BIT(2), 0, 0, ""},
 };
 
 /* The ways in which accepted jobs ended, jobs 1 to 4 by the event's status and by the cut; the reasons; why nights stopped. */
@@ -198,10 +203,23 @@ static uint64_t record(const uint8_t *image, uint64_t field) { return makowist_r
 /* ---- Every call on one state. */
 
 static uint8_t room[ROOM], outcomes[MAKOWIST_OUTCOMES], events[MAKOWIST_BUDGET_LIMIT * MAKOWIST_EVENT_LENGTH];
+static uint8_t totals[MAKOWIST_TOTALS_LENGTH];
+
+/* A log at each place of a sheet, and beside them; totals of another length, and more than the logs before can have. */
+static void every_tally(const uint8_t *image) {
+    memset(totals, 0, sizeof totals);
+    for (uint64_t log = 0; log <= MAKOWIST_LOGS + 1; ++log)
+        CALL(TALLY, image, log, POINTER(totals), sizeof totals);
+    CALL(TALLY, image, 1, POINTER(totals), sizeof totals - 1);
+    totals[1] = 1;
+    CALL(TALLY, image, 1, POINTER(totals), sizeof totals);
+}
 
 static void every_read(const uint8_t *image) {
     uint64_t live = makowist_reply_value(CALL(LIVE, image, POINTER(room), sizeof room));
     CALL(WELL_FORMED, image, 0);
+    CALL(DRIFT, image, 0);
+    every_tally(image);
     CALL(LIVE, image, POINTER(room), 2 * live);
     CALL(LIVE, image, POINTER(room), live > 0 ? 2 * live - 1 : 0);
     for (uint64_t path = 0; path <= MAKOWIST_PATHS; ++path) {
@@ -231,6 +249,9 @@ static void every_number(const uint8_t *image, uint64_t node, uint64_t number) {
     TRIED(FOLD, image, number);
     for (uint64_t field = 0; field <= MAKOWIST_TRANSACTION_R_VALUE + 4; ++field)
         CALL(TRANSACTION, image, number, field);
+    CALL(CLASS, image, number);
+    CALL(TOOK, image, number);
+    CALL(UNDONE, image, number);
 }
 
 static void every_append(const uint8_t *image) {
@@ -293,6 +314,8 @@ static void no_image(const uint8_t *image) {
         if (which != FRESH && which != IMPORT)
             call(which, (const uint64_t[MOST_NUMBERS]){POINTER(nonsense), LENGTH, 0, 0, 0, 0, 0, 0});
     }
+    memset(totals, 0, sizeof totals);
+    CALL(TALLY, nonsense, 1, POINTER(totals), sizeof totals);
 }
 
 /* ---- Logs that are led by calls. */

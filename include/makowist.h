@@ -17,7 +17,7 @@
  *
  * Refusals. No call has a precondition beyond the lent memory: whatever the numbers and the bytes, it is accepted or
  * refused. A number is taken in all its 64 bits: one that is too great is refused, and never cut to a smaller one (node, job,
- * outcome, cut, budget, table, path, field and remembers as MAKOWIST_OUT_OF_RANGE, a transaction's number as
+ * outcome, cut, budget, table, path, field, remembers and log as MAKOWIST_OUT_OF_RANGE, a transaction's number as
  * MAKOWIST_NO_SUCH_NUMBER). A refused call answers the number of the refusal, gives no event, and leaves every byte as it was. Where
  * several refusals hold, the answer is the first in the order named at the function. */
 
@@ -76,7 +76,7 @@
  * night of all their jobs does, with the same table: its places are those of the kept transactions, and a night folds none.
  * A push is best a slice by itself, the switch having taken it first: then what may have landed is a step from the kept image.
  * With the line open, 6 jobs for each kept transaction are enough in an image that began with makowist_fresh (the theorem
- * is night-enough).
+ * is night_enough).
  *
  * An import. A carrier whose switch was run by the earlier product begins with makowist_import in place of makowist_fresh: lend
  * the old list, MAKOWIST_ENTRY_LENGTH bytes an entry, oldest first (makowist_put_change and makowist_put_rollback write them;
@@ -91,6 +91,11 @@
  * that began with makowist_fresh holds of one that began so.
  * Refused, no byte was written, and makowist_reply_position says which entry is bad, from 1 on: mend that one in the list, and
  * import it anew; the entries behind it have not been judged. docs/IMPORT.md has what to do about each refusal.
+ *
+ * A handover sheet. makowist_tally makes one of up to MAKOWIST_LOGS images, each a log of its own: clear
+ * MAKOWIST_TOTALS_LENGTH bytes for the totals, and call it for the first image with log 1, for the next with log 2, and so
+ * on, with the same totals. A log that is refused adds nothing, and the next one has the next place all the same. Together
+ * the totals are the kept transactions of the logs that were not refused (the theorem is reported).
  *
  * After a crash. Keep an image whole before its answer is used: a call writes into the lent bytes where they lie, so keep
  * the old ones until the new ones are safe (examples/server.c). Lend the last image kept and go on as above: the try on a
@@ -121,7 +126,7 @@
  * stays so, and nothing is pushed twice. Of a push that was cut after the first of its three stores it is so with the line still
  * open, the same outcome and cut 0: there the first call is accepted and gives none, the second pushes the same values and gives
  * the event. Other nodes may connect and disconnect between the two, and then their connections are all that differs. (The
- * theorems are retry-harmless and, of every byte, retry-then and retry-at-once.)
+ * theorems are retry_harmless and, of every byte, retry_then and retry_at_once.)
  *
  * Not promised: anything once the node is not master any more (MAKOWIST_NOT_MASTER), or after other calls between the two; nor
  * that a job which was not cut may be called twice, and a host that keeps its images as above leaves none cut but by a cut that
@@ -133,7 +138,7 @@
  *
  * To build and link, on x86-64 (elsewhere with a cross compiler, x86_64-linux-gnu-gcc):
  *
- *     rt staticlib northbound
+ *     host/archive
  *     cc -std=c99 -Iinclude -c host.c
  *     cc -static -o host host.o target/staticlib/libnorthbound.a
  */
@@ -163,14 +168,17 @@ enum {
     MAKOWIST_OUTCOMES = 256,      /* bytes of a night's table */
     MAKOWIST_EVENT_LENGTH = 16,   /* bytes of a night's event */
     MAKOWIST_ENTRY_LENGTH = 20,   /* bytes of an entry of an old list */
-    MAKOWIST_ENTRY_LIMIT = 256    /* entries of an old list */
+    MAKOWIST_ENTRY_LIMIT = 256,   /* entries of an old list */
+    MAKOWIST_LOGS = 64,           /* logs of a handover sheet, from 1 */
+    MAKOWIST_TOTALS_LENGTH = 12   /* bytes of its totals */
 };
 
 /* What a call answers: accepted, or why it was refused. */
 enum {
     MAKOWIST_ACCEPTED = 0,
     MAKOWIST_NOT_WELL_FORMED = 1,   /* the lent bytes are no well-formed image */
-    MAKOWIST_OUT_OF_RANGE = 2,      /* node, job, outcome, cut, budget, table, path, field, a fresh switch's kind or a list's length */
+    MAKOWIST_OUT_OF_RANGE = 2,      /* node, job, outcome, cut, budget, table, path, field, a fresh switch's kind, a list's
+                                       length, a log's place or the totals lent with it */
     MAKOWIST_NOT_A_CHANGE = 3,      /* the pairs, of an append or of an old list's entry, are no valid change */
     MAKOWIST_LOG_FULL = 4,          /* append where 128 are kept; import: the 129th change */
     MAKOWIST_NO_SUCH_NUMBER = 5,    /* number 0 or past the log's end; to fold, one that is not kept */
@@ -235,6 +243,16 @@ enum {
     MAKOWIST_STOPPED_BUDGET_SPENT = 2 /* a job could still go */
 };
 
+/* The class of a transaction: by the first of these that fits, from the last to the first. */
+enum {
+    MAKOWIST_CLASS_OPEN = 1,    /* none of the others */
+    MAKOWIST_CLASS_STOPPED = 2, /* c.apply is Aborted or Failed */
+    MAKOWIST_CLASS_INVALID = 3, /* c.commit is Failed */
+    MAKOWIST_CLASS_TAKEN = 4,   /* c.apply is Complete */
+    MAKOWIST_CLASS_UNDOING = 5, /* r.commit is not None */
+    MAKOWIST_CLASS_UNDONE = 6   /* r.apply is Complete or Canceled */
+};
+
 /* The parts of an event that makowist_night wrote. */
 enum { MAKOWIST_EVENT_PHASE = 0, MAKOWIST_EVENT_STAGE = 1, MAKOWIST_EVENT_NUMBER = 2, MAKOWIST_EVENT_STATUS = 3 };
 
@@ -269,6 +287,11 @@ static inline const char *makowist_stopped_name(uint64_t stopped) {
     return stopped < sizeof names / sizeof *names ? names[stopped] : "?";
 }
 
+static inline const char *makowist_class_name(uint64_t kind) {
+    static const char *const names[] = {"?", "open", "stopped", "invalid", "taken", "undoing", "undone"};
+    return kind < sizeof names / sizeof *names ? names[kind] : "?";
+}
+
 /* ---- The reply of a call: answer + 2^8 phase + 2^16 stage + 2^24 status + 2^32 number.
  *
  * Phase, stage, status and number are those of the call's event, and 0 where it gives none; only an accepted job gives
@@ -296,6 +319,13 @@ static inline uint32_t makowist_reply_events(uint64_t reply) { return (uint32_t)
 /* The reply of makowist_import: answer + 2^32 position: that of the first bad entry, from 1 on; 0 where it is accepted, or where it
  * is refused for no entry. */
 static inline uint16_t makowist_reply_position(uint64_t reply) { return (uint16_t)(reply >> 32 & 0xffff); }
+
+/* The reply of makowist_tally: answer + 2^8 open + 2^16 stopped + 2^24 invalid + 2^32 taken + 2^40 undoing + 2^48 undone
+ * + 2^56 drift: of each class (MAKOWIST_CLASS_..) how many are kept, and how many paths differ; all 0 where it is refused. */
+static inline unsigned makowist_reply_count(uint64_t reply, unsigned kind) {
+    return kind < 1 || kind > 6 ? 0 : (unsigned)(reply >> 8 * kind & 0xff);
+}
+static inline unsigned makowist_reply_drift(uint64_t reply) { return (unsigned)(reply >> 56); }
 
 /* ---- Calls that change an image. All but makowist_fresh and makowist_import refuse MAKOWIST_NOT_WELL_FORMED first; these two
  * for the length alone. */
@@ -411,7 +441,7 @@ static inline void makowist_put_rollback(uint8_t *entry, uint64_t position) {
     entry[3] = (uint8_t)(kept >> 8 & 0xff);
 }
 
-/* ---- Reads. They change no byte of the image. All refuse MAKOWIST_NOT_WELL_FORMED first. */
+/* ---- Reads. They change no byte of the image. All but makowist_tally refuse MAKOWIST_NOT_WELL_FORMED first. */
 
 /* MAKOWIST_ACCEPTED where the bytes are a well-formed image, else MAKOWIST_NOT_WELL_FORMED. */
 uint64_t makowist_well_formed(const uint8_t *image, size_t length);
@@ -436,6 +466,10 @@ uint64_t makowist_value(const uint8_t *image, size_t length, uint64_t table, uin
  * the whole list and its pairs gives. Refuses MAKOWIST_OUT_OF_RANGE. */
 uint64_t makowist_owner(const uint8_t *image, size_t length, uint64_t path);
 
+/* The paths at which the committed and the applied values differ, as value: bit p is set where path p does. No other
+ * refusal. */
+uint64_t makowist_drift(const uint8_t *image, size_t length);
+
 /* A field of a transaction. Pair k, from 0, has path, value and r.value at the field named with + k; places past the
  * transaction's pairs carry nothing. Refuses MAKOWIST_OUT_OF_RANGE (the field), MAKOWIST_NO_SUCH_NUMBER,
  * MAKOWIST_FOLDED. */
@@ -454,6 +488,23 @@ enum {
     MAKOWIST_TRANSACTION_R_VALUE = 18   /* to 21 */
 };
 uint64_t makowist_transaction(const uint8_t *image, size_t length, uint64_t number, uint64_t field);
+
+/* The class of a transaction by its statuses, as a handover sheet counts it (MAKOWIST_CLASS_..). Refuses MAKOWIST_NO_SUCH_NUMBER,
+ * MAKOWIST_FOLDED. */
+uint64_t makowist_class(const uint8_t *image, size_t length, uint64_t number);
+
+/* Whether the switch took a change: 1 from the event Complete of its apply on, and for good; 0 before, and where there is none.
+ * The event comes with the push, the status behind it: cut there, a change that was taken is still MAKOWIST_CLASS_OPEN, until the
+ * job is called again (or MAKOWIST_CLASS_UNDOING, its rollback asked for). One that is MAKOWIST_CLASS_TAKEN was taken; one that is
+ * MAKOWIST_CLASS_STOPPED or MAKOWIST_CLASS_INVALID was not. All this in an image that began with makowist_fresh. Refuses
+ * MAKOWIST_NO_SUCH_NUMBER, MAKOWIST_FOLDED. */
+uint64_t makowist_took(const uint8_t *image, size_t length, uint64_t number);
+
+/* Whether it was undone on the switch: 1 from the event Complete of its rollback's apply on, else 0. Only a change that is
+ * MAKOWIST_CLASS_UNDONE, or MAKOWIST_CLASS_UNDOING where the store of the status was cut, has 1; one that is MAKOWIST_CLASS_UNDONE and
+ * has 0 was passed over, and not taken either. The rollback of a change that the switch rejected is pushed too: it was not taken, and
+ * has 1. Refuses MAKOWIST_NO_SUCH_NUMBER, MAKOWIST_FOLDED. */
+uint64_t makowist_undone(const uint8_t *image, size_t length, uint64_t number);
 
 /* A field of what the state has once. Refuses MAKOWIST_OUT_OF_RANGE. */
 enum {
@@ -487,6 +538,19 @@ uint64_t makowist_connection(const uint8_t *image, size_t length, uint64_t node,
  * about each. Refuses MAKOWIST_OUT_OF_RANGE, MAKOWIST_NO_SUCH_NUMBER, MAKOWIST_FOLDED, MAKOWIST_NOT_MASTER, as makowist_work, then
  * MAKOWIST_NOT_WAITING. */
 uint64_t makowist_why(const uint8_t *image, size_t length, uint64_t node, uint64_t job, uint64_t number);
+
+/* A log's line of a handover sheet, and its counts added to the totals: of each class how many transactions are kept, and
+ * how many paths differ (makowist_drift says which). log is the place of this log in the sheet, from 1 to MAKOWIST_LOGS.
+ * totals are MAKOWIST_TOTALS_LENGTH bytes, zeros before the first log: a number of two bytes, little-endian, for each class
+ * in order (makowist_total reads one).
+ * Refuses MAKOWIST_OUT_OF_RANGE first (log; the length of the totals; totals that together are more than the logs before
+ * this place can keep, MAKOWIST_LOG_LIMIT each), then MAKOWIST_NOT_WELL_FORMED; then every byte of the totals is what it was. */
+uint64_t makowist_tally(const uint8_t *image, size_t length, uint64_t log, uint8_t *totals, size_t totals_length);
+
+/* The total of a class that makowist_tally wrote. */
+static inline uint16_t makowist_total(const uint8_t *totals, unsigned kind) {
+    return (uint16_t)(kind < 1 || kind > 6 ? 0 : totals[2 * kind - 2] | totals[2 * kind - 1] << 8);
+}
 
 #ifdef __cplusplus
 }

@@ -11,7 +11,7 @@ WIDE, HIGH, GAP, ROW, MARGIN = 118, 34, 30, 84, 24
 def crates():
     """Each crate with those it names that are crates of this repository."""
     rows = [line.split("#")[0].split(":") for line in (ROOT / "crates.txt").read_text().splitlines()]
-    named = {row[0].strip(): row[1].split() for row in rows if len(row) == 2}
+    named = {row[0].split()[0]: row[1].split() for row in rows if len(row) == 2}
     return {crate: [other for other in others if other in named] for crate, others in named.items()}
 
 

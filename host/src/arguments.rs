@@ -3,6 +3,7 @@
 use crate::night::Night;
 use crate::northbound::Request;
 use crate::reads::Query;
+use crate::sheet::Tally;
 use crate::why::Question;
 
 /// What a number that is handed to a function means.
@@ -18,10 +19,11 @@ pub enum Argument {
     Field,
     Budget,
     Remembers,
+    Log,
 }
 
 impl Argument {
-    pub const ALL: [Argument; 10] = [
+    pub const ALL: [Argument; 11] = [
         Argument::Node,
         Argument::Job,
         Argument::Number,
@@ -32,6 +34,7 @@ impl Argument {
         Argument::Field,
         Argument::Budget,
         Argument::Remembers,
+        Argument::Log,
     ];
 }
 
@@ -66,6 +69,10 @@ impl Query {
             Query::Record { field } => vec![(Argument::Field, field)],
             Query::Connection { node, field } => vec![(Argument::Node, node), (Argument::Field, field)],
             Query::Owner { path } => vec![(Argument::Path, path)],
+            Query::Class { number } | Query::Took { number } | Query::Undone { number } => {
+                vec![(Argument::Number, number)]
+            }
+            Query::Drift => Vec::new(),
             Query::Why(Question { node, job, number }) => {
                 vec![(Argument::Node, node), (Argument::Job, job), (Argument::Number, number)]
             }
@@ -76,6 +83,12 @@ impl Query {
 impl Night {
     pub fn numbers(&mut self) -> Numbers<'_> {
         vec![(Argument::Node, &mut self.node), (Argument::Budget, &mut self.budget)]
+    }
+}
+
+impl Tally {
+    pub fn numbers(&mut self) -> Numbers<'_> {
+        vec![(Argument::Log, &mut self.log)]
     }
 }
 

@@ -1,6 +1,6 @@
 //! Wrong copies of one rule, to show that the comparison finds them. Only the comparison asks for one.
-//! Those of imports, of nights, of the order of refusals, of the calls from outside, of owners, of statuses in one number, of a
-//! push's stores and of reasons are in the modules below.
+//! Those of imports, of nights, of the order of refusals, of the calls from outside, of owners, of statuses in one number,
+//! of what is printed, of a push's stores, of the handover sheet and of reasons are in the modules below.
 
 pub mod import;
 pub mod night;
@@ -8,7 +8,9 @@ pub mod order;
 pub mod outside;
 pub mod owner;
 pub mod packed;
+pub mod print;
 pub mod push;
+pub mod sheet;
 pub mod why;
 
 use crate::arguments::{Argument, Numbers};
@@ -21,6 +23,7 @@ use crate::jobs::Rule;
 use crate::night::{Night, Passed};
 use crate::northbound::{self, act, Answer, Request, Served};
 use crate::reads::Query;
+use crate::sheet::{self as sheets, Tally};
 use self::import::Blunder;
 use self::night::Lapse;
 use order::{Call, Swapped};
@@ -28,6 +31,7 @@ use outside::Slip;
 use owner::Claim;
 use packed::Packing;
 use push::Split;
+use self::sheet::Miscount;
 use why::Guess;
 
 #[derive(Clone, Copy, PartialEq, Eq, Debug)]
@@ -115,6 +119,8 @@ pub enum Fault {
     Import(Blunder),
     /// A path has another owner (order 7).
     Owner(Claim),
+    /// A log is classed, counted or added to the totals otherwise (order 11).
+    Sheet(Miscount),
     /// Nothing is wrong. None of those that must be found: it shows that one which is not found is told.
     Harmless,
 }
@@ -145,6 +151,7 @@ impl Fault {
         all.extend(Lapse::all().into_iter().map(Fault::Night));
         all.extend(Blunder::all().into_iter().map(Fault::Import));
         all.extend(Claim::all().into_iter().map(Fault::Owner));
+        all.extend(Miscount::all().into_iter().map(Fault::Sheet));
         all
     }
 
@@ -246,6 +253,31 @@ impl Fault {
     /// Whether it is one of owners alone.
     pub fn is_of_owners(self) -> bool {
         matches!(self, Fault::Owner(_))
+    }
+
+    /// Whether it is one of the handover sheet alone.
+    pub fn is_of_sheets(self) -> bool {
+        match self {
+            Fault::Sheet(_) | Fault::Narrowed(Argument::Log, _) => true,
+            Fault::Swapped(call, ..) => matches!(call, Call::Class | Call::Took | Call::Undone | Call::Tally),
+            _ => false,
+        }
+    }
+
+    /// As `Tally::add`, packed, with this fault in it.
+    pub fn add(self, state: Option<&State>, asked: &mut Tally) -> u64 {
+        match self {
+            Fault::Sheet(miscount) => miscount.add(state, asked),
+            Fault::Narrowed(argument, bits) => {
+                let log = asked.log;
+                narrow(asked.numbers(), argument, bits);
+                let added = asked.add(state);
+                asked.log = log;
+                sheets::packed(added)
+            }
+            Fault::Swapped(Call::Tally, ..) if state.is_none() => Refusal::NotWellFormed.number().into(),
+            _ => sheets::packed(asked.add(state)),
+        }
     }
 
     /// As `image::decode`, with this fault in it.
@@ -393,6 +425,7 @@ impl Fault {
         match self {
             Fault::Swapped(call, first, then) => Swapped(call, first, then).read(state, bytes, query),
             Fault::Owner(claim) => claim.read(state, bytes, query),
+            Fault::Sheet(miscount) => miscount.read(state, bytes, query),
             Fault::Why(guess) => match (state, query) {
                 (Some(state), Query::Why(question)) => {
                     guess.why(state, question).map_or_else(|refusal| refusal.number().into(), |why| why.packed())

@@ -520,6 +520,10 @@ pub fn read(image: &[u8], query: Query) -> u64 {
         Query::Record { field } => record(image, field),
         Query::Connection { node, field } => connection(image, node, field),
         Query::Owner { path } => owner(image, path),
+        Query::Class { number } => class(image, number),
+        Query::Took { number } => landed(image, number, (weight::C_APPLY, entry::C_ORDINAL)),
+        Query::Undone { number } => landed(image, number, (weight::R_APPLY, entry::R_ORDINAL)),
+        Query::Drift => drift(image),
         Query::Why(Question { node, job, number }) => why(image, node, job, number),
     }
 }
@@ -562,6 +566,45 @@ pub fn owner(image: &[u8], path: u64) -> u64 {
     answered(image, |image, kept| {
         let owner = (path < 32).then(|| u16_at(image, at::OWNERS + 2 * path as usize)).ok_or(Refusal::OutOfRange)?;
         Ok(if owner <= kept.folded { 0 } else { owner.into() })
+    })
+}
+
+/// The class of a transaction, by its rule.
+#[inline(never)]
+pub fn class(image: &[u8], number: u64) -> u64 {
+    answered(image, |image, kept| {
+        let bytes = image::entry_at(image, kept.number(number)?);
+        let status = |weight: u16| status_at(bytes, weight);
+        let statuses = [weight::C_COMMIT, weight::C_APPLY, weight::R_COMMIT, weight::R_APPLY].map(status);
+        Ok(match statuses {
+            [.., COMPLETE | CANCELED] => 6,
+            [_, _, PENDING..=FAILED, _] => 5,
+            [_, COMPLETE, ..] => 4,
+            [FAILED, ..] => 3,
+            [_, ABORTED | FAILED, ..] => 2,
+            _ => 1,
+        })
+    })
+}
+
+/// Whether an apply, by its status and its ordinal, was told to be Complete.
+#[inline(never)]
+pub fn landed(image: &[u8], number: u64, (weight, ordinal): (u16, usize)) -> u64 {
+    answered(image, |image, kept| {
+        let bytes = image::entry_at(image, kept.number(number)?);
+        let made = || u32_at(bytes, ordinal) == u32_at(image, at::APPLIED + 6);
+        let status = status_at(bytes, weight);
+        Ok((status == COMPLETE || status == IN_PROGRESS && made()).into())
+    })
+}
+
+/// The paths whose committed and applied values differ, a bit each.
+#[inline(never)]
+pub fn drift(image: &[u8]) -> u64 {
+    answered(image, |image, _| {
+        let value = |table: usize, path: usize| u16_at(image, table + 2 * path);
+        let differs = |path: &usize| value(at::COMMITTED_VALUES, *path) != value(at::APPLIED_VALUES, *path);
+        Ok((0..32).filter(differs).fold(0, |mask, path| mask | 1 << path))
     })
 }
 

@@ -32,6 +32,11 @@ mod exported {
         pub fn makowist_record(image: *const u8, length: usize, field: u64) -> u64;
         pub fn makowist_connection(image: *const u8, length: usize, node: u64, field: u64) -> u64;
         pub fn makowist_owner(image: *const u8, length: usize, path: u64) -> u64;
+        pub fn makowist_class(image: *const u8, length: usize, number: u64) -> u64;
+        pub fn makowist_took(image: *const u8, length: usize, number: u64) -> u64;
+        pub fn makowist_undone(image: *const u8, length: usize, number: u64) -> u64;
+        pub fn makowist_drift(image: *const u8, length: usize) -> u64;
+        pub fn makowist_tally(image: *const u8, length: usize, log: u64, totals: *mut u8, totals_length: usize) -> u64;
         pub fn makowist_why(image: *const u8, length: usize, node: u64, job: u64, number: u64) -> u64;
         pub fn makowist_night(
             image: *mut u8,
@@ -113,7 +118,14 @@ pub fn well_formed(image: &[u8]) -> u64 {
     unsafe { exported::makowist_well_formed(image.as_ptr(), image.len()) }
 }
 
-/// Reads one number of a lent image, who set a path, or why a job does not move.
+/// Adds a lent image's row to lent totals, as the log of that place.
+#[inline]
+pub fn tally(image: &[u8], log: u64, totals: &mut [u8]) -> u64 {
+    // SAFETY: as in `serve`.
+    unsafe { exported::makowist_tally(image.as_ptr(), image.len(), log, totals.as_mut_ptr(), totals.len()) }
+}
+
+/// Reads one number of a lent image, who set a path, what the switch took, or why a job does not move.
 #[inline]
 pub fn read(image: &[u8], query: Query) -> u64 {
     let (bytes, length) = (image.as_ptr(), image.len());
@@ -125,6 +137,10 @@ pub fn read(image: &[u8], query: Query) -> u64 {
             Query::Record { field } => exported::makowist_record(bytes, length, field),
             Query::Connection { node, field } => exported::makowist_connection(bytes, length, node, field),
             Query::Owner { path } => exported::makowist_owner(bytes, length, path),
+            Query::Class { number } => exported::makowist_class(bytes, length, number),
+            Query::Took { number } => exported::makowist_took(bytes, length, number),
+            Query::Undone { number } => exported::makowist_undone(bytes, length, number),
+            Query::Drift => exported::makowist_drift(bytes, length),
             Query::Why(Question { node, job, number }) => exported::makowist_why(bytes, length, node, job, number),
         }
     }

@@ -1,5 +1,5 @@
-//! The C interface's reads over the independent controller: one number of the state at a time, who set a path, or why a job does
-//! not move.
+//! The C interface's reads over the independent controller: one number of the state at a time, who set a path, a
+//! transaction's class and what the switch took of it, where the values differ, or why a job does not move.
 
 use crate::controller::{Connection, Node, Progress, Refusal, State, Transaction, PATHS};
 use crate::image::{configuration_code, entry, entry_at, u16_at};
@@ -15,6 +15,10 @@ pub enum Query {
     Record { field: u64 },
     Connection { node: u64, field: u64 },
     Owner { path: u64 },
+    Class { number: u64 },
+    Took { number: u64 },
+    Undone { number: u64 },
+    Drift,
     Why(Question),
 }
 
@@ -70,6 +74,11 @@ impl Query {
         }
     }
 
+    /// The class of a transaction, whether the switch took it, and whether it was undone (order 11).
+    pub fn of_sheet(number: u64) -> [Query; 3] {
+        [Query::Class { number }, Query::Took { number }, Query::Undone { number }]
+    }
+
     /// Every query that is in range on the state's log, a few on what is folded, and one past each range.
     pub fn all(state: &State) -> Vec<Query> {
         let mut all = Vec::new();
@@ -84,6 +93,7 @@ impl Query {
             all.extend((0..=CONNECTION_FIELDS + 1).map(|field| Query::Connection { node, field }));
         }
         all.extend((0..=PATHS as u64).map(|path| Query::Owner { path }));
+        all.extend(numbers(state).flat_map(Query::of_sheet).chain([Query::Drift]));
         all.extend(questions(state).map(Query::Why));
         all
     }
@@ -119,6 +129,10 @@ impl Query {
                 if field == 1 { id } else { connected.into() }
             }
             Query::Owner { path } => state.owner(path)?.0.into(),
+            Query::Class { number } => state.class(number)?.number().into(),
+            Query::Took { number } => state.took(number)?.into(),
+            Query::Undone { number } => state.undone(number)?.into(),
+            Query::Drift => state.row().mask,
             Query::Why(question) => return state.why(question).map(Shown::Why),
         };
         Ok(Shown::Number(number))

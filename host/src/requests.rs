@@ -1,10 +1,12 @@
-//! Random calls: those that a host would make from a state, and any whatever; jobs to ask after, and nights.
+//! Random calls: those that a host would make from a state, and any whatever; jobs to ask after, nights, and logs to add
+//! to totals.
 
 use crate::arguments::{Numbers, Wide};
-use crate::controller::{Number, Ordinal, State, Status, Term};
+use crate::controller::{Number, Ordinal, State, Status, Term, LOG_LIMIT};
 use crate::night::{Night, BUDGET_LIMIT, OUTCOMES};
 use crate::northbound::{bytes_of, Request};
 use crate::random::Random;
+use crate::sheet::{Counts, Tally, LOGS, TOTALS};
 use crate::why::Question;
 
 /// A valid change on few paths, so that changes meet.
@@ -256,6 +258,44 @@ pub fn any_night(state: &State, random: &mut Random) -> Night {
         _ => {}
     }
     night
+}
+
+/// A log at a place of the sheet, mostly with totals that those before it can have; now and then past either end, of
+/// another length, or with more than they can have.
+pub fn any_tally(random: &mut Random) -> Tally {
+    let log = match random.below(8) {
+        0 => random.one_of(&[0, LOGS as u64 + 1, LOGS as u64 + 2, 255, 256, 257, 65_535]),
+        1 => 1,
+        2 => LOGS as u64,
+        _ => random.between(1, LOGS) as u64,
+    };
+    let limit = LOG_LIMIT * (log.clamp(1, LOGS as u64) as usize - 1);
+    let any = random.below(limit + 1);
+    let far = random.one_of(&[limit + LOG_LIMIT, 65_535, 65_536, 65_537]);
+    let together = random.one_of(&[0, limit, any, any, any, limit + 1, far]);
+    let mut tally = Tally { log, totals: vec![0; TOTALS] };
+    tally.store(&spread(together, random));
+    if random.once_in(12) {
+        tally.totals.resize(random.one_of(&[0, 1, 2, TOTALS - 1, TOTALS + 1, TOTALS + 2, 2 * TOTALS]), 0);
+    }
+    if random.once_in(12) {
+        widen(tally.numbers(), random);
+    }
+    tally
+}
+
+/// Six numbers that are so much together, or as much as they can be.
+fn spread(together: usize, random: &mut Random) -> Counts {
+    let mut left = together;
+    let mut counts = Counts::default();
+    let last = random.below(counts.len());
+    for place in (0..counts.len()).filter(|place| *place != last) {
+        let part = if random.once_in(3) { 0 } else { random.below(left + 1).min(65_535) };
+        counts[place] = part as u16;
+        left -= part;
+    }
+    counts[last] = left.min(65_535) as u16;
+    counts
 }
 
 /// Bytes for an append that are seldom a valid change.

@@ -1,4 +1,2 @@
 -- The laws of the lent connections: why its contracts and theorems hold. Assumes nothing.
 pub mod Laws
-pub mod Lent
-pub mod Eight

@@ -1,5 +1,7 @@
 // The nodes' connections, a lent table of exactly eight records: connect and disconnect change one of them, stop all of
 // them. Each is thin over covered functions on numbers; whoever has the table by value calls the functions at the end.
+#![tactic(auto)]
+
 ghost use Rattle.std.specs.Prelude.{◌≡◌, ◌<◌};
 ghost use Rattle.connections.specs.Table.{place_of, connect_by, disconnect_by, Connects, Disconnects, Stops};
 ghost use Rattle.connections.specs.Promises.{ConnectsOf, DisconnectsOf, StopsOf};
@@ -8,14 +10,14 @@ use kinds::Connection;
 use rules::Connected;
 
 // Where a node stands in the table, or the refusal.
-#[derive(Drop)]
+#[derive(Clone, Copy)]
 struct Place {
     answer: u8,
     at: usize,
 }
 
 // What connect and disconnect answer, and the table after them.
-#[derive(Drop)]
+#[derive(Clone, Copy)]
 pub struct Tabled {
     pub answer: u8,
     pub connections: [Connection; 8],

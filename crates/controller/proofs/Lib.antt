@@ -6,10 +6,11 @@ pub mod Answered
 pub mod Folded
 pub mod Freshened
 pub mod Walked
+pub mod Tallied
 pub mod Shows
 pub mod Explained
 pub mod Idle
 pub mod Turned
 pub mod Lent
 pub mod Entered
-pub mod Imported
+pub mod Importing

@@ -4,9 +4,11 @@ use mathlib.Core.Path.{◌≡◌, refl, ap, ap₂, sym, ◌∙◌}
 use mathlib.Core.Bool.{Bool, true, false, ◌&&◌, cond}
 use mathlib.Core.List.{List, [], ◌∷◌}
 use borrow.Author.Tests.{leb-true, ltb-true, le-leb, lt-leb, lt-ltb, le-ltb}
+use native.Mathlib.Omega.{arith}
 use lib.Dec.{leb, ltb}
-use lib.ListN.{get_or}
+use lib.ListN.{length, get_or}
 use Rattle.kinds.specs.declared.Transaction.{Transaction}
+use Rattle.kinds.specs.declared.Side.{Side}
 use Rattle.kinds.specs.declared.Head.{Head}
 use Rattle.kinds.specs.declared.Number.{Number}
 use Rattle.kinds.specs.declared.Connection.{Connection}
@@ -19,18 +21,22 @@ use Rattle.machine.specs.State.{State, entry_of, last, in_log, is_kept, is_node,
 use Rattle.machine.specs.Owner.{owner_of}
 use Rattle.machine.specs.Stores.{of_owners}
 use Rattle.machine.specs.Reads as reads
-use Rattle.machine.specs.Reads.{Query, of_table, of_entry, of_state, of_node, of_owner, Answer, shows, refuses, is_field, field_of, flag, entry_numbers, state_numbers, node_numbers, table_numbers, read}
-use Rattle.image.specs.Layout.{committed_at, applied_at, values_at}
+use Rattle.machine.specs.Class.{class_of}
+use Rattle.machine.specs.Taken.{landed, took, undid}
+use Rattle.machine.specs.Reads.{Query, of_table, of_entry, of_state, of_node, of_owner, of_class, of_took, of_undone, Answer, shows, refuses, is_field, field_of, flag, entry_numbers, state_numbers, node_numbers, table_numbers, shows_kept, read}
+use Rattle.image.specs.Layout.{committed_at, applied_at, values_at, image_length, place_of}
 use Rattle.image.specs.Records.{entry_at, last_of, folded_of, change_of, head_numbers, head_at, configuration_of, mastership_of, target_of, connections_of}
 use Rattle.image.specs.View.{table_of, net_of, view}
-use Rattle.image.specs.Formed.{formed}
+use Rattle.image.specs.Formed.{statuses_ok, formed}
 use Rattle.image.specs.Promises.{PlacesTable, LoadsValue}
 use Rattle.image.proofs.UpTo.{and_left, and_right}
 use Rattle.image.proofs.Tables.{table_shows}
+use Rattle.image.proofs.Scanned.{view_folded}
+use Rattle.staying.proofs.Same.{statuses}
 use Rattle.controller.specs.declared.reads.Read.{Read}
 use Rattle.controller.specs.Claims.{Entry}
-use Rattle.controller.specs.Reads.{given, unless, read_of, no_head, heads_if, heads_of, marks, net_numbers, four}
-use Rattle.controller.proofs.Decided.{entry_of_holds, last_is}
+use Rattle.controller.specs.Reads.{given, unless, read_of, number_answer, no_head, heads_if, heads_of, marks, net_numbers, four}
+use Rattle.controller.proofs.Decided.{entry_of_holds, entry_here, last_is}
 use Rattle.controller.proofs.Answered.{in_log_holds, is_kept_holds}
 
 -- ---- refusal 1, and what follows it
@@ -134,6 +140,130 @@ module _ (i f : ℕ) (k : Bool) (ek : k ≡ is_field 21 f) where
       entry_field_is g c e a ee ea =
           read_kept true (lt-ltb b i g)
           ∙ ap (λ (x : List ℕ). shows (get_or x (f - 1) 0)) (sym (ea ∙ ap entry_numbers (ee ∙ sym (entry_of_holds l i c.kept c.last))))
+
+-- ---- what became of a transaction
+module _ (l : List ℕ) (i : ℕ) where
+  pub number_unread : (b : Bool) → b ≡ formed l → b ≡ false → 1 ≡ number_answer l i
+  unfolding number_answer
+  number_unread b eb t = let z : formed l ≡ false = sym eb ∙ t in ap (λ (x : Bool). (unless x (shows_kept (view l) i 0)).answer) (sym z)
+
+  module _ (w : formed l ≡ true) (n : ℕ) (j : Bool) (en : n ≡ last_of l) (ej : j ≡ (leb 1 i && leb i n)) where
+    by_log : (y : Bool) → j ≡ y → number_answer l i ≡ (reads.unless 5 y (reads.unless 18 (is_kept (view l) i) (shows 0))).answer
+    unfolding number_answer
+    by_log y u =
+        ap₂ (λ (x c : Bool). (unless x (reads.unless 5 c (reads.unless 18 (is_kept (view l) i) (shows 0)))).answer) w (in_log_holds l w i n j en ej y u)
+
+    pub no_number : j ≡ false → 5 ≡ number_answer l i
+    no_number u = sym (by_log false u)
+
+    module _ (u : j ≡ true) (b : ℕ) (eb : b ≡ folded_of l) where
+      by_fold : (x : Bool) → ltb b i ≡ x → (reads.unless 18 x (shows 0)).answer ≡ number_answer l i
+      by_fold x e = sym (by_log true u ∙ ap (λ (y : Bool). (reads.unless 18 y (shows 0)).answer) (is_kept_holds l w i n j en ej u b eb x e))
+
+      pub folded_number : i ≤ b → 18 ≡ number_answer l i
+      folded_number g = by_fold false (le-ltb b i g)
+
+      pub kept_number : b < i → 0 ≡ number_answer l i
+      kept_number g = by_fold true (lt-ltb b i g)
+
+  module _ (a : ℕ) (ea : a ≡ number_answer l i) where
+    -- one that is not refused is an entry of the log
+    pub kept_entry : a ≡ 0 → Entry l i
+    unfolding number_answer
+    kept_entry z = by (formed l) refl (in_log (view l) i) refl (is_kept (view l) i) refl (sym z ∙ ea)
+      where
+        by : (f : Bool) → formed l ≡ f → (g : Bool) → in_log (view l) i ≡ g → (h : Bool) → is_kept (view l) i ≡ h
+            → 0 ≡ (unless f (reads.unless 5 g (reads.unless 18 h (shows 0)))).answer → Entry l i
+        by false ef g eg h eh e = absurd (omega arith)
+        by true ef false eg h eh e = absurd (omega arith)
+        by true ef true eg false eh e = absurd (omega arith)
+        by true ef true eg true eh e =
+            record {
+              formed = ef;
+              kept = omega (arith, view_folded l, ltb-true (view l).log.folded.0 i eh);
+              last = omega (arith, last_is l ef, leb-true i (last (view l).log) (and_right (leb 1 i) _ eg));
+            }
+
+    -- and what loading its class asks is so
+    pub class_here : a ≡ 0 → (1 ≤ i) × ((image_length ≤ length l) × (statuses_ok l (place_of i) ≡ true))
+    class_here z = let c = kept_entry z in let h = entry_here l i c in (h.0, (h.1, statuses l c.formed i c.kept c.last))
+
+    module _ (q : Query) (v : ℕ) (r : Read) (e : read (view l) q ≡ shows_kept (view l) i v) where
+      pub number_refused : (a ≡ 0 → ⊥) → r ≡ given (refuses a) → r ≡ read_of l q
+      unfolding read_of number_answer
+      number_refused n p = p ∙ by (formed l) (in_log (view l) i) (is_kept (view l) i) ea ∙ ap (λ (x : Answer). given (unless (formed l) x)) (sym e)
+        where
+          by : (f g h : Bool) → a ≡ (unless f (reads.unless 5 g (reads.unless 18 h (shows 0)))).answer
+              → given (refuses a) ≡ given (unless f (reads.unless 5 g (reads.unless 18 h (shows v))))
+          by false g h x = ap (λ (y : ℕ). given (refuses y)) x
+          by true false h x = ap (λ (y : ℕ). given (refuses y)) x
+          by true true false x = ap (λ (y : ℕ). given (refuses y)) x
+          by true true true x = absurd (n x)
+
+      pub number_shown : a ≡ 0 → (w : ℕ) → w ≡ v → r ≡ given (shows w) → r ≡ read_of l q
+      unfolding read_of number_answer
+      number_shown z w x p =
+          p ∙ ap (λ (y : ℕ). given (shows y)) x ∙ by (formed l) (in_log (view l) i) (is_kept (view l) i) (sym z ∙ ea)
+          ∙ ap (λ (y : Answer). given (unless (formed l) y)) (sym e)
+        where
+          by : (f g h : Bool) → 0 ≡ (unless f (reads.unless 5 g (reads.unless 18 h (shows 0)))).answer
+              → given (shows v) ≡ given (unless f (reads.unless 5 g (reads.unless 18 h (shows v))))
+          by false g h y = absurd (omega arith)
+          by true false h y = absurd (omega arith)
+          by true true false y = absurd (omega arith)
+          by true true true y = refl
+
+-- the three
+module _ (l : List ℕ) (i a : ℕ) (ea : a ≡ number_answer l i) (r : Read) where
+  reads_class : read (view l) (of_class i) ≡ shows_kept (view l) i (class_of (entry_of (view l).log i))
+  unfolding read
+  reads_class = refl
+
+  reads_took : read (view l) (of_took i) ≡ shows_kept (view l) i (flag (took (view l).log (view l).applied.head.ordinal.0 i))
+  unfolding read
+  reads_took = refl
+
+  reads_undone : read (view l) (of_undone i) ≡ shows_kept (view l) i (flag (undid (view l).log (view l).applied.head.ordinal.0 i))
+  unfolding read
+  reads_undone = refl
+
+  pub class_refused : (a ≡ 0 → ⊥) → r ≡ given (refuses a) → r ≡ read_of l (of_class i)
+  class_refused = number_refused l i a ea (of_class i) (class_of (entry_of (view l).log i)) r reads_class
+
+  pub took_refused : (a ≡ 0 → ⊥) → r ≡ given (refuses a) → r ≡ read_of l (of_took i)
+  took_refused = number_refused l i a ea (of_took i) (flag (took (view l).log (view l).applied.head.ordinal.0 i)) r reads_took
+
+  pub undone_refused : (a ≡ 0 → ⊥) → r ≡ given (refuses a) → r ≡ read_of l (of_undone i)
+  undone_refused = number_refused l i a ea (of_undone i) (flag (undid (view l).log (view l).applied.head.ordinal.0 i)) r reads_undone
+
+  module _ (z : a ≡ 0) where
+    here : entry_of (view l).log i ≡ entry_at l i
+    here = let c = kept_entry l i a ea z in entry_of_holds l i c.kept c.last
+
+    pub class_is : (x w : ℕ) → x ≡ class_of (entry_at l i) → w ≡ x → r ≡ given (shows w) → r ≡ read_of l (of_class i)
+    class_is x w e p =
+        number_shown l i a ea (of_class i) (class_of (entry_of (view l).log i)) r reads_class z w (p ∙ e ∙ ap class_of (sym here))
+
+    module _ (t : Transaction) (e : t ≡ entry_at l i) (w : ℕ) where
+      seen : t ≡ entry_of (view l).log i
+      seen = e ∙ sym here
+
+      pub took_is : w ≡ flag (landed t.change.apply (head_at l applied_at).ordinal.0 t.change.ordinal.0) → r ≡ given (shows w) → r ≡ read_of l (of_took i)
+      unfolding view
+      took_is p =
+          number_shown l i a ea (of_took i) (flag (took (view l).log (view l).applied.head.ordinal.0 i)) r reads_took z w
+          (p ∙ ap (λ (x : Transaction). flag (landed x.change.apply (head_at l applied_at).ordinal.0 x.change.ordinal.0)) seen)
+
+      pub undone_is : w ≡ flag (landed t.rollback.apply (head_at l applied_at).ordinal.0 t.rollback.ordinal.0) → r ≡ given (shows w) → r ≡ read_of l (of_undone i)
+      unfolding view
+      undone_is p =
+          number_shown l i a ea (of_undone i) (flag (undid (view l).log (view l).applied.head.ordinal.0 i)) r reads_undone z w
+          (p ∙ ap (λ (x : Transaction). flag (landed x.rollback.apply (head_at l applied_at).ordinal.0 x.rollback.ordinal.0)) seen)
+
+-- a side that has landed, by Applied's ordinal
+pub side_landed : (l : List ℕ) (h : Head) (x : Side) (b : Bool) (w : ℕ) → h ≡ head_at l applied_at → b ≡ landed x.apply h.ordinal.0 x.ordinal.0 → w ≡ flag b
+    → w ≡ flag (landed x.apply (head_at l applied_at).ordinal.0 x.ordinal.0)
+side_landed l h x b w eh eb ew = ew ∙ ap flag (eb ∙ ap (λ (y : Head). landed x.apply y.ordinal.0 x.ordinal.0) eh)
 
 -- ---- what the state has once
 pub net_numbers_holds : (l : List ℕ) (g : Configuration) (m : Mastership) (t : Target) (a x y z : ℕ) → g ≡ configuration_of l → m ≡ mastership_of l → t ≡ target_of l

@@ -4,6 +4,7 @@ pub mod Claims
 pub mod Bytes
 pub mod Fresh
 pub mod Live
+pub mod Tallies
 pub mod Reads
 pub mod Reasons
 pub mod Nights

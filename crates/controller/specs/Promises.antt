@@ -1,5 +1,5 @@
 -- No second outcome keeps what a public function of this crate promises: `Claims`, `Freshens` (in Fresh), `Lists` (in Live),
--- `Nights` (in Nights), `Imports` (in Imports), and here what the reads promise, and `why`. Assumes nothing.
+-- `Nights` (in Nights), `Imports` (in Imports), `Tallies` (in Tallies), and here what the reads promise, and `why`. Assumes nothing.
 use Rattle.std.specs.Prelude.{ℕ, ◌≡◌, List}
 use Rattle.kinds.specs.declared.Reply.{Reply}
 use Rattle.kinds.specs.Outcome.{one, both}
@@ -11,6 +11,7 @@ use Rattle.controller.specs.declared.reads.Heads.{Heads}
 use Rattle.controller.specs.declared.reasons.Why.{Why}
 use Rattle.controller.specs.declared.nights.Night.{Night}
 use Rattle.controller.specs.declared.imports.Imported.{Imported}
+use Rattle.controller.specs.declared.tallies.Tally.{Tally}
 use Rattle.controller.specs.Claims.{Claims}
 use Rattle.controller.specs.Fresh.{Freshens}
 use Rattle.controller.specs.Live.{Lists}
@@ -18,6 +19,7 @@ use Rattle.controller.specs.Reads.{read_of, heads_of}
 use Rattle.controller.specs.Reasons.{why_of}
 use Rattle.controller.specs.Nights.{Nights}
 use Rattle.controller.specs.Imports.{Imports}
+use Rattle.controller.specs.Tallies.{Tallies}
 
 -- ---- what changes lent bytes
 pub claims_only : (l : List ℕ) (c : Call) (r q : Reply) (m n : List ℕ) → Claims l c r m → Claims l c q n → (r ≡ q) × (m ≡ n)
@@ -35,6 +37,9 @@ nights_only l n b os room r q m m' x x' p u = (one p.0 u.0, one p.1 u.1, one p.2
 
 pub imports_only : (l b : List ℕ) (r q : Imported) (m n : List ℕ) → Imports l b r m → Imports l b q n → (r ≡ q) × (m ≡ n)
 imports_only l b r q m n = both
+
+pub tallies_only : (l : List ℕ) (k : ℕ) (m : List ℕ) (r q : Tally) (n n' : List ℕ) → Tallies l k m r n → Tallies l k m q n' → (r ≡ q) × (n ≡ n')
+tallies_only l k m r q n n' = both
 
 -- ---- reads
 abbrev pub Shows : List ℕ → Query → Read → Type 0

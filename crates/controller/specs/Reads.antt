@@ -4,7 +4,7 @@ use Rattle.kinds.specs.declared.Transaction.{Transaction}
 use Rattle.kinds.specs.declared.Head.{Head}
 use Rattle.kinds.specs.Statuses.{code_of, progress_code}
 use Rattle.machine.specs.State.{Net, State, fresh_part}
-use Rattle.machine.specs.Reads.{Query, Answer, refuses, flag, read}
+use Rattle.machine.specs.Reads.{Query, Answer, refuses, flag, shows_kept, read}
 use Rattle.image.specs.View.{view}
 use Rattle.image.specs.Formed.{formed}
 use Rattle.controller.specs.declared.reads.Read.{Read}
@@ -36,6 +36,10 @@ unfoldable pub heads_of : List ℕ → Heads
 heads_of l = heads_if (formed l) (view l)
 
 -- ---- as the code reads them
+-- what a read of a number is refused with, 0 where it is kept
+unfoldable pub number_answer : List ℕ → ℕ → ℕ
+number_answer l i = (unless (formed l) (shows_kept (view l) i 0)).answer
+
 -- the first nine numbers of a transaction
 abbrev pub marks : Transaction → List ℕ
 marks t =

@@ -128,6 +128,7 @@ pub fn job1(s: &[u8], number: u16, accepted: bool) -> Plan
     commit_change(t, h, change, quiet, Number::of(number), accepted, now)
 }
 
+#[inline(never)]
 fn job2(s: &[u8], node: u8, number: u16, accepted: bool) -> Plan
     requires { Entry s.now number × ((1 ≤ node) × (node ≤ 8)) }
     ensures { result ≡ job2 (view s.now) node number accepted }
@@ -152,6 +153,7 @@ pub fn job3(s: &[u8], number: u16) -> Plan
     commit_rollback(t, h, quiet, Number::of(number))
 }
 
+#[inline(never)]
 fn job4(s: &[u8], node: u8, number: u16, accepted: bool) -> Plan
     requires { Entry s.now number × ((1 ≤ node) × (node ≤ 8)) }
     ensures { result ≡ job4 (view s.now) node number accepted }

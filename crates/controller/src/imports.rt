@@ -24,7 +24,7 @@ use kinds::{Head, Number, Ordinal, Side, Status, Transaction};
 use rules::Present;
 
 // The refusal, and the place in the list of the first bad entry, from 1; 0 and 0 where it is accepted.
-#[derive(Drop)]
+#[derive(Clone, Copy)]
 pub struct Imported {
     pub answer: u8,
     pub position: u16,
@@ -39,7 +39,7 @@ impl Imported {
 }
 
 // One entry judged: the refusal or 0, the changes up to it, and how many of them are live.
-#[derive(Drop)]
+#[derive(Clone, Copy)]
 struct Judged {
     answer: u8,
     changes: u16,
@@ -118,6 +118,7 @@ fn judge_entry(list: &[u8], at: usize, changes: u16, depth: usize, top: u16) -> 
 }
 
 // The whole list: nothing is written. The places of the live changes are kept from 1 upward, the newest at `depth`.
+#[inline(never)]
 fn judge(list: &[u8]) -> Imported
     requires { Listed list.now }
     ensures { Judges list.now result }
@@ -300,6 +301,7 @@ fn enter(s: &mut [u8], list: &[u8], at: usize)
 }
 
 // All of them, of a list that is accepted: each leaves at once what its calls would leave.
+#[inline(never)]
 fn make(s: &mut [u8], list: &[u8])
     requires { (length s.old ≡ image_length) × Accepts list.now }
     ensures { s.new ≡ lent_from (fresh_image false) (import_calls (entries_of list.now)) }

@@ -1,5 +1,7 @@
 // The controller: every call of the paper on one lent image. A public call has no `requires`: it refuses by number, and
 // then every byte is what it had been.
+#![tactic(auto)]
+
 ghost use Rattle.std.specs.Prelude.{◌≡◌, true};
 ghost use Rattle.machine.specs.Calls.{rollback, start, stop, connect, disconnect, master, sync, work, fold_to};
 ghost use Rattle.image.specs.Formed.{formed};
@@ -8,6 +10,7 @@ ghost use Rattle.controller.specs.Bytes.{append_of};
 ghost use Rattle.controller.specs.Promises.{Explains};
 ghost use Rattle.controller.specs.Nights.{Nights};
 ghost use Rattle.controller.specs.Imports.{Imports};
+ghost use Rattle.controller.specs.Tallies.{Tallies};
 
 use image::well_formed;
 use kinds::Reply;
@@ -19,6 +22,7 @@ mod calls; // calls.rt: each call on a well-formed image
 mod folding; // folding.rt: the front of the log folded away
 mod clearing; // clearing.rt: a fresh image
 mod walking; // walking.rt: the live list
+mod tallies; // tallies.rt: a log's line of the handover sheet
 mod reads; // reads.rt: one number of the state at a time
 mod reasons; // reasons.rt: why a job answers 11
 mod nights; // nights.rt: work by itself through the night
@@ -28,8 +32,12 @@ pub use clearing::fresh;
 pub use image::IMAGE_LENGTH;
 pub use imports::Imported;
 pub use nights::Night;
-pub use reads::{Heads, Read, both_heads, connection, owner, record, transaction, value};
+pub use reads::{
+    Heads, Read, both_heads, class, connection, drift, owner, record, took, transaction, undone,
+    value,
+};
 pub use reasons::Why;
+pub use tallies::Tally;
 pub use walking::{Listed, live};
 
 // Takes a change into the log: its pairs, four bytes each.
@@ -174,5 +182,23 @@ pub fn import(s: &mut [u8], list: &[u8]) -> Imported
     Imported {
         answer: 1,
         position: 0,
+    }
+}
+
+// A log's line of the handover sheet, by its place there (1 to 64), and its counts added to the totals that are lent: 12 bytes, six
+// numbers of two bytes each, the low one first. Refuses 2 for a place that is none, and for totals that no logs before it can
+// have; then 1. Refused, every byte of the totals is what it had been.
+pub fn tally(s: &[u8], log: u16, totals: &mut [u8]) -> Tally
+    ensures { Tallies s.now log totals.old result totals.new }
+{
+    if tallies::lent_ok(log, totals) {
+        return tallies::report(s, totals);
+    }
+    let counts = [0u8, 0, 0, 0, 0, 0];
+    Tally {
+        answer: 2,
+        counts,
+        mask: 0,
+        drift: 0,
     }
 }

@@ -23,7 +23,7 @@ use rules::{
 
 // The refusal, or 0 with the jobs done and why it stopped: 0 every job is refused and none with 12, 1 some with 12, 2 the
 // budget is spent and a job could still go. And how many of the turns' events are in the room.
-#[derive(Drop)]
+#[derive(Clone, Copy)]
 pub struct Night {
     pub answer: u8,
     pub jobs: u16,
@@ -45,7 +45,7 @@ impl Night {
 }
 
 // What a turn's rules read beside the entry, loaded once a turn.
-#[derive(Drop)]
+#[derive(Clone, Copy)]
 struct Scene {
     committed: Head,
     change: Number,
@@ -55,14 +55,14 @@ struct Scene {
 }
 
 // The first job of an entry that is not refused, or 0; where it is 0, whether one is refused with 12.
-#[derive(Drop)]
+#[derive(Clone, Copy)]
 struct Tried {
     job: u16,
     lacks: bool,
 }
 
 // The same of a turn, with the job's number and plan.
-#[derive(Drop)]
+#[derive(Clone, Copy)]
 struct Found {
     job: u16,
     number: u16,
@@ -237,6 +237,7 @@ fn skip(s: &[u8], from: u16) -> u16
 }
 
 // The four jobs of entry t, numbered i: what the validation and the push of the change would answer is handed in.
+#[inline(always)]
 fn try_jobs(t: Transaction, i: Number, x: Scene, settled: bool, valid: bool, taken: bool) -> Tried
     ensures { result ≡ tries t i x settled valid taken }
 {

@@ -159,7 +159,7 @@ fn entry_row(s: &mut [u8], i: u16, p: Plan)
 
 // Which of a plan's stores come, at the places that they have in any order: the target's values, the entry before the head,
 // the head, the entry after it.
-#[derive(Drop)]
+#[derive(Clone, Copy)]
 struct Comes {
     target: bool,
     before: bool,

@@ -1,24 +1,26 @@
 // The reads: one number of the state at a time. None changes a byte.
 ghost use Rattle.std.specs.Prelude.{◌≡◌, true, ◌&&◌, ◌<◌, ◌≤◌, ltb, length};
 ghost use Rattle.machine.specs.State.{is_node};
-ghost use Rattle.machine.specs.Reads.{Query, of_table, of_entry, of_state, of_node, of_owner, shows, refuses, is_field, flag, entry_numbers, state_numbers, node_numbers};
-ghost use Rattle.image.specs.Layout.{image_length};
-ghost use Rattle.image.specs.Records.{head_numbers};
+ghost use Rattle.machine.specs.Taken.{landed};
+ghost use Rattle.machine.specs.Reads.{Query, of_table, of_entry, of_state, of_node, of_owner, of_class, of_took, of_undone, of_drift, shows, refuses, is_field, flag, entry_numbers, state_numbers, node_numbers};
+ghost use Rattle.image.specs.Layout.{image_length, applied_at};
+ghost use Rattle.image.specs.Records.{head_numbers, head_at};
 ghost use Rattle.image.specs.View.{view, net_of};
 ghost use Rattle.image.specs.Formed.{formed};
-ghost use Rattle.controller.specs.Reads.{given, no_head, marks, net_numbers, four};
+ghost use Rattle.controller.specs.Reads.{given, number_answer, no_head, marks, net_numbers, four};
 ghost use Rattle.controller.specs.Promises.{Shows, ShowsHeads};
 
 use crate::calls::{in_log, is_node};
+use crate::tallies::mask_of;
 use image::{
-    APPLIED_AT, COMMITTED_AT, OWNERS_AT, last_fold, last_number, load_change, load_configuration,
-    load_connection, load_entry, load_head, load_mastership, load_target, load_value, table_place,
-    well_formed,
+    APPLIED_AT, COMMITTED_AT, OWNERS_AT, landed, last_fold, last_number, load_change, load_class,
+    load_configuration, load_connection, load_entry, load_head, load_mastership, load_target,
+    load_value, table_place, well_formed,
 };
-use kinds::{Connection, Head, Number, Ordinal, Transaction};
+use kinds::{Connection, Head, Number, Ordinal, Side, Transaction};
 
 // The refusal, or 0 and the number read.
-#[derive(Drop)]
+#[derive(Clone, Copy)]
 pub struct Read {
     pub answer: u8,
     pub value: u32,
@@ -39,7 +41,7 @@ impl Read {
 }
 
 // Committed's and Applied's head.
-#[derive(Drop)]
+#[derive(Clone, Copy)]
 pub struct Heads {
     pub committed: Head,
     pub applied: Head,
@@ -110,6 +112,17 @@ pub fn owner(s: &[u8], path: u16) -> Read
             return Read::shows(0);
         }
         return Read::refuses(2);
+    }
+    Read::refuses(1)
+}
+
+// The paths at which the committed and the applied values differ, as a mask: bit p for path p. Refuses 1.
+pub fn drift(s: &[u8]) -> Read
+    ensures { Shows s.now of_drift result }
+{
+    if well_formed(s) {
+        let m = mask_of(s);
+        return Read::shows(m);
     }
     Read::refuses(1)
 }
@@ -198,6 +211,76 @@ pub fn transaction(s: &[u8], number: u16, field: u16) -> Read
         return Read::refuses(2);
     }
     Read::refuses(1)
+}
+
+// ---- what became of a transaction
+
+// What a read of a number is refused with: 1, 5, 18; 0 where it is kept.
+fn number_answer(s: &[u8], number: u16) -> u8
+    ensures { result ≡ number_answer s.now number }
+{
+    if well_formed(s) {
+        let n = last_number(s);
+        if in_log(number, n) {
+            let b = last_fold(s);
+            if b < number {
+                return 0;
+            }
+            return 18;
+        }
+        return 5;
+    }
+    1
+}
+
+// The class of a transaction, as the handover sheet counts it: 1 open, 2 stopped, 3 invalid, 4 taken, 5 being undone, 6 undone.
+// Refuses 1, 5, 18.
+pub fn class(s: &[u8], number: u16) -> Read
+    ensures { Shows s.now (of_class number) result }
+{
+    let a = number_answer(s, number);
+    if a == 0 {
+        let c = load_class(s, number);
+        return Read::shows(wide8(c));
+    }
+    Read::refuses(a)
+}
+
+fn side_landed(s: &[u8], x: Side) -> u32
+    requires { image_length ≤ length s.now }
+    ensures { result ≡ flag (landed x.apply (head_at s.now applied_at).ordinal.0 x.ordinal.0) }
+{
+    let h = load_head(s, APPLIED_AT);
+    let apply = x.apply;
+    let applied = h.ordinal;
+    let ordinal = x.ordinal;
+    flag(landed(apply, applied, ordinal))
+}
+
+// Whether the switch took a change: 1 from the event Complete of its apply on, else 0. Refuses 1, 5, 18.
+pub fn took(s: &[u8], number: u16) -> Read
+    ensures { Shows s.now (of_took number) result }
+{
+    let a = number_answer(s, number);
+    if a == 0 {
+        let t = load_entry(s, number);
+        let x = t.change;
+        return Read::shows(side_landed(s, x));
+    }
+    Read::refuses(a)
+}
+
+// Whether a change was undone on the switch: 1 from the event Complete of its rollback's apply on, else 0. Refuses 1, 5, 18.
+pub fn undone(s: &[u8], number: u16) -> Read
+    ensures { Shows s.now (of_undone number) result }
+{
+    let a = number_answer(s, number);
+    if a == 0 {
+        let t = load_entry(s, number);
+        let x = t.rollback;
+        return Read::shows(side_landed(s, x));
+    }
+    Read::refuses(a)
 }
 
 // ---- what the state has once

@@ -20,7 +20,7 @@ use kinds::{Head, Number, Ordinal, Side, Status, Transaction};
 use rules::{apply_change, apply_rollback};
 
 // The refusal, or 0 with a reason, 1 to 8, and the number or the ordinal that it names, 0 where it names none.
-#[derive(Drop)]
+#[derive(Clone, Copy)]
 pub struct Why {
     pub answer: u8,
     pub reason: u8,

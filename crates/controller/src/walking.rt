@@ -10,7 +10,7 @@ ghost use Rattle.controller.specs.Live.{listing, Lists, ListsLive, Chained, Link
 use image::{COMMITTED_AT, RING, last_fold, load_entry, load_head, well_formed};
 
 // The refusal, or 0, and the length of the list.
-#[derive(Drop)]
+#[derive(Clone, Copy)]
 pub struct Listed {
     pub answer: u8,
     pub length: u16,

@@ -1,4 +1,6 @@
 // Numbers of one, two and four bytes, little-endian, in a lent slice of bytes.
+#![tactic(auto)]
+
 ghost use Rattle.std.specs.Prelude.{◌≡◌, ◌+◌, ◌≤◌, ◌<◌, length};
 ghost use Rattle.fields.specs.Field.{ones, twos};
 ghost use Rattle.fields.specs.Promises.{Gets, GetsFour, Puts, PutsFour};

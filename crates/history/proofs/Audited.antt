@@ -25,11 +25,14 @@ use Rattle.rules.specs.CommitRollback as job3
 use Rattle.rules.specs.ApplyChange as job2
 use Rattle.rules.specs.ApplyRollback as job4
 use Rattle.rules.specs.ApplyRollback.{is_aborted}
-use Rattle.machine.specs.State.{State, entry_of, last, line_open_for}
+use Rattle.machine.specs.State.{State, Log, entry_of, last, line_open_for}
 use Rattle.machine.specs.Settled.{settled}
 use Rattle.machine.specs.Calls.{Call}
 use Rattle.machine.specs.Rest.{rest_of}
 use Rattle.machine.specs.Step.{run}
+use Rattle.machine.specs.Why.{is}
+use Rattle.machine.specs.Class.{class_by, class_of}
+use Rattle.machine.specs.Taken as taken
 use Rattle.history.specs.Demand3.{completed, live, kept}
 use Rattle.history.specs.Ops.{ops_of, told_change, told_rollback, first, crash}
 use Rattle.history.specs.Invariant.{is_going, complete, Paired, Sides}
@@ -42,7 +45,7 @@ use Rattle.history.proofs.Reached.{Reached, folded}
 use Rattle.history.proofs.ByNumber.{list_same}
 use Rattle.history.specs.Marks.{is_canceled, never_begun, Mark}
 use Rattle.history.proofs.Marked.{Marked, marked}
-use Rattle.history.specs.Audit.{closes1, closes2, closes3, closes4, Shown, landed, took, undid, holds, Audited}
+use Rattle.history.specs.Audit.{closes1, closes2, closes3, closes4, closing2, closing4, Shown, Audited, Classed, landed, took, undid, holds}
 
 landed_complete : (c : Status) (a o : ℕ) → complete c a o ≡ landed c a o
 landed_complete None a o = refl
@@ -52,6 +55,25 @@ landed_complete Complete a o = refl
 landed_complete Aborted a o = refl
 landed_complete Canceled a o = refl
 landed_complete Failed a o = refl
+
+-- what the reads answer (machine's Taken) is the same
+landed_same : (c : Status) (a o : ℕ) → taken.landed c a o ≡ landed c a o
+landed_same None a o = refl
+landed_same Pending a o = refl
+landed_same InProgress a o = refl
+landed_same Complete a o = refl
+landed_same Aborted a o = refl
+landed_same Canceled a o = refl
+landed_same Failed a o = refl
+
+pub took_same : (l : Log) (a k : ℕ) → taken.took l a k ≡ took l a k
+took_same l a k = landed_same (entry_of l k).change.apply a (entry_of l k).change.ordinal.0
+
+pub undid_same : (l : Log) (a k : ℕ) → taken.undid l a k ≡ undid l a k
+undid_same l a k = landed_same (entry_of l k).rollback.apply a (entry_of l k).rollback.ordinal.0
+
+pub holds_same : (s : State) (k : ℕ) → taken.holds s k ≡ holds s k
+holds_same s k = ap₂ (λ x y. x && not y) (took_same s.log s.applied.head.ordinal.0 k) (undid_same s.log s.applied.head.ordinal.0 k)
 
 no_close2 : (b : Bool) (x y : ApplyChangeRule) → closes2 x ≡ false → closes2 y ≡ false → closes2 (cond b x y) ≡ false
 no_close2 true x y e f = e
@@ -176,6 +198,68 @@ close4 Failed a o m t e f h = sym (no_close4 t.committed return.Wait return.Wait
 none_landed : (c : Status) (a o : ℕ) → is_complete c ≡ false → is_going c ≡ false → complete c a o ≡ false
 none_landed c a o e f = rw (e, f) refl
 
+-- ---- a class, by what its rule looks at
+by_class : (P : ℕ → Type 0) (p q r u v : Bool) → (p ≡ true → P 6) → (p ≡ false → q ≡ false → P 5) → (q ≡ true → r ≡ true → P 4)
+    → (q ≡ true → r ≡ false → u ≡ true → P 3) → (q ≡ true → r ≡ false → v ≡ true → P 2) → (q ≡ true → r ≡ false → P 1)
+    → P (cond p 6 (cond (not q) 5 (cond r 4 (cond u 3 (cond v 2 1)))))
+by_class P true q r u v a b c d e f = a refl
+by_class P false false r u v a b c d e f = b refl refl
+by_class P false true true u v a b c d e f = c refl refl
+by_class P false true false true v a b c d e f = d refl refl refl
+by_class P false true false false true a b c d e f = e refl refl refl
+by_class P false true false false false a b c d e f = f refl refl
+
+is_complete_holds : (x : Status) → is x Complete ≡ is_complete x
+is_complete_holds None = refl
+is_complete_holds Pending = refl
+is_complete_holds InProgress = refl
+is_complete_holds Complete = refl
+is_complete_holds Aborted = refl
+is_complete_holds Canceled = refl
+is_complete_holds Failed = refl
+
+-- what is stopped, invalid, or not asked to be undone has no push made
+none_stopped : (x : Status) (a o : ℕ) → (is x Aborted || is x Failed) ≡ true → complete x a o ≡ false
+none_stopped None a o e = crash e
+none_stopped Pending a o e = crash e
+none_stopped InProgress a o e = crash e
+none_stopped Complete a o e = crash e
+none_stopped Aborted a o e = refl
+none_stopped Canceled a o e = crash e
+none_stopped Failed a o e = refl
+
+none_invalid : (c x : Status) (a o : ℕ) → Paired c x o → is c Failed ≡ true → complete x a o ≡ false
+none_invalid None x a o p e = crash e
+none_invalid Pending x a o p e = crash e
+none_invalid InProgress x a o p e = crash e
+none_invalid Complete x a o p e = crash e
+none_invalid Aborted x a o p e = crash e
+none_invalid Canceled x a o p e = crash e
+none_invalid Failed x a o p e = ap (λ y. complete y a o) p.0
+
+none_asked : (c x : Status) (a o : ℕ) → Paired c x o → is c None ≡ true → complete x a o ≡ false
+none_asked None x a o p e = ap (λ y. complete y a o) p.0
+none_asked Pending x a o p e = crash e
+none_asked InProgress x a o p e = crash e
+none_asked Complete x a o p e = crash e
+none_asked Aborted x a o p e = crash e
+none_asked Canceled x a o p e = crash e
+none_asked Failed x a o p e = crash e
+
+-- a rollback that ended was pushed, or was spared with its change
+none_left : (x y : Status) (a o u : ℕ) → (y ≡ Canceled → x ≡ Aborted) → (is y Complete || is y Canceled) ≡ true → (complete x a o && not (complete y a u)) ≡ false
+none_left x None a o u h e = crash e
+none_left x Pending a o u h e = crash e
+none_left x InProgress a o u h e = crash e
+none_left x Complete a o u h e = and_none (complete x a o)
+  where
+    and_none : (b : Bool) → (b && false) ≡ false
+    and_none true = refl
+    and_none false = refl
+none_left x Aborted a o u h e = crash e
+none_left x Canceled a o u h e = ap (λ z. complete z a o && true) (h refl)
+none_left x Failed a o u h e = crash e
+
 -- ---- the whole s, its first b folded away
 module _ (s : State) (es : List Event) (r : Reached s es) (marks : Marked s.log s.applied.head es) (b : ℕ) (vs : List ℕ) (f : Front s.log b vs) where
   -- what is known of entry k
@@ -187,6 +271,7 @@ module _ (s : State) (es : List Event) (r : Reached s es) (marks : Marked s.log 
     sides : Sides t
     mark : Mark s.applied.head.ordinal.0 s.applied.head.target.0 (first (ops_of Complete 1 es) s.applied.head.ordinal.0) es k t
     back : t.rollback.commit ≡ InProgress → s.committed.head.revision.0 ≡ k → t.index.0 < k
+    spared : t.rollback.apply ≡ Canceled → t.change.apply ≡ Aborted
 
   known : (k : ℕ) → Known k (entry_of s.log k)
   known k =
@@ -198,6 +283,7 @@ module _ (s : State) (es : List Event) (r : Reached s es) (marks : Marked s.log 
         sides = r.inv.sides k;
         mark = marks k;
         back = λ e x. tip_back r.inv.committed k (sym x) (omega (arith, some_back s.log k (ap is_going e)));
+        spared = (r.inv.applied.entries k).spared;
       }
 
   abbrev kn : State
@@ -260,6 +346,97 @@ module _ (s : State) (es : List Event) (r : Reached s es) (marks : Marked s.log 
         never_taken = λ e. let y = failed (en k).change.apply e in x.did2 ∙ none_landed (en k).change.apply s.applied.head.ordinal.0 (en k).change.ordinal.0 y.0 y.1;
       }
 
+  -- ---- what a class tells, class by class
+  module _ (k : ℕ) (p : b < k) where
+    abbrev a : ℕ
+    a = s.applied.head.ordinal.0
+
+    abbrev Tells : ℕ → Type 0
+    Tells c = Classed kn es k c
+
+    -- not asked to be undone
+    stays : is (en k).rollback.commit None ≡ true → completed es 2 2 k ≡ false
+    stays q = let x = seen k p in x.undid2 ∙ none_asked (en k).rollback.commit (en k).rollback.apply a (en k).rollback.ordinal.0 x.sides.rollback q
+
+    open_1 : is (en k).rollback.commit None ≡ true → is (en k).change.apply Complete ≡ false → Tells 1
+    open_1 q r =
+        record {
+          known = (omega arith, omega arith);
+          still_open = λ e n ok. (shows k p).applied n ok ∙ ap (λ z. z || closing2 kn k n ok) (sym (is_complete_holds (en k).change.apply) ∙ r);
+          never = λ e f. absurd (omega arith);
+          taken = λ e. absurd (omega arith);
+          stays = λ e. stays q;
+          undoing = λ e. absurd (omega arith);
+          undone = λ e. absurd (omega arith);
+        }
+
+    never_2 : (c : ℕ) → 2 ≤ c → c ≤ 3 → is (en k).rollback.commit None ≡ true → completed es 1 2 k ≡ false → Tells c
+    never_2 c l h q r =
+        record {
+          known = (omega arith, omega arith);
+          still_open = λ e. absurd (omega arith);
+          never = λ e f. r;
+          taken = λ e. absurd (omega arith);
+          stays = λ e. stays q;
+          undoing = λ e. absurd (omega arith);
+          undone = λ e. absurd (omega arith);
+        }
+
+    taken_4 : is (en k).rollback.commit None ≡ true → is (en k).change.apply Complete ≡ true → Tells 4
+    taken_4 q r =
+        record {
+          known = (omega arith, omega arith);
+          still_open = λ e. absurd (omega arith);
+          never = λ e f. absurd (omega arith);
+          taken = λ e. (shows k p).applied 0 true ∙ ap (λ z. z || closing2 kn k 0 true) (sym (is_complete_holds (en k).change.apply) ∙ r);
+          stays = λ e. stays q;
+          undoing = λ e. absurd (omega arith);
+          undone = λ e. absurd (omega arith);
+        }
+
+    undoing_5 : (is (en k).rollback.apply Complete || is (en k).rollback.apply Canceled) ≡ false → Tells 5
+    undoing_5 q =
+        record {
+          known = (omega arith, omega arith);
+          still_open = λ e. absurd (omega arith);
+          never = λ e f. absurd (omega arith);
+          taken = λ e. absurd (omega arith);
+          stays = λ e. absurd (omega arith);
+          undoing = λ e n ok. (shows k p).returned n ok
+              ∙ ap (λ z. z || closing4 kn k n ok) (sym (is_complete_holds (en k).rollback.apply) ∙ first_false (is (en k).rollback.apply Complete) (is (en k).rollback.apply Canceled) q);
+          undone = λ e. absurd (omega arith);
+        }
+      where
+        first_false : (x y : Bool) → (x || y) ≡ false → x ≡ false
+        first_false true y e = e
+        first_false false y e = refl
+
+    undone_6 : (is (en k).rollback.apply Complete || is (en k).rollback.apply Canceled) ≡ true → Tells 6
+    undone_6 q =
+        let x = seen k p in
+        record {
+          known = (omega arith, omega arith);
+          still_open = λ e. absurd (omega arith);
+          never = λ e f. absurd (omega arith);
+          taken = λ e. absurd (omega arith);
+          stays = λ e. absurd (omega arith);
+          undoing = λ e. absurd (omega arith);
+          undone = λ e. ap₂ (λ y z. y && not z) x.did2 x.undid2
+              ∙ none_left (en k).change.apply (en k).rollback.apply a (en k).change.ordinal.0 (en k).rollback.ordinal.0 x.spared q;
+        }
+
+    classes : Tells (class_of (en k))
+    unfolding class_by
+    classes =
+        let x = seen k p in
+        by_class Tells (is (en k).rollback.apply Complete || is (en k).rollback.apply Canceled) (is (en k).rollback.commit None)
+        (is (en k).change.apply Complete) (is (en k).change.commit Failed) (is (en k).change.apply Aborted || is (en k).change.apply Failed)
+        undone_6 (λ e q. undoing_5 e) taken_4
+        (λ q r u. never_2 3 (omega arith) (omega arith) q
+        (x.did2 ∙ none_invalid (en k).change.commit (en k).change.apply a (en k).change.ordinal.0 x.sides.change u))
+        (λ q r v. never_2 2 (omega arith) (omega arith) q (x.did2 ∙ none_stopped (en k).change.apply a (en k).change.ordinal.0 v))
+        open_1
+
   took_is : (k : ℕ) → b < k → took kn.log s.applied.head.ordinal.0 k ≡ completed es 1 2 k
   took_is k p = sym ((seen k p).did2 ∙ landed_complete (en k).change.apply s.applied.head.ordinal.0 (en k).change.ordinal.0)
 
@@ -290,3 +467,10 @@ pub audited : (m : Bool) (cs : List Call) → Audited (run m cs).state (run m cs
 audited m cs =
     let x = folded m cs in
     subst (λ s. Audited s (run m cs).events) (sym x.shows) (audits (whole m cs) (run m cs).events x.reached (marked m cs) x.fold x.base x.front)
+
+pub classed : (m : Bool) (cs : List Call) (k : ℕ) → (run m cs).state.log.folded.0 < k
+    → Classed (run m cs).state (run m cs).events k (class_of (entry_of (run m cs).state.log k))
+classed m cs k =
+    let x = folded m cs in
+    subst (λ s. s.log.folded.0 < k → Classed s (run m cs).events k (class_of (entry_of s.log k))) (sym x.shows)
+    (classes (whole m cs) (run m cs).events x.reached (marked m cs) x.fold x.base x.front k)

@@ -1,5 +1,5 @@
 -- Order 4: the reason given is true of the state and every one before it, of those that the job uses, is false; in a reached
--- state it is never the eighth. That one is given exactly when the job answers 11 is `why-answers` (crate machine, Waits).
+-- state it is never the eighth. That one is given exactly when the job answers 11 is `why_answers` (crate machine, Waits).
 -- Assumes nothing.
 use Prim.Native.Nat.{ℕ, zero, suc, ◌+◌, ◌≤◌, ◌<◌}
 use native.Mathlib.Omega.{arith}
@@ -67,15 +67,25 @@ first_holds f (r ∷ rs) n = go (f r) refl n (first_holds f rs)
     go true x n k = (ap (λ b. b || mem r rs) (eq-eqb r r refl), x)
     go false x n k = let y = k n in (or_late (eqb r (first_of f rs)) _ y.0, y.1)
 
+unfoldable rising : ℕ → List ℕ → Bool
+rising b [] = true
+rising b (r ∷ rs) = ltb b r && rising r rs
+
+rising_so : (b : ℕ) (rs : List ℕ) → rising b rs ≡ true → Rises b rs
+unfolding Rises rising
+rising_so b [] e = tt
+rising_so b (r ∷ rs) e = (ltb-true b r (and_left (ltb b r) (rising r rs) e), rising_so r rs (and_right (ltb b r) (rising r rs) e))
+
+either : (x : Bool) (rs qs : List ℕ) → Rises 0 rs → Rises 0 qs → Rises 0 (cond x rs qs)
+either true rs qs h k = h
+either false rs qs h k = k
+
+-- whatever lists they are, as long as each rises
 rises_tried : (j : ℕ) → Rises 0 (tried j)
-unfolding Rises
-rises_tried j = go (eqb j 1) (eqb j 2) (eqb j 3)
-  where
-    go : (x y z : Bool) → Rises 0 (cond x (1 ∷ 3 ∷ 4 ∷ []) (cond y (1 ∷ 6 ∷ 7 ∷ []) (cond z (1 ∷ 2 ∷ 4 ∷ 5 ∷ []) (1 ∷ 2 ∷ 6 ∷ 7 ∷ []))))
-    go true y z = (omega arith, (omega arith, (omega arith, tt)))
-    go false true z = (omega arith, (omega arith, (omega arith, tt)))
-    go false false true = (omega arith, (omega arith, (omega arith, (omega arith, tt))))
-    go false false false = (omega arith, (omega arith, (omega arith, (omega arith, tt))))
+unfolding rising
+rises_tried j =
+    either (eqb j 1) _ _ (rising_so 0 _ refl)
+    (either (eqb j 2) _ _ (rising_so 0 _ refl) (either (eqb j 3) _ _ (rising_so 0 _ refl) (rising_so 0 _ refl)))
 
 -- a reason that is not the eighth; and where it is the eighth, none of those that the job uses fits
 pub given : (s : State) (j i : ℕ) → (reason s j i ≡ 8 → ⊥) → Given s j i (reason s j i)

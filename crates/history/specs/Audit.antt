@@ -1,7 +1,6 @@
 -- What the log shows, stated: each status tied to the events, and the changes that the switch has taken
 -- and that were not undone, read off the log and the applied ordinal. Proved in Audited. Assumes nothing.
-use Rattle.std.specs.Prelude.{ℕ, ◌<◌, List, Bool, true, false, not, ◌&&◌, ◌||◌, ◌≡◌, eqb}
-use Rattle.kinds.specs.declared.Transaction.{Transaction}
+use Rattle.std.specs.Prelude.{ℕ, ◌≤◌, ◌<◌, List, Bool, true, false, not, ◌&&◌, ◌||◌, ◌≡◌, eqb}
 use Rattle.kinds.specs.declared.Event.{Event}
 use Rattle.kinds.specs.declared.Status.{Status}
 use Rattle.kinds.specs.declared.Status.TheVariants.{None, Pending, InProgress, Complete, Aborted, Canceled, Failed}
@@ -115,11 +114,11 @@ landed Canceled a o = false
 landed Failed a o = false
 
 -- which changes did the switch take
-abbrev pub took : Log → (appliedOrdinal : ℕ) → ℕ → Bool
+abbrev pub took : Log → (applied_ordinal : ℕ) → ℕ → Bool
 took l a k = landed (entry_of l k).change.apply a (entry_of l k).change.ordinal.0
 
 -- and which had been undone
-abbrev pub undid : Log → (appliedOrdinal : ℕ) → ℕ → Bool
+abbrev pub undid : Log → (applied_ordinal : ℕ) → ℕ → Bool
 undid l a k = landed (entry_of l k).rollback.apply a (entry_of l k).rollback.ordinal.0
 
 -- those taken and not undone
@@ -131,3 +130,19 @@ pub record Audited (s : State) (es : List Event) : Type 0 where
   pub undid : (k : ℕ) → s.log.folded.0 < k → undid s.log s.applied.head.ordinal.0 k ≡ completed es 2 2 k
   -- the set of the log is the set of the history, as far as it is kept
   pub set : newest_first (holds s) (last s.log) ≡ newest_first (kept s (live es 2)) (last s.log)
+
+-- ---- what its class c tells of number k, kept (order 11). The push comes before the store of the status: so where that store
+-- was cut, a change that was taken has class 1, and one that was undone class 5
+pub record Classed (s : State) (es : List Event) (k c : ℕ) : Type 0 where
+  pub known : (1 ≤ c) × (c ≤ 6)
+  -- open: taken exactly where the closing rule is to write the status
+  pub still_open : c ≡ 1 → (n : ℕ) (ok : Bool) → completed es 1 2 k ≡ closing2 s k n ok
+  -- stopped or invalid: never taken
+  pub never : 2 ≤ c → c ≤ 3 → completed es 1 2 k ≡ false
+  pub taken : c ≡ 4 → completed es 1 2 k ≡ true
+  -- up to taken: not undone
+  pub stays : c ≤ 4 → completed es 2 2 k ≡ false
+  -- being undone: undone exactly where the closing rule is to write the status
+  pub undoing : c ≡ 5 → (n : ℕ) (ok : Bool) → completed es 2 2 k ≡ closing4 s k n ok
+  -- undone: it was never taken, or has been undone
+  pub undone : c ≡ 6 → live es 2 k ≡ false

@@ -1,5 +1,5 @@
 -- Order 4, stated: a reason that is given is true and the first of those that the job uses, and what it names is so. Proved
--- in Reasons, Carried and Named; that one is given exactly where the job answers 11 is `why-answers` (crate machine, Waits).
+-- in Reasons, Carried and Named; that one is given exactly where the job answers 11 is `why_answers` (crate machine, Waits).
 -- Assumes nothing.
 use Rattle.std.specs.Prelude.{ℕ, suc, ◌+◌, ◌≤◌, ◌<◌, List, Bool, true, false, not, ◌||◌, cond, ◌≡◌, eqb, ltb}
 use Rattle.kinds.specs.declared.Event.{Event}

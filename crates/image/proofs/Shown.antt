@@ -30,7 +30,7 @@ use Rattle.image.proofs.UpTo.{up_from_same, up_from_more, up_from_drop, put_up_f
 use Rattle.image.proofs.Scanned.{Room}
 use Rattle.image.proofs.Chain.{length_table}
 use Rattle.image.proofs.Kept.{Apart, same_log, part_kept, ledger_kept, net_kept, entry_kept, last_kept, folded_kept, entries_kept, ends_kept, log_kept, change_kept, head_kept, table_kept, configuration_kept, mastership_kept, target_kept, connections_kept}
-use Rattle.image.proofs.Sized.{SizedEntry, SizedHead, SizedMastership, SizedTable, SizedConnections, entry_room, head_room, configuration_room, mastership_room, target_room, connections_room, table_room, entry_back, configuration_back, target_back, connections_back, eight_all}
+use Rattle.image.proofs.Sized.{SizedEntry, SizedHead, SizedMastership, SizedTable, SizedConnections, entry_room_holds, head_room, configuration_room, mastership_room, target_room, connections_room, table_room, entry_back, configuration_back, target_back, connections_back, eight_all}
 
 -- ---- one row of stores behind another
 pub written_append : (l : List ℕ) (es fs : List Store) → written l (es ++ fs) ≡ written (written l es) fs
@@ -150,7 +150,7 @@ module _ (l : List ℕ) (z : length l ≡ image_length) (f : Room (folded_of l) 
 
   pub entry_same : (n : ℕ) (t : Transaction) → SizedEntry t → entry_at (put_entry_at l n t) n ≡ t
   unfolding entry_at put_entry_at
-  entry_same n t h = ap to_entry (puts_same entry_widths (entry_numbers t) l (place_of n) (entry_room t h) (omega arith)) ∙ entry_back t h
+  entry_same n t h = ap to_entry (puts_same entry_widths (entry_numbers t) l (place_of n) (entry_room_holds t h) (omega arith)) ∙ entry_back t h
 
   -- every other kept
   pub other_kept : (m : List ℕ) (i : ℕ) → Outside l m (place_of i) (place_of i + stride) → folded_of l < i → i ≤ folded_of l + slots

@@ -83,8 +83,8 @@ pub record SizedConnections (xs : List Connection) : Type 0 where
   pub small : (k : ℕ) → (get_or xs k never).id < 4294967296
 
 -- ---- room, as the laws of runs ask it
-pub entry_room : (t : Transaction) → SizedEntry t → Fit entry_widths (entry_numbers t)
-entry_room t h = let p : packed_of t < 65536 = omega (arith, packed_low t) in (p, (h.phase, (h.count, (h.index, (h.change_ordinal, (h.rollback_ordinal, (h.paths.small 0, (h.paths.small 1, (h.paths.small 2, (h.paths.small 3, (h.values.small 0, (h.values.small 1, (h.values.small 2, (h.values.small 3, (h.kept.small 0, (h.kept.small 1, (h.kept.small 2, (h.kept.small 3, (h.owners.small 0, (h.owners.small 1, (h.owners.small 2, (h.owners.small 3, tt))))))))))))))))))))))
+pub entry_room_holds : (t : Transaction) → SizedEntry t → Fit entry_widths (entry_numbers t)
+entry_room_holds t h = let p : packed_of t < 65536 = omega (arith, packed_low t) in (p, (h.phase, (h.count, (h.index, (h.change_ordinal, (h.rollback_ordinal, (h.paths.small 0, (h.paths.small 1, (h.paths.small 2, (h.paths.small 3, (h.values.small 0, (h.values.small 1, (h.values.small 2, (h.values.small 3, (h.kept.small 0, (h.kept.small 1, (h.kept.small 2, (h.kept.small 3, (h.owners.small 0, (h.owners.small 1, (h.owners.small 2, (h.owners.small 3, tt))))))))))))))))))))))
 
 pub head_room : (h : Head) → SizedHead h → Fit head_widths (head_numbers h)
 head_room h k = (k.index, (k.target, (k.revision, (k.ordinal, tt))))

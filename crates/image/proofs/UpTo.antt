@@ -1,4 +1,4 @@
--- The laws of `up_to` and `allUpTo`, and of `up_from` and `allKept`: what is made, or tested, of each number from 1, or from
+-- The laws of `up_to` and `all_up_to`, and of `up_from` and `all_kept`: what is made, or tested, of each number from 1, or from
 -- the last fold, to n. Assumes nothing.
 use Prim.Native.Nat.{ℕ, zero, suc, ◌+◌, ◌-◌, ◌≤◌, ◌<◌}
 use mathlib.Core.Path.{◌≡◌, refl, ap, ap₂, sym, ◌∙◌, subst}

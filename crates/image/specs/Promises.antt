@@ -9,6 +9,7 @@ use Rattle.kinds.specs.declared.Head.{Head}
 use Rattle.kinds.specs.declared.Mastership.{Mastership}
 use Rattle.kinds.specs.declared.Number.{Number}
 use Rattle.kinds.specs.declared.Ordinal.{Ordinal}
+use Rattle.kinds.specs.declared.Status.{Status}
 use Rattle.kinds.specs.declared.Target.{Target}
 use Rattle.kinds.specs.declared.Transaction.{Transaction}
 use Rattle.fields.specs.Field.{fields_at, put_field}
@@ -19,6 +20,7 @@ use Rattle.image.specs.View.{write, written, table_of, view}
 use Rattle.image.specs.Fresh.{fresh_image}
 use Rattle.machine.specs.Settled.{entry_settled}
 use Rattle.machine.specs.Class.{class_of}
+use Rattle.machine.specs.Taken.{landed}
 use Rattle.machine.specs.WellFormed.{all_entries}
 use Rattle.machine.specs.State.{node_of, absent}
 use Rattle.machine.specs.Stores.{grow, fold, change, target_values, of_applied, of_target}
@@ -35,6 +37,12 @@ TellsSettled s o r = r ≡ all_entries (entry_settled o.0) (view s).log
 
 pub tells_settled_only : (s : List ℕ) (o : Ordinal) (r q : Bool) → TellsSettled s o r → TellsSettled s o q → r ≡ q
 tells_settled_only s o r q = one
+
+abbrev pub TellsLanded : (apply : Status) (applied ordinal : Ordinal) → Bool → Type 0
+TellsLanded apply a o r = r ≡ landed apply a.0 o.0
+
+pub tells_landed_only : (apply : Status) (a o : Ordinal) (r q : Bool) → TellsLanded apply a o r → TellsLanded apply a o q → r ≡ q
+tells_landed_only apply a o r q = one
 
 abbrev pub MakesFresh : List ℕ → Bool → List ℕ → Type 0
 MakesFresh s m s' = s' ≡ fresh_image m

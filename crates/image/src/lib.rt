@@ -1,5 +1,7 @@
 // The state image: where each record lies, each record loaded from the lent bytes and stored into them, and the scans
 // that read many of them. No rule is here, and no number of the layout is anywhere else.
+#![tactic(auto)]
+
 mod layout; // layout.rt: every place and width, by name
 mod statuses; // statuses.rt: four statuses in one number
 mod entry; // entry.rt: the entries of the ring
@@ -8,8 +10,10 @@ mod parts; // parts.rt: numbers, heads and tables of values
 mod nodes; // nodes.rt: configuration, mastership, target, connections
 mod formed; // formed.rt: whether an image is well-formed
 mod settled; // settled.rt: whether what carries an ordinal is Done
+mod applies; // applies.rt: whether an apply has completed
 mod fresh; // fresh.rt: a fresh image
 
+pub use applies::landed;
 pub use classes::load_class;
 pub use entry::{carries_next, grow, load_entry, store_entry};
 pub use formed::well_formed;

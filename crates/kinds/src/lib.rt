@@ -1,17 +1,19 @@
 // The paper's numbers, statuses and small records. A log number, an ordinal and a term are three types with private
 // fields: none can be compared with another, and only the methods below read inside.
+#![tactic(auto)]
+
 ghost use Rattle.kinds.specs.Promises.{MakesNumber, ShowsNumber, SameNumber, BelowNumber, FollowsNumber, MakesOrdinal, ShowsOrdinal, SameOrdinal, FollowsOrdinal, TellsFull, MakesNextOrdinal, MakesTerm, ShowsTerm, SameTerm, BelowTerm, TellsLast, MakesNextTerm, ShowsStatus, ReadsStatus, TellsDone, TellsComplete, TellsPending, TellsFailed, ShowsProgress, ReadsProgress, PutsChange, PutsRollback, MakesNoEvent, Refuses};
 
 // A log number: 0 none, else 1 to 65,535.
-#[derive(Drop)]
+#[derive(Clone, Copy)]
 pub struct Number(u16);
 
 // An ordinal: 0 none, else 1 to 131,070.
-#[derive(Drop)]
+#[derive(Clone, Copy)]
 pub struct Ordinal(u32);
 
 // A term of mastership.
-#[derive(Drop)]
+#[derive(Clone, Copy)]
 pub struct Term(u32);
 
 impl Number {
@@ -151,7 +153,7 @@ impl Term {
     }
 }
 
-#[derive(Drop)]
+#[derive(Clone, Copy)]
 pub enum Status {
     None,
     Pending,
@@ -179,6 +181,7 @@ impl Status {
     }
 
     // The status of a code; what is no code is read as Failed.
+    #[tactic(auto, unfolding(crate::specs::Statuses::status_of))]
     pub fn of(n: u8) -> Status
         ensures { ReadsStatus n result }
     {
@@ -255,7 +258,7 @@ impl Status {
 }
 
 // The state of the configuration.
-#[derive(Drop)]
+#[derive(Clone, Copy)]
 pub enum Progress {
     Pending,
     InProgress,
@@ -275,6 +278,7 @@ impl Progress {
     }
 
     // The state of a code; what is no code is read as Complete.
+    #[tactic(auto, unfolding(crate::specs::Statuses::progress_of))]
     pub fn of(n: u8) -> Progress
         ensures { ReadsProgress n result }
     {
@@ -287,14 +291,14 @@ impl Progress {
 }
 
 // The configuration's state with the term it belongs to.
-#[derive(Drop)]
+#[derive(Clone, Copy)]
 pub struct Configuration {
     pub state: Progress,
     pub term: Term,
 }
 
 // The master node (0 none), its term, and the connection id that it had.
-#[derive(Drop)]
+#[derive(Clone, Copy)]
 pub struct Mastership {
     pub master: u8,
     pub term: Term,
@@ -302,14 +306,14 @@ pub struct Mastership {
 }
 
 // A node's connection.
-#[derive(Drop)]
+#[derive(Clone, Copy)]
 pub struct Connection {
     pub id: u32,
     pub connected: bool,
 }
 
 // The switch: its id, whether it runs, and its kind, whether it keeps its values over a power cycle (order 13).
-#[derive(Drop)]
+#[derive(Clone, Copy)]
 pub struct Target {
     pub id: u32,
     pub running: bool,
@@ -317,7 +321,7 @@ pub struct Target {
 }
 
 // One side of a transaction, of its change or of its rollback.
-#[derive(Drop)]
+#[derive(Clone, Copy)]
 pub struct Side {
     pub commit: Status,
     pub apply: Status,
@@ -326,7 +330,7 @@ pub struct Side {
 
 // An entry of the log: phase 1 Change or 2 Rollback; the first `count` places hold pairs; `index` is the revision to
 // return to (r.index), `kept` are the values to return to (r.values) and `owners` the numbers that its paths' owners return to.
-#[derive(Drop)]
+#[derive(Clone, Copy)]
 pub struct Transaction {
     pub phase: u8,
     pub count: u8,
@@ -389,7 +393,7 @@ impl Transaction {
 
 // Committed and Applied have one each. Committed's `change` stands beside its head, since Applied has none. What is said at
 // the fields is true in every reached state: crates/history/specs/Invariant.antt.
-#[derive(Drop)]
+#[derive(Clone, Copy)]
 pub struct Head {
     // Committed's: revision ≤ index ≤ change ≤ the highest number given. No rule reads Applied's.
     pub index: Number,
@@ -402,7 +406,7 @@ pub struct Head {
 }
 
 // Phase 1 Change or 2 Rollback, stage 1 Commit or 2 Apply; zeros where there is no event.
-#[derive(Drop)]
+#[derive(Clone, Copy)]
 pub struct Event {
     pub phase: u8,
     pub stage: u8,
@@ -411,7 +415,7 @@ pub struct Event {
 }
 
 // What a call answers: 0 accepted or the refusal's number, and its event.
-#[derive(Drop)]
+#[derive(Clone, Copy)]
 pub struct Reply {
     pub answer: u8,
     pub event: Event,

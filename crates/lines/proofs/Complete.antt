@@ -13,8 +13,8 @@ use Rattle.lines.specs.Text.{text}
 use Rattle.lines.specs.Decimal.{is_digit}
 use Rattle.lines.specs.Forms.{Asked, Token, Asks}
 use Rattle.lines.specs.Grammar.{all_digits, tenfold, flat, worths, Number, Row, one, more, Entered, no_pairs, some_pairs, place, Entries, last, then, Item, plain, inner, close, undo, as_items, items_of, items, Fits, fits_end, fits_letter, fits_number, fits_none, fits_pairs, fits_digits, fits_no_entry, fits_entries}
-use Rattle.lines.specs.Reading.{letter_at, is_numbered, is_mark, is_tag, inside, begins, may_end, parts}
-use Rattle.lines.proofs.Classes.{and_none, and_left, and_right, begins_inside, numbered_mark, paired_numbered}
+use Rattle.lines.specs.Reading.{letter_at, is_numbered, is_tag, inside, begins, may_end, parts}
+use Rattle.lines.proofs.Classes.{and_none, and_left, and_right, begins_inside, paired_numbered}
 use Rattle.lines.proofs.Goes.{tells, Paired, pairs_told, entries_told, Goes, done, leave, begin, grow, digit, part, spell}
 use Rattle.lines.proofs.Standing.{Stands}
 

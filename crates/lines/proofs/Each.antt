@@ -14,5 +14,6 @@ Each P [] = T true
 Each P (f ∷ fs) = Both (P f) (Each P fs)
 
 pub each_among : (P : Form → Type 0) (f : Form) (fs : List Form) → Each P fs → Among f fs → P f
+each_among P f [] e i = elim i [ ]
 each_among P f (g ∷ fs) (a & e) here = a
 each_among P f (g ∷ fs) (a & e) (there i) = each_among P f fs e i

@@ -2,20 +2,19 @@
 -- more than four pairs or the list more than 256 entries it is refused as what the line says is. Assumes nothing.
 use Prim.Native.Nat.{ℕ, zero, suc, ◌+◌, ◌*◌, ◌/◌, ◌%◌, ◌≤◌, ◌<◌}
 use mathlib.Core.Path.{◌≡◌, refl, ap, ap₂, sym, subst, ◌∙◌}
-use mathlib.Core.List.{List, [], ◌∷◌, ◌++◌, append_assoc}
+use mathlib.Core.List.{List, [], ◌∷◌, ◌++◌}
 use mathlib.Core.Bool.{Bool, true, false, cond}
 use native.Mathlib.Omega.{arith}
-use borrow.Author.Tests.{ltb-true, ltb-false, lt-ltb, le-ltb, le-leb, lt-leb, eqb-true}
-use lib.Dec.{eqb, ltb, leb}
-use lib.ListN.{length, take, get_or, length-append, length-take}
+use borrow.Author.Tests.{ltb-true, ltb-false, le-leb, lt-leb, eqb-true}
+use lib.Dec.{eqb, ltb}
+use lib.ListN.{length, get_or, length-take}
 use lib.Seq.{take_all, get_or-append-add}
 use Rattle.machine.specs.Calls.{Pair, valid_change}
 use Rattle.machine.specs.WellFormed.{pairs_ok}
-use Rattle.machine.specs.Import.{Entry, adds, undoes, neither, Verdict, bad_unless, is_newest, others, judged_from, judged, Import, import_by, import, two, pairs_at, entry_by, entry_in, entries_from, entries_of, import_of}
+use Rattle.machine.specs.Import.{Entry, adds, undoes, neither, Verdict, bad_unless, is_newest, others, judged_from, judged, import_by, import, two, pairs_at, entry_by, entry_in, entries_from, entries_of, import_of}
 use Rattle.lines.specs.Grammar.{pair, flat}
-use Rattle.lines.specs.Reading.{low, high, two_bytes, at_most}
+use Rattle.lines.specs.Reading.{low, high, two_bytes}
 use Rattle.lines.specs.Handed.{padded, numbers_of, entry_bytes, import_bytes, Small, SmallEntry, SmallEntries}
-use Rattle.lines.proofs.Classes.{differ}
 use Rattle.lines.proofs.Rooms.{two_length, numbers_length, bytes_length}
 
 -- ---- a number of two bytes

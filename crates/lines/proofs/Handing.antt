@@ -10,16 +10,16 @@ use lib.ListN.{length, take, get_or, length-take, get_or-eq_default}
 use lib.Seq.{take_all, take-take, get_or-take}
 use Rattle.machine.specs.Calls as machine
 use Rattle.machine.specs.Calls.{Pair}
-use Rattle.machine.specs.Import.{Entry, adds}
+use Rattle.machine.specs.Import.{Entry}
 use Rattle.lines.specs.declared.reading.Call.{Call}
 use Rattle.lines.specs.Decimal.{is_digit}
-use Rattle.lines.specs.Forms.{Asked, calls, why, night, imports, owner, freshly, Token, letter, number, pairs, digits, entries, Asks, Form, forms}
+use Rattle.lines.specs.Forms.{Asked, calls, why, night, owner, freshly, Token, letter, number, pairs, digits, entries, Asks, Form, forms}
 use Rattle.lines.specs.Grammar.{all_digits, worths, flat, Row, one, more, Entered, no_pairs, some_pairs, place, Entries, last, then, Item, plain, as_items, items, Fits, fits_end, fits_letter, fits_number, fits_none, fits_pairs, fits_digits, fits_no_entry, fits_entries, Among}
 use Rattle.lines.specs.Reading.{low, high, two_bytes, number_in, call_of, at_most, most_of, line_of}
 use Rattle.lines.specs.Handed.{call_for, pairs_in, outcomes_in, entries_in, bytes_for, entry_bytes, Small, SmallEntry, SmallEntries, Low, Hands}
 use Rattle.lines.proofs.Classes.{and_left, and_right}
 use Rattle.lines.proofs.Each.{◌&◌, Each, each_among}
-use Rattle.lines.proofs.Rooms.{Room, rm, put, firsts, Holds, two_length, holds_all, Laid, laid_all}
+use Rattle.lines.proofs.Rooms.{Room, rm, put, Holds, two_length, holds_all, Laid, laid_all}
 
 -- ---- a room that holds a line's numbers: each is read out of it
 abbrev pub Bounded : List ℕ → Type 0

@@ -1,5 +1,6 @@
 -- The laws of the lines: why its contracts and theorems hold. Assumes nothing.
 pub mod Putting
+pub mod Recorded
 pub mod Lists
 pub mod Cells
 pub mod Classes

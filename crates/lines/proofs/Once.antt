@@ -7,7 +7,7 @@ use Rattle.machine.specs.Calls as machine
 use Rattle.machine.specs.Calls.{Pair}
 use Rattle.machine.specs.Import.{Entry, adds, undoes, neither}
 use Rattle.lines.specs.Forms.{Asked, calls, why, night, imports, owner, freshly, Token, letter, number, pairs, digits, entries, Asks, Form, forms}
-use Rattle.lines.specs.Grammar.{pair, flat, worths, Item, plain, inner, close, undo, as_items, items_of, items, Fits, fits_end, fits_letter, fits_number, fits_none, fits_pairs, fits_digits, fits_no_entry, fits_entries, Says}
+use Rattle.lines.specs.Grammar.{pair, flat, worths, Item, plain, inner, close, undo, as_items, items, Fits, fits_end, fits_letter, fits_number, fits_none, fits_pairs, fits_digits, fits_no_entry, fits_entries, Says}
 use Rattle.lines.specs.declared.reading.Call.{Call}
 use Rattle.lines.specs.declared.reading.Call.TheVariants.{Append, Rollback, Start, Stop, Connect, Disconnect, Master, Sync, Work, Fold, Why, Night, Import, Owner, Fresh, Unreadable}
 use Rattle.lines.specs.Handed.{call_for, SmallEntries}

@@ -6,15 +6,15 @@ use mathlib.Core.Bool.{Bool, true, false, cond}
 use native.Mathlib.Omega.{arith}
 use native.Mathlib.Nat.{add-zero, zero-add, pow-suc}
 use borrow.Author.Tests.{eq-eqb, ne_eqb, lt-ltb, le-ltb, le-leb, lt-leb}
-use lib.Dec.{eqb, ltb}
-use lib.ListN.{length, get_or, take, set, drop, length-append, length-take, drop_of_length-le}
-use lib.Seq.{sets, sets-eq, length-sets, drop-cons, take-suc, take_all}
+use lib.Dec.{eqb, ltb, leb}
+use lib.ListN.{length, get_or, take, set, drop, length-append, length-take, length-drop, drop_of_length-le, take-append-drop}
+use lib.Seq.{sets, sets-eq, length-sets, length-take-le, drop-cons, drop-append-le, drop-drop, take-suc, take_all}
 use native.Mathlib.Numerals.{add-one}
 use Rattle.kinds.specs.declared.Reply.{Reply}
 use Rattle.kinds.specs.Statuses.{code_of}
 use Rattle.lines.specs.Text.{text}
 use Rattle.lines.specs.Decimal.{spelled, decimal}
-use Rattle.lines.specs.Replies.{filled_at, next_at, filled_from, filled, room_of, reply_line, Put, Written}
+use Rattle.lines.specs.Replies.{filled_at, next_at, filled_from, filled, room_of, reply_line, log_form, log_line, refused_form, refused_line, totals_form, totals_line, sheet_room, Put, Written, WrittenIn}
 
 -- ---- a text put after a text is both put at once
 pub sets_append : (s t l : List ℕ) (i : ℕ) → sets (sets l i s) (i + length s) t ≡ sets l i (s ++ t)
@@ -142,6 +142,37 @@ room_long (c ∷ f) = omega (arith, room_long f, by (eqb c 35))
     by true = omega arith
     by false = omega arith
 
+-- a line of the sheet has room
+module _ (n : ℕ) where
+  pub log_short : (cs : List ℕ) (m d : ℕ) → length (log_line n cs m d) ≤ sheet_room
+  log_short cs m d = let h : length (log_line n cs m d) ≤ 156 = filled_short log_form (n ∷ (cs ++ (m ∷ d ∷ []))) 0 in omega arith
+
+  pub refused_short : (a : ℕ) → length (refused_line n a) ≤ sheet_room
+  refused_short a = let h : length (refused_line n a) ≤ 33 = filled_short refused_form (n ∷ a ∷ []) 0 in omega arith
+
+pub totals_short : (ts : List ℕ) → length (totals_line ts) ≤ sheet_room
+totals_short ts = let h : length (totals_line ts) ≤ 108 = filled_short totals_form ts 0 in omega arith
+
+-- six numbers, one by one
+pub six_all : (l : List ℕ) → length l ≡ 6 → l ≡ get_or l 0 0 ∷ get_or l 1 0 ∷ get_or l 2 0 ∷ get_or l 3 0 ∷ get_or l 4 0 ∷ get_or l 5 0 ∷ []
+six_all [] h = absurd (omega arith)
+six_all (a ∷ []) h = absurd (omega arith)
+six_all (a ∷ b ∷ []) h = absurd (omega arith)
+six_all (a ∷ b ∷ c ∷ []) h = absurd (omega arith)
+six_all (a ∷ b ∷ c ∷ d ∷ []) h = absurd (omega arith)
+six_all (a ∷ b ∷ c ∷ d ∷ e ∷ []) h = absurd (omega arith)
+six_all (a ∷ b ∷ c ∷ d ∷ e ∷ f ∷ []) h = refl
+six_all (a ∷ b ∷ c ∷ d ∷ e ∷ f ∷ g ∷ l) h = absurd (omega arith)
+
+pub six_same :
+    (l : List ℕ) {a b c d e f : ℕ} → length l ≡ 6 → a ≡ get_or l 0 0 → b ≡ get_or l 1 0 → c ≡ get_or l 2 0 → d ≡ get_or l 3 0 → e ≡ get_or l 4 0 → f ≡ get_or l 5 0 →
+    (a ∷ b ∷ c ∷ d ∷ e ∷ f ∷ []) ≡ l
+six_same l h p q r s t u = rw (p, q, r, s, t, u) (sym (six_all l h))
+
+-- and among others
+pub log_same : {n o : ℕ} {l cs : List ℕ} (m : ℕ) {d e : ℕ} → n ≡ o → l ≡ cs → d ≡ e → (n ∷ (l ++ (m ∷ d ∷ []))) ≡ (o ∷ (cs ++ (m ∷ e ∷ [])))
+log_same {l = l} m p q r = rw (p, q, r)
+
 -- a letter of a form: a number, or itself
 module _ (at c n : ℕ) where
   pub number_fits : (size : ℕ) → c ≡ 35 → at + length (filled_at c n) ≤ size → at + length (decimal n) ≤ size
@@ -172,13 +203,17 @@ module _ (l f ns : List ℕ) (at i k : ℕ) (m : List ℕ) (x : Filling l f ns a
   step h = ap (λ (g : List ℕ). filled_from g ns k) (drop-cons f i 0 h) ∙ ap
       (λ (j : ℕ). filled_at (get_or f i 0) (get_or ns k 0) ++ filled_from (drop j f) ns (next_at (get_or f i 0) k)) (sym (add-one i))
 
-  pub filling_fits : (n : ℕ) → n ≡ get_or ns k 0 → i < length f → room_of f ≤ 96 → 96 ≤ length l → at + length (filled_at (get_or f i 0) n) ≤ length m
-  filling_fits n y h g j =
+  pub filling_fits_in :
+      (room n : ℕ) → n ≡ get_or ns k 0 → i < length f → room_of f ≤ room → room ≤ length l → at + length (filled_at (get_or f i 0) n) ≤ length m
+  filling_fits_in room n y h g j =
       rw y
       (let a = filled_at (get_or f i 0) (get_or ns k 0) in
       let b = filled_from (drop (i + 1) f) ns (next_at (get_or f i 0) k) in
       let e : x.done ++ (a ++ b) ≡ filled f ns = ap (λ (z : List ℕ). x.done ++ z) (sym (step h)) ∙ x.rest in
       omega (arith, ap length e, length-append x.done (a ++ b), length-append a b, filled_short f ns 0, put_length x.put, x.put.ends))
+
+  pub filling_fits : (n : ℕ) → n ≡ get_or ns k 0 → i < length f → room_of f ≤ 96 → 96 ≤ length l → at + length (filled_at (get_or f i 0) n) ≤ length m
+  filling_fits = filling_fits_in 96
 
   pub filling_more :
       (q e n : ℕ) (m' : List ℕ) → i < length f → n ≡ get_or ns k 0 → q ≡ next_at (get_or f i 0) k → Put m at (filled_at (get_or f i 0) n) e m' → Filling l f ns e
@@ -209,17 +244,61 @@ module _ (l f ns : List ℕ) (at i k : ℕ) (m : List ℕ) (x : Filling l f ns a
       (sym (append-nil x.done) ∙ ap (λ (g : List ℕ). x.done ++ filled_from g ns k) (sym (drop_of_length-le f h)) ∙ x.rest) x.put
 
 -- ---- a whole line
-pub written : {l m t : List ℕ} {e : ℕ} → Put l 0 t e m → 96 ≤ length l → e ≤ length l → Written l t e m
-written {l} {m} {t} {e} p h k =
+pub written_in : {l m t : List ℕ} {e : ℕ} (room : ℕ) → Put l 0 t e m → room ≤ length l → e ≤ length l → WrittenIn room l t e m
+written_in {l} {m} {t} {e} room p h k =
     let f : e ≡ length t = omega (arith, p.ends) in
     record {
-      sized = rw (le-leb 96 (length l) h) f;
+      sized = rw (le-leb room (length l) h) f;
       fits = k;
-      holds = rw (le-leb 96 (length l) h) (p.holds ∙ sets-eq t l 0 (omega arith) ∙ ap (λ (k : ℕ). t ++ drop k l) (zero-add (length t)));
+      holds = rw (le-leb room (length l) h) (p.holds ∙ sets-eq t l 0 (omega arith) ∙ ap (λ (k : ℕ). t ++ drop k l) (zero-add (length t)));
     }
+
+pub unwritten_in : (room : ℕ) (l t : List ℕ) → length l < room → WrittenIn room l t 0 l
+unwritten_in room l t h = record { sized = rw (lt-leb room (length l) h); fits = omega arith; holds = rw (lt-leb room (length l) h) }
+
+-- of 96 bytes
+pub written : {l m t : List ℕ} {e : ℕ} → Put l 0 t e m → 96 ≤ length l → e ≤ length l → Written l t e m
+written = written_in 96
 
 pub whole : {l m line line' : List ℕ} {most e : ℕ} → Begun l most line e m → line ≡ line' → most ≤ 96 → 96 ≤ length l → Written l line' e m
 whole {l} {m} {e = e} x i h g = written (subst (λ (t : List ℕ). Put l 0 t e m) i x.put) g (omega (arith, x.low))
 
 pub unwritten : (l t : List ℕ) → length l < 96 → Written l t 0 l
-unwritten l t h = record { sized = rw (lt-leb 96 (length l) h); fits = omega arith; holds = rw (lt-leb 96 (length l) h) }
+unwritten = unwritten_in 96
+
+-- of numbers that are known to be others
+pub filled_same : {room : ℕ} {l : List ℕ} (f : List ℕ) {ns os : List ℕ} {r : ℕ} {m : List ℕ} → ns ≡ os → WrittenIn room l (filled f ns) r m → WrittenIn room l (filled f os) r m
+filled_same {room} {l} f {r = r} {m = m} e x = subst (λ (ns : List ℕ). WrittenIn room l (filled f ns) r m) e x
+
+-- ---- a line written into a part of a buffer, behind its first `used` bytes
+module _ (room : ℕ) (out : List ℕ) (used : ℕ) (t : List ℕ) (w size : ℕ) (rest : List ℕ) where
+  -- what stands from there on
+  pub part_written :
+      w ≡ room → used + room ≤ length out → WrittenIn room (take w (drop used out)) t size rest →
+      (size ≡ length t) × (length t ≤ room) × (rest ++ drop w (drop used out) ≡ t ++ drop (length t) (drop used out))
+  part_written e h x =
+      let d : List ℕ = drop used out in
+      let n : w ≤ length d = omega (arith, length-drop used out, e) in
+      let q : length (take w d) ≡ w = length-take-le w d n in
+      let m : room ≤ length (take w d) = omega (arith, q, e) in
+      let g : leb room (length (take w d)) ≡ true = le-leb room (length (take w d)) m in
+      let s : size ≡ length t = rw g at x.sized in
+      let r : rest ≡ t ++ drop (length t) (take w d) = rw g at x.holds in
+      let f : length t ≤ room = omega (arith, s, q, e, x.fits) in
+      let i : length t ≤ length (take w d) = omega (arith, s, x.fits) in (
+        s,
+        f,
+        ap (λ (y : List ℕ). y ++ drop w d) r ∙ append_assoc t (drop (length t) (take w d)) (drop w d) ∙ ap (λ (y : List ℕ). t ++ y)
+            (sym (drop-append-le (length t) (take w d) (drop w d) i) ∙ ap (drop (length t)) (take-append-drop w d)),
+      )
+
+  pub part_put :
+      w ≡ room → used + room ≤ length out → WrittenIn room (take w (drop used out)) t size rest →
+      Put out used t (used + size) (take used out ++ (rest ++ drop w (drop used out)))
+  part_put e h x =
+      let z = part_written e h x in
+      record {
+        ends = omega (arith, z.0);
+        holds = ap (λ (y : List ℕ). take used out ++ y) z.2 ∙ ap (λ (y : List ℕ). take used out ++ (t ++ y)) (drop-drop (length t) used out)
+            ∙ sym (append_assoc (take used out) t (drop (used + length t) out)) ∙ sym (sets-eq t out used (omega (arith, z.1)));
+      }

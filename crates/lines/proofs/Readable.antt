@@ -13,12 +13,11 @@ use Rattle.machine.specs.WellFormed.{pairs_ok}
 use Rattle.machine.specs.Calls as machine
 use Rattle.machine.specs.Calls.{Pair, valid_change, refused, decide}
 use Rattle.machine.specs.Step.{outcome, step}
-use Rattle.lines.specs.declared.reading.Call.{Call}
 use Rattle.lines.specs.declared.reading.Call.TheVariants.{Unreadable}
 use Rattle.lines.specs.declared.reading.Reader.{Reader}
 use Rattle.lines.specs.Forms.{Asked, calls, why, night, imports, owner, freshly}
 use Rattle.lines.specs.Grammar.{Item, Says}
-use Rattle.lines.specs.Reading.{two_bytes, pushed, fresh, last, last_in, at_most, most_of, tag_of, call_of, line_of, finished, ran, said, said_in}
+use Rattle.lines.specs.Reading.{pushed, fresh, last, last_in, most_of, tag_of, call_of, line_of, finished, ran, said, said_in}
 use Rattle.lines.specs.Handed.{Hands, call_for}
 use Rattle.lines.proofs.Goes.{AccR}
 use Rattle.lines.proofs.Runs.{told, Told, run_on, run_back, ran_reader}

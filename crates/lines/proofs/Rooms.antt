@@ -8,13 +8,13 @@ use native.Mathlib.Numerals.{add-one}
 use borrow.Author.Tests.{ltb-true, ltb-false, lt-ltb, le-ltb}
 use lib.Dec.{eqb, leb, ltb}
 use lib.ListN.{length, take, drop, set, replicate, length-append, length-set, length-take, length-drop, length-replicate, replicate-append-replicate, take-append-drop}
-use lib.Seq.{sets, sets-eq, length-sets, take_all, take-take, take-append-le, take-suc-set, take_at, drop_at, length-take-le}
+use lib.Seq.{sets, sets-eq, length-sets, take_all, take-append-le, take-suc-set, take_at, drop_at, length-take-le}
 use Rattle.machine.specs.Calls.{Pair}
 use Rattle.machine.specs.Import.{Entry, adds, undoes, neither}
 use Rattle.lines.specs.declared.reading.Reader.{Reader}
 use Rattle.lines.specs.Decimal.{is_digit}
 use Rattle.lines.specs.Grammar.{tenfold, flat, Item, plain, inner, close, undo, as_items, items_of, items}
-use Rattle.lines.specs.Reading.{letter_at, is_numbered, inside, begins, parts, past, spelt, low, high, two_bytes, two_at, at_most, used_next, stored_at, stored, kept, kept_in, count_next, noted_at, noted, noted_in, pairs_of, filled_by, used_closed, closed_at, closed, closed_in, changed_in, entered_in, in_entry, ends_entry, listed_in, ended, ended_in, begun, placed, grown_if, with_digit, with_part, pushed, digit_in, text_in, pushed_in, stepped, last, last_in}
+use Rattle.lines.specs.Reading.{letter_at, is_numbered, inside, begins, parts, past, spelt, low, high, two_bytes, two_at, at_most, used_next, stored_at, stored, kept, kept_in, count_next, noted_at, noted, noted_in, pairs_of, filled_by, used_closed, closed_at, closed, closed_in, changed_in, entered_in, in_entry, ends_entry, ended, ended_in, begun, placed, grown_if, with_digit, with_part, pushed, digit_in, text_in, pushed_in, stepped, last, last_in}
 use Rattle.lines.specs.Handed.{padded, numbers_of, entry_bytes, SmallEntry, SmallEntries}
 use Rattle.lines.proofs.Classes.{and_none}
 use Rattle.lines.proofs.Goes.{held, entry_held, tells, digit_adds, text_adds, adds as addsTo}

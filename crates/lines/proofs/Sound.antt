@@ -12,8 +12,8 @@ use Rattle.machine.specs.Calls.{Pair}
 use Rattle.machine.specs.Import.{Entry, adds, undoes}
 use Rattle.lines.specs.Text.{text}
 use Rattle.lines.specs.Forms.{Asked, Token, letter, number, pairs, digits, entries, Asks}
-use Rattle.lines.specs.Grammar.{all_digits, tenfold, pair, flat, worths, is_word, Number, Row, one, more, Entered, no_pairs, some_pairs, place, Entries, last, then, Item, plain, inner, close, undo, as_items, items_of, items, Fits, fits_end, fits_letter, fits_number, fits_none, fits_pairs, fits_digits, fits_no_entry, fits_entries}
-use Rattle.lines.specs.Reading.{letter_at, is_paired, is_numbered, is_mark, is_tag, inside, begins, parts, may_end}
+use Rattle.lines.specs.Grammar.{all_digits, tenfold, pair, flat, worths, is_word, Number, Row, one, more, Entered, no_pairs, some_pairs, place, Entries, last, then, Item, plain, inner, close, as_items, items_of, items, Fits, fits_end, fits_letter, fits_number, fits_none, fits_pairs, fits_digits, fits_no_entry, fits_entries}
+use Rattle.lines.specs.Reading.{letter_at, is_numbered, is_mark, is_tag, inside, begins, parts, may_end}
 use Rattle.lines.proofs.Classes.{differ, and_left, and_right, numbered_mark, paired_elim, paired_numbered, word_no_tag, mark_no_word, mark_no_tag, begins_inside, Parted, colon, comma, slash, parted_by, parted_at_holds, parted_mark}
 use Rattle.lines.proofs.Goes.{held, tells, Paired, pairs_told, entries_told, Goes, done, leave, begin, grow, digit, part, spell}
 use Rattle.lines.proofs.Standing.{Stands, sound_text}

@@ -45,6 +45,7 @@ all_sound = refl
 
 sound_among : (f : Form) (fs : List Form) → sound_rows fs ≡ true → Among f fs → sound_row f ≡ true
 unfolding sound_rows
+sound_among f [] h a = elim a [ ]
 sound_among f (g ∷ fs) h here = and_left (sound_row f) (sound_rows fs) h
 sound_among f (g ∷ fs) h (there a) = sound_among f fs (and_right (sound_row g) (sound_rows fs) h) a
 
@@ -110,6 +111,7 @@ pub record RowAt (f : Form) : Type 0 where
   pub stands : Stands f.form f.tag place
 
 row_at : (f : Form) (fs : List Form) → Among f fs → (o : ℕ) → From o (rows fs) → RowAt f
+row_at f [] a o h = elim a [ ]
 row_at f (g ∷ fs) here o h =
     record {
       place = o + 1;

@@ -1,7 +1,7 @@
 -- What the table of forms has to be, computed: rows of one width; where a mark or a tag stands, every row with the same text
 -- before it has the same there; no mark stands behind a mark. A new row costs nothing here: it is computed again.
 -- Assumes nothing.
-use Prim.Native.Nat.{ℕ, zero, suc, ◌+◌, ◌-◌, ◌*◌, ◌/◌, ◌%◌, ◌≤◌, ◌<◌}
+use Prim.Native.Nat.{ℕ, zero, suc, ◌+◌, ◌*◌, ◌/◌, ◌%◌, ◌≤◌, ◌<◌}
 use mathlib.Core.Path.{◌≡◌, refl, ap, sym, subst, ◌∙◌}
 use mathlib.Core.Logic.{◌⊎◌, inl, inr}
 use mathlib.Core.Bool.{Bool, true, false, not, cond, ◌&&◌, ◌||◌}
@@ -9,7 +9,7 @@ use native.Mathlib.Omega.{arith}
 use native.Mathlib.Numerals.{add-one}
 use borrow.Author.Tests.{eqb-true, eq-eqb, ne_eqb, ltb-true, ltb-false}
 use lib.Dec.{eqb, ltb}
-use Rattle.lines.specs.Reading.{size, letter_at, like, takes, goes, seek_in, left, seek, is_mark, is_tag, tag_before}
+use Rattle.lines.specs.Reading.{size, letter_at, like, takes, seek_in, left, seek, is_mark, is_tag, tag_before}
 use Rattle.lines.proofs.Classes.{differ, and_left, and_right, and_both, or_split, tag_some, mark_some}
 use Rattle.lines.proofs.Places.{within, zero_like, like_zero, Before, before, like_next, like_newline, like_sym, Found, Missing, sought, seek_here, seek_end, seek_nowhere}
 

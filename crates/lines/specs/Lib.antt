@@ -6,4 +6,5 @@ pub mod Grammar
 pub mod Reading
 pub mod Handed
 pub mod Replies
+pub mod Record
 pub mod Promises

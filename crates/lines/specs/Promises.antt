@@ -1,10 +1,10 @@
 -- What each public function of this crate promises, and that no second outcome keeps the promise; of the lines
--- written the promise is `Written` (in Replies). Assumes nothing.
+-- written the promise is `Written` (of another room `WrittenIn`), or `Put` of a part of one (in Replies). Assumes nothing.
 use Rattle.std.specs.Prelude.{ℕ, List, ◌≡◌}
 use Rattle.kinds.specs.Outcome.{one, both}
 use Rattle.lines.specs.declared.reading.Line.{Line}
 use Rattle.lines.specs.declared.reading.Reader.{Reader}
-use Rattle.lines.specs.Replies.{Written}
+use Rattle.lines.specs.Replies.{Put, Written, WrittenIn}
 use Rattle.lines.specs.Reading.{fresh, pushed, pushed_in, last_in, finished, said, said_in}
 
 abbrev pub StartsFresh : Reader → Type 0
@@ -33,3 +33,9 @@ reads_line_only line m r q n o = both
 
 pub written_only : (l line : List ℕ) (r q : ℕ) (m n : List ℕ) → Written l line r m → Written l line q n → (r ≡ q) × (m ≡ n)
 written_only l line r q m n a b = (one a.sized b.sized, one a.holds b.holds)
+
+pub written_in_only : (room : ℕ) (l line : List ℕ) (r q : ℕ) (m n : List ℕ) → WrittenIn room l line r m → WrittenIn room l line q n → (r ≡ q) × (m ≡ n)
+written_in_only room l line r q m n a b = (one a.sized b.sized, one a.holds b.holds)
+
+pub put_only : (l : List ℕ) (at : ℕ) (t : List ℕ) (r q : ℕ) (m n : List ℕ) → Put l at t r m → Put l at t q n → (r ≡ q) × (m ≡ n)
+put_only l at t r q m n a b = (one a.ends b.ends, one a.holds b.holds)

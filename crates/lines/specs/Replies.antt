@@ -54,13 +54,48 @@ owner_line a o = filled (text "answer=# owner=#\n") (a ∷ o ∷ [])
 abbrev pub closing_line : (committed committedOrdinal applied appliedOrdinal : ℕ) → List ℕ
 closing_line c o a u = filled (text "committed=# committed_ordinal=# applied=# applied_ordinal=#\n") (c ∷ o ∷ a ∷ u ∷ [])
 
+-- ---- the forms of the sheet (order 11)
+-- a log's place, how many of its kept transactions are in each class, class 1 first, the paths at which its tables differ, bit p for
+-- path p, and how many they are
+abbrev pub log_form : List ℕ
+log_form = text "log=# open=# stopped=# invalid=# taken=# undoing=# undone=# mask=# drift=#\n"
+
+abbrev pub log_line : (log : ℕ) (counts : List ℕ) (mask drift : ℕ) → List ℕ
+log_line n cs m d = filled log_form (n ∷ (cs ++ (m ∷ d ∷ [])))
+
+-- a refused log
+abbrev pub refused_form : List ℕ
+refused_form = text "log=# answer=#\n"
+
+abbrev pub refused_line : (log answer : ℕ) → List ℕ
+refused_line n a = filled refused_form (n ∷ a ∷ [])
+
+-- the totals, under the keys of a log's counts
+abbrev pub totals_form : List ℕ
+totals_form = text "open=# stopped=# invalid=# taken=# undoing=# undone=#\n"
+
+abbrev pub totals_line : (totals : List ℕ) → List ℕ
+totals_line ts = filled totals_form ts
+
+-- ---- a text put into a lent buffer
+-- the room that a line of the sheet asks for, and any other
+abbrev pub sheet_room : ℕ
+sheet_room = 160
+
+abbrev pub line_room : ℕ
+line_room = 96
+
 -- t stands in the list from `at` on, all else is as it was, and `ends` is where t ends
 pub record Put (before : List ℕ) (at : ℕ) (t : List ℕ) (end : ℕ) (after : List ℕ) : Type 0 where
   pub ends : end ≡ at + length t
   pub holds : after ≡ sets before at t
 
--- a line written into a lent buffer that has room for 96 bytes: the line, then what stood behind it. Else nothing
-pub record Written (before line : List ℕ) (size : ℕ) (after : List ℕ) : Type 0 where
-  pub sized : size ≡ cond (leb 96 (length before)) (length line) 0
+-- a line written into a lent buffer that has room for so many bytes: the line, then what stood behind it. Else nothing
+pub record WrittenIn (room : ℕ) (before line : List ℕ) (size : ℕ) (after : List ℕ) : Type 0 where
+  pub sized : size ≡ cond (leb room (length before)) (length line) 0
   pub fits : size ≤ length before
-  pub holds : after ≡ cond (leb 96 (length before)) (line ++ drop (length line) before) before
+  pub holds : after ≡ cond (leb room (length before)) (line ++ drop (length line) before) before
+
+-- the same of a buffer that has room for 96 bytes
+abbrev pub Written : (before line : List ℕ) (size : ℕ) (after : List ℕ) → Type 0
+Written before line size after = WrittenIn 96 before line size after

@@ -44,7 +44,7 @@ const FRESH: [u8; 64] = *b"\ncall=fresh remembers=#B............................
 
 // Where the line so far leads: a place of the table; how much has come of what a mark there takes; the number that is being
 // read; how many bytes of the room are taken by what ended; and how many numbers of an entry ended that itself has not.
-#[derive(Drop)]
+#[derive(Clone, Copy)]
 pub struct Reader {
     at: usize,
     sub: u8,
@@ -54,7 +54,7 @@ pub struct Reader {
 }
 
 // What a line asks for, with its numbers; the pairs of an append and the entries of an import stand in the room.
-#[derive(Drop)]
+#[derive(Clone, Copy)]
 pub enum Call {
     Unreadable,
     Append,
@@ -91,7 +91,7 @@ pub enum Call {
 // pairs, the first five of them at most; of a night the node, the budget and its outcomes, 257 of them at most; of an import its
 // entries as the controller takes them, 257 of them at most, one of more than four pairs as one of five. Five pairs are refused
 // as more are, 257 outcomes and 257 entries too, so that no answer tells the difference.
-#[derive(Drop)]
+#[derive(Clone, Copy)]
 pub struct Line {
     pub call: Call,
     pub length: usize,

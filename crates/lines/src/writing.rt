@@ -2,12 +2,17 @@
 // which nearly every line is answered with, is written key by key; the others are forms filled in letter by letter.
 ghost use Rattle.std.specs.Prelude.{◌≡◌, ◌+◌, ◌≤◌, ◌<◌, length, get_or, ◌++◌};
 ghost use Rattle.lines.specs.Decimal.{decimal};
-ghost use Rattle.lines.specs.Replies.{filled_at, next_at, filled, room_of, reply_line, why_line, night_line, import_line, owner_line, closing_line, Put, Written};
+ghost use Rattle.lines.specs.Replies.{filled_at, next_at, filled, room_of, reply_line, why_line, night_line, import_line, owner_line, closing_line, log_line, refused_line, totals_line, sheet_room, Put, Written, WrittenIn};
 
 use kinds::Reply;
 
+// The room that a line asks for: one of the sheet, and any other.
+pub const SHEET_ROOM: usize = 160;
+
+pub const LINE_ROOM: usize = 96;
+
 // The decimal digits of `n` from `at` on; answers where they end.
-fn put_decimal(out: &mut [u8], at: usize, n: u32) -> usize
+pub fn put_decimal(out: &mut [u8], at: usize, n: u32) -> usize
     requires { at + length (decimal n) ≤ length out.old }
     ensures { Put out.old at (decimal n) result out.new }
 {
@@ -21,7 +26,7 @@ fn put_decimal(out: &mut [u8], at: usize, n: u32) -> usize
 }
 
 // The bytes of `t` from `at` on; answers where they end.
-fn put_text(out: &mut [u8], at: usize, t: &[u8]) -> usize
+pub fn put_text(out: &mut [u8], at: usize, t: &[u8]) -> usize
     requires { at + length t.now ≤ length out.old }
     ensures { Put out.old at t.now result out.new }
 {
@@ -34,7 +39,7 @@ fn put_text(out: &mut [u8], at: usize, t: &[u8]) -> usize
 }
 
 // A key of a form, and the number that stands behind it.
-fn put_keyed(out: &mut [u8], at: usize, key: &[u8], n: u32) -> usize
+pub fn put_keyed(out: &mut [u8], at: usize, key: &[u8], n: u32) -> usize
     requires { at + length (key.now ++ decimal n) ≤ length out.old }
     ensures { Put out.old at (key.now ++ decimal n) result out.new }
 {
@@ -46,7 +51,7 @@ fn put_keyed(out: &mut [u8], at: usize, key: &[u8], n: u32) -> usize
 pub fn write_reply(out: &mut [u8], reply: Reply) -> usize
     ensures { Written out.old (reply_line reply) result out.new }
 {
-    if out.len() < 96 {
+    if out.len() < LINE_ROOM {
         return 0;
     }
     let event = reply.event;
@@ -93,13 +98,13 @@ fn next_at(c: u8, k: usize) -> usize
     k
 }
 
-// The length of a form's line, filled in and written at the start of `out`; 0 and nothing written where `out` has no room for
-// 96 bytes.
-fn write_form(out: &mut [u8], form: &[u8], numbers: &[u32]) -> usize
-    requires { room_of form.now ≤ 96 }
-    ensures { Written out.old (filled form.now numbers.now) result out.new }
+// The length of a form's line, filled in and written at the start of `out`; 0 and nothing written where `out` has not so
+// much room.
+fn write_form_in(out: &mut [u8], room: usize, form: &[u8], numbers: &[u32]) -> usize
+    requires { (room_of form.now ≤ room) × (room ≤ 65536) }
+    ensures { WrittenIn room out.old (filled form.now numbers.now) result out.new }
 {
-    if out.len() < 96 {
+    if out.len() < room {
         return 0;
     }
     let mut at = 0;
@@ -112,6 +117,14 @@ fn write_form(out: &mut [u8], form: &[u8], numbers: &[u32]) -> usize
         i += 1;
     }
     at
+}
+
+// The same of a line that asks for 96 bytes.
+fn write_form(out: &mut [u8], form: &[u8], numbers: &[u32]) -> usize
+    requires { room_of form.now ≤ 96 }
+    ensures { Written out.old (filled form.now numbers.now) result out.new }
+{
+    write_form_in(out, LINE_ROOM, form, numbers)
 }
 
 // The answer of `why`.
@@ -165,6 +178,69 @@ pub fn write_closing(
     write_form(
         out,
         b"committed=# committed_ordinal=# applied=# applied_ordinal=#\n",
+        &numbers,
+    )
+}
+
+fn wide(x: u8) -> u32
+    ensures { result ≡ x }
+{
+    x as u32
+}
+
+fn wide16(x: u16) -> u32
+    ensures { result ≡ x }
+{
+    x as u32
+}
+
+// The line of a log: its counts, class 1 first, the mask of the paths that differ, and how many they are.
+pub fn write_log(out: &mut [u8], log: u16, counts: [u8; 6], mask: u32, drift: u8) -> usize
+    ensures { WrittenIn sheet_room out.old (log_line log counts mask drift) result out.new }
+{
+    let numbers = [
+        wide16(log),
+        wide(counts[0]),
+        wide(counts[1]),
+        wide(counts[2]),
+        wide(counts[3]),
+        wide(counts[4]),
+        wide(counts[5]),
+        mask,
+        wide(drift),
+    ];
+    write_form_in(
+        out,
+        SHEET_ROOM,
+        b"log=# open=# stopped=# invalid=# taken=# undoing=# undone=# mask=# drift=#\n",
+        &numbers,
+    )
+}
+
+// That of a log which is refused.
+pub fn write_refused(out: &mut [u8], log: u16, answer: u8) -> usize
+    ensures { WrittenIn sheet_room out.old (refused_line log answer) result out.new }
+{
+    let numbers = [log as u32, answer as u32];
+    write_form_in(out, SHEET_ROOM, b"log=# answer=#\n", &numbers)
+}
+
+// That of the totals, class 1 first.
+pub fn write_totals(out: &mut [u8], totals: [u16; 6]) -> usize
+    ensures { WrittenIn sheet_room out.old (totals_line totals) result out.new }
+{
+    let numbers = [
+        wide16(totals[0]),
+        wide16(totals[1]),
+        wide16(totals[2]),
+        wide16(totals[3]),
+        wide16(totals[4]),
+        wide16(totals[5]),
+    ];
+    write_form_in(
+        out,
+        SHEET_ROOM,
+        b"open=# stopped=# invalid=# taken=# undoing=# undone=#\n",
         &numbers,
     )
 }

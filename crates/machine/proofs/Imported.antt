@@ -334,6 +334,7 @@ module _ (es : List Entry) (short : length es ≤ 256) (good : GoodUpTo es (leng
     where
       more : Goes es k → (e : Entry) → entry_after es k ≡ e → Good es k e → Goes es (suc k)
       more g (adds ps) e (change v m) = record { places = _; state = _; ready = ready_change l short g.ready ps e v m }
+      more g neither e h = elim h [ ]
       more g (undoes p) e (rollback n) =
           let h = newest_kept es k g.places g.ready.kept p n in
           record { places = h.rest; state = _; ready = ready_rollback l short (subst (λ ls. Ready es k ls g.state) h.is g.ready) e }
@@ -364,6 +365,7 @@ module _ (es : List Entry) (short : length es ≤ 256) (good : GoodUpTo es (leng
     where
       go : (x : Entry) → x ≡ undoes p → Good es k x → Goes es k → (run false (calls_up_to es k)).state.committed.head.revision.0 ≡ number_at es p
       go (adds ps) z (change v m) g = no_change refl z
+      go neither z h g = elim h [ ]
       go (undoes q) z (rollback n) g =
           let h = newest_kept es k g.places g.ready.kept q n in
           ap (λ s. s.committed.head.revision.0) g.ready.is ∙ g.ready.tip ∙ ap (λ ls. tip_of (map (number_at es) ls)) h.is ∙ ap (number_at es) (same_place refl z)
@@ -389,6 +391,7 @@ module _ (es : List Entry) (short : length es ≤ 256) (good : GoodUpTo es (leng
             omega (arith, z, r.size, m),
           )
       go (undoes p) x (rollback n) g = no_change e x
+      go neither x h g = elim h [ ]
 
   pub entered_rollback : (k p : ℕ) → k < length es → entry_after es k ≡ undoes p
       → (let s = (run false (calls_up_to es k)).state in
@@ -399,6 +402,7 @@ module _ (es : List Entry) (short : length es ≤ 256) (good : GoodUpTo es (leng
           → (let s = (run false (calls_up_to es k)).state in
           ((run false (calls_up_to es (suc k))).state ≡ one.undone s) × (1 ≤ s.committed.head.revision.0) × (s.committed.head.revision.0 ≤ last s.log))
       go (adds ps) z x (change v m) g = no_change refl z
+      go neither z x h g = elim h [ ]
       go (undoes q) z x (rollback n) g =
           let h = newest_kept es k g.places g.ready.kept q n in
           let r = subst (λ ls. Ready es k ls g.state) h.is g.ready in

@@ -82,6 +82,7 @@ Falls b (x ∷ xs) = (x < b) × Falls x xs
 
 pub falls_low : (b : ℕ) (xs : List ℕ) → Falls b xs → (p : ℕ) → In p xs → p < b
 unfolding Falls
+falls_low b [] f p i = elim i [ ]
 falls_low b (x ∷ xs) f p (here e) = omega (arith, e, f.0)
 falls_low b (x ∷ xs) f p (there i) = let z = falls_low x xs f.1 p i in omega (arith, z, f.0)
 
@@ -194,6 +195,7 @@ unfolding Falls
 newest_kept es k ls x p n = go ls x (x.all p n.live)
   where
     go : (ls : List ℕ) → Kept es k ls → In p ls → Heads p ls
+    go [] x i = elim i [ ]
     go (y ∷ ys) x (here z) = record { rest = ys; is = ap (λ a. a ∷ ys) (sym z) }
     go (y ∷ ys) x (there i) = absurd (n.newest y (falls_low y ys x.falls.1 p i) (x.live y (here refl)))
 

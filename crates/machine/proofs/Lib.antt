@@ -17,11 +17,14 @@ pub mod ImportWitnesses
 pub mod OwnerWitnesses
 pub mod RememberWitnesses
 pub mod ClassWitnesses
+pub mod TakenWitnesses
+pub mod SheetWitnesses
 pub mod Worked
 pub mod Traps
 pub mod Reconnected
 pub mod Retried
 pub mod Remembered
+pub mod Sheeted
 pub mod Waits
 pub mod Turns
 pub mod Judged

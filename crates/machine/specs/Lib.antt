@@ -10,6 +10,7 @@ pub mod Rest
 pub mod Folding
 pub mod LiveList
 pub mod Owner
+pub mod Taken
 pub mod Reads
 pub mod Calls
 pub mod Step
@@ -23,6 +24,7 @@ pub mod FoldSessions
 pub mod Why
 pub mod WhySessions
 pub mod Class
+pub mod Sheet
 pub mod Night
 pub mod NightSessions
 pub mod PushSessions

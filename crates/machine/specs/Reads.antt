@@ -6,6 +6,9 @@ use Rattle.kinds.specs.declared.Connection.{Connection}
 use Rattle.kinds.specs.Statuses.{code_of, progress_code}
 use Rattle.machine.specs.State.{State, entry_of, last, in_log, is_kept, is_node, node_of}
 use Rattle.machine.specs.Owner.{owner_of}
+use Rattle.machine.specs.Class.{class_of}
+use Rattle.machine.specs.Taken.{took, undid}
+use Rattle.machine.specs.Sheet.{mask_of}
 
 -- what is asked; fields are counted from 1, in the order of the numbers below
 pub data Query : Type 0 where
@@ -14,6 +17,10 @@ pub data Query : Type 0 where
   of_state : (field : ℕ) → Query  -- what the state has once
   of_node : (node field : ℕ) → Query  -- a connection's
   of_owner : (path : ℕ) → Query  -- who set a path (order 7)
+  of_class : (number : ℕ) → Query  -- a transaction's class (order 11)
+  of_took : (number : ℕ) → Query  -- whether the switch took a change
+  of_undone : (number : ℕ) → Query  -- and whether it was undone
+  of_drift : Query  -- the paths at which Committed and Applied differ, as a mask (order 11)
 
 pub record Answer : Type 0 where
   pub answer : ℕ
@@ -72,6 +79,10 @@ node_numbers x = x.id ∷ flag x.connected ∷ []
 abbrev pub table_numbers : State → ℕ → List ℕ
 table_numbers s b = cond (eqb b 1) s.committed.values (cond (eqb b 2) s.applied.values (cond (eqb b 3) s.net.values s.log.base))
 
+-- of a number that is kept
+abbrev pub shows_kept : State → (number value : ℕ) → Answer
+shows_kept s i v = unless 5 (in_log s i) (unless 18 (is_kept s i) (shows v))
+
 -- ---- what is answered (1 comes first, where the state is an image's)
 unfoldable pub read : State → Query → Answer
 read s (of_table b p) = unless 2 (is_field 4 b && ltb p 32) (shows (get_or (table_numbers s b) p 0))
@@ -79,3 +90,7 @@ read s (of_entry i f) = unless 2 (is_field 21 f) (unless 5 (in_log s i) (unless 
 read s (of_state f) = unless 2 (is_field 18 f) (shows (field_of (state_numbers s) f))
 read s (of_node n f) = unless 2 (is_node n && is_field 2 f) (shows (field_of (node_numbers (node_of s.net.connections n)) f))
 read s (of_owner p) = unless 2 (ltb p 32) (shows (owner_of s p))
+read s (of_class i) = shows_kept s i (class_of (entry_of s.log i))
+read s (of_took i) = shows_kept s i (flag (took s.log s.applied.head.ordinal.0 i))
+read s (of_undone i) = shows_kept s i (flag (undid s.log s.applied.head.ordinal.0 i))
+read s of_drift = shows (mask_of s)

@@ -1,5 +1,7 @@
 // The mastership record, lent by `&mut`: its call changes it where the caller keeps it. It is thin over the rule on the
 // record's master, term and conn; whoever has the record by value calls `master_of`.
+#![tactic(auto)]
+
 ghost use Rattle.std.specs.Prelude.{◌≡◌};
 ghost use Rattle.mastership.specs.Lent.{master_by, Masters};
 ghost use Rattle.mastership.specs.Promises.{MastersOf};

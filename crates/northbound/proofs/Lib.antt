@@ -3,3 +3,4 @@ pub mod Packed
 pub mod Wider
 pub mod WiderWhy
 pub mod WiderNight
+pub mod WiderTally

@@ -12,7 +12,7 @@ use Rattle.kinds.specs.Events.{refusal}
 use Rattle.machine.specs.State.{last, in_log, is_kept, is_node}
 use Rattle.machine.specs.WellFormed.{all_entries, entry_ok, sizes_ok, heads_ok, log_ok, well_formed}
 use Rattle.machine.specs.Calls.{Call, Outcome, rollback, connect, disconnect, master, sync, work, fold_to, unless, refused, work_ok, decide}
-use Rattle.machine.specs.Reads.{Query, Answer, of_table, of_entry, of_state, of_node, of_owner, is_field, read}
+use Rattle.machine.specs.Reads.{Query, Answer, of_table, of_entry, of_state, of_node, of_owner, of_class, of_took, of_undone, is_field, read}
 use Rattle.machine.specs.Reads as reads
 use Rattle.machine.proofs.Cases.{and_left, and_right}
 use Rattle.image.specs.Records.{flag_of}
@@ -262,6 +262,18 @@ module _ (l : List ℕ) where
   pub far_mark : (i f : ℕ) → 65535 < f → Far (of_entry i f)
   unfolding read_of read
   far_mark i f h = sym (ap shown.given (refuse_read (is_field 21 f) _ (past 1 21 f (omega arith))))
+
+  pub wide_class : (i : ℕ) → read_of l (of_class (narrowed none i)) ≡ read_of l (of_class i)
+  unfolding read_of read
+  wide_class i = either (λ x. read_of l (of_class x)) none i (λ h. ap shown.given (read_5 (formed l) true (in_log (view l) i) _ (past_last i h)))
+
+  pub wide_took : (i : ℕ) → read_of l (of_took (narrowed none i)) ≡ read_of l (of_took i)
+  unfolding read_of read
+  wide_took i = either (λ x. read_of l (of_took x)) none i (λ h. ap shown.given (read_5 (formed l) true (in_log (view l) i) _ (past_last i h)))
+
+  pub wide_undone : (i : ℕ) → read_of l (of_undone (narrowed none i)) ≡ read_of l (of_undone i)
+  unfolding read_of read
+  wide_undone i = either (λ x. read_of l (of_undone x)) none i (λ h. ap shown.given (read_5 (formed l) true (in_log (view l) i) _ (past_last i h)))
 
   pub wide_record : (f : ℕ) → read_of l (of_state (narrowed outside f)) ≡ read_of l (of_state f)
   unfolding read_of read

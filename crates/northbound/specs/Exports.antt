@@ -14,7 +14,8 @@ use Rattle.controller.specs.Reads.{read_of}
 use Rattle.controller.specs.Reasons.{why_of}
 use Rattle.controller.specs.Nights.{lent_from, room_after, given, night_in}
 use Rattle.controller.specs.Imports.{import_in, told, image_after}
-use Rattle.northbound.specs.Packing.{Packs, PacksRead, PacksListed, PacksWhy, PacksNight, PacksImport}
+use Rattle.controller.specs.Tallies.{tally_of, totals_after}
+use Rattle.northbound.specs.Packing.{Packs, PacksRead, PacksListed, PacksWhy, PacksNight, PacksImport, PacksTally}
 
 abbrev pub Claims : List ℕ → Call → ℕ → List ℕ → Type 0
 Claims l c p m = Packs (outcome_of l c).reply p × (m ≡ written l (outcome_of l c).stores)
@@ -38,6 +39,9 @@ Nights l n b os m p l' m' =
 
 abbrev pub Imports : (image list : List ℕ) → ℕ → (image : List ℕ) → Type 0
 Imports l b p m = let x = import_in l b in PacksImport (told x) p × (m ≡ image_after x l)
+
+abbrev pub Tallies : (image : List ℕ) → (log : ℕ) → (totals : List ℕ) → ℕ → (totals : List ℕ) → Type 0
+Tallies l k m p m' = PacksTally (tally_of l k m) p × (m' ≡ totals_after l k m)
 
 -- 0 where it is well-formed, else the refusal
 abbrev pub answer_of : Bool → ℕ

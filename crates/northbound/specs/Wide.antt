@@ -6,7 +6,7 @@ use Rattle.northbound.specs.declared.Job.{Job}
 abbrev pub narrowed : ℕ → ℕ → ℕ
 narrowed far x = cond (leb x 65535) x far
 
--- in the range of no node, job, outcome, cut, budget, table, path or field
+-- in the range of no node, job, outcome, cut, budget, table, path or field, and the place of no log
 abbrev pub outside : ℕ
 outside = 65535
 

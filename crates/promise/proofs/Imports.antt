@@ -17,6 +17,7 @@ use Rattle.machine.specs.Calls.{Call, values_ok}
 use Rattle.machine.specs.Step.{step, run, state_from}
 use Rattle.machine.specs.Notes.{notes}
 use Rattle.machine.specs.WellFormed.{pairs_ok}
+use Rattle.machine.specs.Reads.{of_class, of_took, of_undone}
 use Rattle.machine.specs.Import.{Entry, Verdict, judged_from, judged, pairs_at, entry_in, entries_from, entries_of, import_calls, Import, import, import_by, import_of}
 use Rattle.machine.specs.Imports as machine
 use Rattle.machine.proofs.Judged.{judged_so}
@@ -35,7 +36,7 @@ use Rattle.controller.specs.Fresh.{Freshens}
 use Rattle.controller.specs.Nights.{lent_from, night_in, Nights}
 use Rattle.controller.specs.Imports.{Imports, import_in, told, image_after, Listed}
 use Rattle.controller.proofs.Freshened.{fresh_is, is_fresh}
-use Rattle.controller.proofs.Imported.{list_length}
+use Rattle.controller.proofs.Importing.{list_length}
 use Rattle.northbound.specs.Packing.{unpacked, unpacked_read, unpacked_import, unpacked_night, unpacked_why}
 use Rattle.northbound.specs.Exports as north
 use Rattle.link.specs.Runs.{Calling, none, next, replies_from}
@@ -54,6 +55,7 @@ use Rattle.promise.proofs.Promise.{reached_3, reached_3_c}
 use Rattle.promise.proofs.Nights.{Reached, acted, acting_calls, six_enough, acting_in_c, night_in_c}
 use Rattle.promise.proofs.Explained.{why_in_c, why_explained}
 use Rattle.promise.proofs.Owned.{owner_in_c, owner_listed}
+use Rattle.promise.proofs.Audited.{read_audited, read_in_c}
 
 -- ---- what is answered
 answers_so : (l b : List ℕ) → Answers l b (told (import_in l b))
@@ -301,4 +303,7 @@ module _ (l b : List ℕ) (p : ℕ) (m : List ℕ) (q : north.Imports l b p m) w
           owned = λ k w z e.
               subst (λ (fs : List Event). Owned fs m' k (unpacked_read w)) x.events
               (owner_listed false (fresh_image false) (fresh_image false) (refusal 0) (length_fresh false) f x.calls k (unpacked_read w) z (owner_in_c m' k w e));
+          audited = λ k t u v w y z n.
+              read_audited false (fresh_image false) (fresh_image false) (refusal 0) (length_fresh false) f (import_acting l b (unpacked_import p) m i a (acting_in_c d))
+              k (unpacked_read t) (unpacked_read u) (unpacked_read v) w (read_in_c m' (of_took k) t y) (read_in_c m' (of_undone k) u z) (read_in_c m' (of_class k) v n);
         }

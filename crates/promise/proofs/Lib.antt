@@ -5,5 +5,7 @@ pub mod Explained
 pub mod EventRoom
 pub mod Nights
 pub mod Owned
+pub mod Audited
 pub mod Remembered
 pub mod Imports
+pub mod Sheeted

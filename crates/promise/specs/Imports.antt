@@ -5,7 +5,7 @@ use Rattle.kinds.specs.declared.Reply.{Reply}
 use Rattle.kinds.specs.declared.Event.{Event}
 use Rattle.machine.specs.Calls.{Call}
 use Rattle.machine.specs.Step.{run}
-use Rattle.machine.specs.Reads.{of_owner}
+use Rattle.machine.specs.Reads.{of_owner, of_class, of_took, of_undone}
 use Rattle.machine.specs.Import.{Verdict, entries_of, import_calls}
 use Rattle.machine.specs.Imports.{Verdicts}
 use Rattle.machine.specs.Imports as machine
@@ -23,6 +23,7 @@ use Rattle.promise.specs.Demands.{Demand3C}
 use Rattle.promise.specs.Reasons.{Explained}
 use Rattle.promise.specs.Nights.{Accepted, AreCalls, Suffices}
 use Rattle.promise.specs.Owners.{Owned}
+use Rattle.promise.specs.Audits.{Keeps, Audited}
 
 -- ---- any bytes: an import of the list b on the image l was answered r, and left m
 -- 1 where the image has another length; else 2 where the bytes are no list of at most 256 entries; else the verdict on its entries
@@ -70,3 +71,6 @@ pub record BehindC (b : List ℕ) (cs : List Call) (es : List Event) (m : List �
   pub explained : (n j i x : ℕ) → north.Explains m n j i x → (unpacked_why x).answer ≡ 0 → Explained (events_with b es) m j i (unpacked_why x)
   -- who makowist_owner names is who set the path (order 7)
   pub owned : (p x : ℕ) → p < 32 → north.Shows m (of_owner p) x → Owned (events_with b es) m p (unpacked_read x)
+  -- and what makowist_took, makowist_undone and makowist_class tell of a number that is kept is so (order 11)
+  pub audited : (k t u c : ℕ) → Keeps m k → north.Shows m (of_took k) t → north.Shows m (of_undone k) u → north.Shows m (of_class k) c
+      → Audited (events_with b es) m k (unpacked_read t) (unpacked_read u) (unpacked_read c)

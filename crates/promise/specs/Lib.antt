@@ -4,5 +4,7 @@ pub mod Retry
 pub mod Reasons
 pub mod Nights
 pub mod Owners
+pub mod Audits
 pub mod Remember
 pub mod Imports
+pub mod Sheets

@@ -1,5 +1,5 @@
 -- A SWITCH THAT REMEMBERS, on bytes (order 13; of states: machine's Remember). What C is answered, unpacked, is such a reply
--- (Promise.in-c). No proof in it; proved in Remembered. Assumes nothing.
+-- (Promise.in_c). No proof in it; proved in Remembered. Assumes nothing.
 use Rattle.std.specs.Prelude.{ℕ, ◌<◌, ◌≡◌, Bool, not, cond, List, [], ◌∷◌, map, eqb, length, get_or}
 use Rattle.kinds.specs.declared.Configuration.{Configuration}
 use Rattle.kinds.specs.declared.Progress.TheVariants.{InProgress}

@@ -1,5 +1,5 @@
 -- A RETRY, on bytes (orders 3 and 8; of states: machine's Retry). After a crash call it again: the image is the uncut job's.
--- What C is answered, unpacked, is such a reply (Promise.in-c). No proof in it; proved in Retried. Assumes nothing.
+-- What C is answered, unpacked, is such a reply (Promise.in_c). No proof in it; proved in Retried. Assumes nothing.
 use Rattle.std.specs.Prelude.{ℕ, ◌+◌, ◌-◌, ◌≤◌, ◌<◌, ◌≡◌, true, List, eqb, length, get_or}
 use Rattle.kinds.specs.declared.Reply.{Reply}
 use Rattle.fields.proofs.Laws.{Bytes}
@@ -43,7 +43,7 @@ pub record Retry (l : List ℕ) (n : ℕ) (a b d : Reply) (m u : List ℕ) : Typ
   pub uncut : Claims l (work n job number outcome 0) d u
 
 -- what is promised: the two images agree in every byte but other nodes' connections (and after the same calls between, in
--- every byte: Retried.retry-then); of the two calls one gives the uncut job's answer and event, the other is accepted and
+-- every byte: Retried.retry_then); of the two calls one gives the uncut job's answer and event, the other is accepted and
 -- gives none
 pub record Harmless (n : ℕ) (a b d : Reply) (m u : List ℕ) : Type 0 where
   pub length : length m ≡ length u

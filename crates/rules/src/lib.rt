@@ -1,5 +1,7 @@
 // The paper's rules as pure functions over small records by value: each decides a plan and stores nothing.
 // The types are here; specs/ has the paper's rules, and each module the code of the definitions of the same name.
+#![tactic(auto)]
+
 use kinds::{Configuration, Connection, Event, Head, Mastership, Target, Transaction};
 
 mod plans; // plans.rt: the six kinds of plan
@@ -19,7 +21,7 @@ pub use outside::{
 };
 
 // Which of a rule's stores come, and in which order; an accepted push stores the target's values first.
-#[derive(Drop)]
+#[derive(Clone, Copy)]
 pub enum Order {
     Neither,
     EntryOnly,
@@ -30,14 +32,14 @@ pub enum Order {
 }
 
 // The committed values and the owners at a change's paths, unused places 0.
-#[derive(Drop)]
+#[derive(Clone, Copy)]
 pub struct Present {
     pub values: [u16; 4],
     pub owners: [u16; 4],
 }
 
 // Which values the head's store lays over those at the entry's paths: none, the change's, or r.values.
-#[derive(Drop)]
+#[derive(Clone, Copy)]
 pub enum Lay {
     Nothing,
     Values,
@@ -45,7 +47,7 @@ pub enum Lay {
 }
 
 // What a rule of a job decides; `change` says whether Committed's change becomes the job's number.
-#[derive(Drop)]
+#[derive(Clone, Copy)]
 pub struct Plan {
     pub answer: u8,
     pub event: Event,
@@ -57,7 +59,7 @@ pub struct Plan {
 }
 
 // What jobs 1 and 3 ask of Committed and of the call.
-#[derive(Drop)]
+#[derive(Clone, Copy)]
 pub struct CommitTests {
     pub ready: bool,
     pub aimed: bool,
@@ -67,7 +69,7 @@ pub struct CommitTests {
     pub landed: bool,
 }
 
-#[derive(Drop)]
+#[derive(Clone, Copy)]
 pub enum CommitChangeRule {
     Begin,
     Aim,
@@ -79,7 +81,7 @@ pub enum CommitChangeRule {
     Wait,
 }
 
-#[derive(Drop)]
+#[derive(Clone, Copy)]
 pub enum CommitRollbackRule {
     Begin,
     Aim,
@@ -90,7 +92,7 @@ pub enum CommitRollbackRule {
 }
 
 // What job 2 asks of the entry, of Applied, of the line and of the call.
-#[derive(Drop)]
+#[derive(Clone, Copy)]
 pub struct ApplyChangeTests {
     pub committed: bool,
     pub next: bool,
@@ -104,7 +106,7 @@ pub struct ApplyChangeTests {
     pub accepted: bool,
 }
 
-#[derive(Drop)]
+#[derive(Clone, Copy)]
 pub enum ApplyChangeRule {
     Begin,
     Aim,
@@ -118,7 +120,7 @@ pub enum ApplyChangeRule {
 }
 
 // What job 4 asks of the entry, of Applied, of the line and of the call.
-#[derive(Drop)]
+#[derive(Clone, Copy)]
 pub struct ApplyRollbackTests {
     pub committed: bool,
     pub next: bool,
@@ -131,7 +133,7 @@ pub struct ApplyRollbackTests {
     pub accepted: bool,
 }
 
-#[derive(Drop)]
+#[derive(Clone, Copy)]
 pub enum ApplyRollbackRule {
     Begin,
     Aim,
@@ -145,28 +147,28 @@ pub enum ApplyRollbackRule {
 }
 
 // What start and stop answer, and the target after them.
-#[derive(Drop)]
+#[derive(Clone, Copy)]
 pub struct Targeted {
     pub answer: u8,
     pub target: Target,
 }
 
 // What connect and disconnect answer, and the connection after them.
-#[derive(Drop)]
+#[derive(Clone, Copy)]
 pub struct Connected {
     pub answer: u8,
     pub connection: Connection,
 }
 
 // What mastership answers, and the record after it.
-#[derive(Drop)]
+#[derive(Clone, Copy)]
 pub struct Mastered {
     pub answer: u8,
     pub mastership: Mastership,
 }
 
 // What synchronise answers, the configuration after it, and whether the applied values go to the target.
-#[derive(Drop)]
+#[derive(Clone, Copy)]
 pub struct Synchronised {
     pub answer: u8,
     pub configuration: Configuration,

@@ -29,7 +29,7 @@ use Rattle.image.proofs.UpTo.{and_left, and_right, kept_at, kept_from}
 use Rattle.image.proofs.Kept.{Apart, statuses_kept, last_kept, folded_kept}
 use Rattle.image.proofs.Scanned.{Room}
 use Rattle.image.proofs.Packed.{packed_low}
-use Rattle.image.proofs.Sized.{SizedEntry, SizedConnections, progress_low, flag_low, entry_room, configuration_room, target_room, connections_room, eight_all}
+use Rattle.image.proofs.Sized.{SizedEntry, SizedConnections, progress_low, flag_low, entry_room_holds, configuration_room, target_room, connections_room, eight_all}
 use Rattle.image.proofs.Shown.{Fits, FitsAll, entries_apart, entry_outside, grow_outside, length_write, ends_write, room_write, rest_fits}
 
 -- ---- the flags, in the three runs where they lie
@@ -133,7 +133,7 @@ module _ (l : List ℕ) (z : length l ≡ image_length) (f : Room (folded_of l) 
   -- ---- entries
   stored : (i : ℕ) (t : Transaction) → SizedEntry t → statuses_ok (put_entry_at l i t) (place_of i) ≡ true
   unfolding put_entry_at
-  stored i t h = stored_statuses _ (place_of i) t (puts_same entry_widths (entry_numbers t) l (place_of i) (entry_room t h) (omega arith))
+  stored i t h = stored_statuses _ (place_of i) t (puts_same entry_widths (entry_numbers t) l (place_of i) (entry_room_holds t h) (omega arith))
 
   -- another kept number's
   others : (i : ℕ) (t : Transaction) → folded_of l < i → i ≤ folded_of l + slots → (k : ℕ) → folded_of l < k → k ≤ last_of l → (k ≡ i → ⊥)

@@ -32,7 +32,7 @@ use Rattle.staying.proofs.Both.{put_both, puts_both}
 flags : (l : List ℕ) → formed l ≡ true → flags_ok l ≡ true
 flags l w = and_right (all_kept (entry_statuses_ok l) (folded_of l) (last_of l)) _ (and_right (leb (folded_of l) (last_of l)) _ (formed_codes l w))
 
-statuses : (l : List ℕ) → formed l ≡ true → (k : ℕ) → folded_of l < k → k ≤ last_of l → statuses_ok l (place_of k) ≡ true
+pub statuses : (l : List ℕ) → formed l ≡ true → (k : ℕ) → folded_of l < k → k ≤ last_of l → statuses_ok l (place_of k) ≡ true
 statuses l w = kept_at (entry_statuses_ok l) (folded_of l) (last_of l) (and_left _ _ (and_right (leb (folded_of l) (last_of l)) _ (formed_codes l w)))
 
 -- ---- a byte of the ring is in use or free

@@ -9,7 +9,6 @@ use lib.Dec.{eqb, ltb}
 use lib.ListN.{length, take, set, replicate, length-set}
 use lib.Seq.{sets, length-sets}
 use Rattle.kinds.specs.Outcome.{both}
-use Rattle.machine.specs.Import.{Entry}
 use Rattle.lines.specs.declared.reading.Reader.{Reader}
 use Rattle.lines.specs.Forms.{Asked, calls, why, night, imports, owner, freshly}
 use Rattle.lines.specs.Grammar.{Says, Item, plain, inner, close, undo}

@@ -1,15 +1,14 @@
 -- The answers that wait, and a line put behind them. Assumes nothing.
 use Prim.Native.Nat.{ℕ, ◌+◌, ◌-◌, ◌≤◌}
 use mathlib.Core.Path.{◌≡◌, refl, ap, ap₂, sym, subst, ◌∙◌}
-use mathlib.Core.Bool.{Bool, true}
-use mathlib.Core.List.{List, ◌++◌, append_assoc}
+use mathlib.Core.Bool.{Bool}
+use mathlib.Core.List.{List, ◌++◌}
 use native.Mathlib.Omega.{arith}
-use borrow.Author.Tests.{le-leb}
-use lib.Dec.{leb}
-use lib.ListN.{length, take, drop, length-drop, take-append-drop}
-use lib.Seq.{length-take-le, take-append-add, take-append_seam, drop-append-add, drop-append_seam, drop-append-le, drop-drop}
+use lib.ListN.{length, take, drop}
+use lib.Seq.{length-take-le, take-append-add, take-append_seam, drop-append-add, drop-append_seam, drop-drop}
 use Rattle.lines.specs.declared.reading.Line.{Line}
-use Rattle.lines.specs.Replies.{closing_line, Written}
+use Rattle.lines.specs.Replies.{closing_line, line_room, Written}
+use Rattle.lines.proofs.Putting.{part_written}
 use Rattle.controller.specs.declared.reads.Heads.{Heads}
 use Rattle.controller.specs.Reads.{heads_of}
 use Rattle.stepper.specs.declared.Answer.{Answer}
@@ -40,21 +39,9 @@ module _ (out : List ℕ) (used : ℕ) (t : List ℕ) where
       (w size : ℕ) (rest : List ℕ) → w ≡ 96 → used + 96 ≤ length out → Written (take w (drop used out)) t size rest →
       Puts out used t (used + size) (take used out ++ (rest ++ drop w (drop used out)))
   puts_in w size rest e h x =
-      let d : List ℕ = drop used out in
-      let n : w ≤ length d = omega (arith, length-drop used out, e) in
-      let q : length (take w d) ≡ w = length-take-le w d n in
-      let m : 96 ≤ length (take w d) = omega (arith, q, e) in
-      let g : leb 96 (length (take w d)) ≡ true = le-leb 96 (length (take w d)) m in
-      let s : size ≡ length t = rw g at x.sized in
-      let r : rest ≡ t ++ drop (length t) (take w d) = rw g at x.holds in
-      let f : length t ≤ 96 = omega (arith, s, q, e, x.fits) in
-      let i : length t ≤ length (take w d) = omega (arith, s, x.fits) in
-      let j : rest ++ drop w d ≡ t ++ drop (length t) d =
-      ap (λ (y : List ℕ). y ++ drop w d) r ∙ append_assoc t (drop (length t) (take w d)) (drop w d) ∙ ap (λ (y : List ℕ). t ++ y)
-      (sym (drop-append-le (length t) (take w d) (drop w d) i) ∙ ap (drop (length t)) (take-append-drop w d)) in
-      let z = spliced (omega arith) f in
-      subst (λ (y : List ℕ). Puts out used t (used + size) (take used out ++ y)) (sym j)
-      (subst (λ (k : ℕ). Puts out used t (used + k) (take used out ++ (t ++ drop (length t) d))) (sym s) z)
+      let z = part_written line_room out used t w size rest e h x in
+      subst (λ (y : List ℕ). Puts out used t (used + size) (take used out ++ y)) (sym z.2)
+      (subst (λ (k : ℕ). Puts out used t (used + k) (take used out ++ (t ++ drop (length t) (drop used out)))) (sym z.0) (spliced (omega arith) z.1))
 
   pub puts_written :
       (size : ℕ) (rest : List ℕ) → used + 96 ≤ length out → Written (take (used + 96 - used) (drop used out)) t size rest →

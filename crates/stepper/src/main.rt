@@ -1,9 +1,11 @@
 // The stepper: calls from standard input, one to a line, an answer to a line on standard output, and a closing line (paper:
 // Program and host). It reads a block, writes what its lines are answered, and reads on. It keeps one image, one block, one
 // buffer of answers, the reader of one line and the room that it is lent, whatever the input's length and its lines' length.
-// What is written is made by functions on slices; the reads and writes themselves, of which no contract can speak, stand in
-// `read_once`, `put` and `tell` alone.
-ghost use Rattle.std.specs.Prelude.{◌+◌, ◌*◌, ◌≤◌, ◌≡◌, length, take, get_or};
+// What is written is made by functions on slices; the reads and writes themselves, of which no contract can say what the system
+// gives or takes, stand in `read_once`, `put` and `tell` alone.
+#![tactic(auto)]
+
+ghost use Rattle.std.specs.Prelude.{◌+◌, ◌*◌, ◌≤◌, ◌≡◌, length, take, get_or, MatchResult};
 ghost use Rattle.lines.specs.Reading.{last_in};
 ghost use Rattle.lines.specs.Replies.{Written};
 ghost use Rattle.controller.specs.Bytes.{append_of};
@@ -18,13 +20,14 @@ ghost use Rattle.stepper.specs.Runs.{Reads, ReadsAll};
 
 use controller::{Imported, Night, Read, Why};
 use kinds::Reply;
-use libc::{STDERR_FILENO, STDIN_FILENO, STDOUT_FILENO};
 use lines::{Call, Line, Reader};
+use std::io;
+use std::process::ExitCode;
 
 // The room that a line of an answer asks for.
 const ANSWER: usize = 96;
 
-// The most bytes of one read: those of `io::buffer`.
+// The most bytes of one read.
 const BLOCK: usize = 4096;
 
 // Room for an answer to each byte of a block, for each may be a newline: so no answer waits while a block is fed.
@@ -32,7 +35,7 @@ const ANSWERS: usize = ANSWER * BLOCK;
 
 // Between two bytes: the line so far, whether it has a byte, how much of the buffer is answers not yet written, and whether no line
 // came before it.
-#[derive(Drop)]
+#[derive(Clone, Copy)]
 struct Session {
     line: Reader,
     begun: bool,
@@ -40,17 +43,24 @@ struct Session {
     first: bool,
 }
 
-// After a read: whether there may be more, and whether all was read and written that should have been.
-#[derive(Drop)]
+// What comes after a read: there may be more, or the input has ended; or it cannot be read, or the answers cannot be written.
+#[derive(Clone, Copy)]
+enum Next {
+    More,
+    Ended,
+    Unread,
+    Unwritten,
+}
+
+#[derive(Clone, Copy)]
 struct Turn {
     session: Session,
-    more: bool,
-    whole: bool,
+    next: Next,
 }
 
 // What a line is answered: a call's reply, why a job does not move, how a night went, whether a list was imported, or who set a
 // path.
-#[derive(Drop)]
+#[derive(Clone, Copy)]
 enum Answer {
     Replied(Reply),
     Explained(Why),
@@ -286,50 +296,71 @@ fn written(s: Session) -> Session
     }
 }
 
-// Says on standard error what failed: the language gives a program no other status than 0 to end with.
-fn tell(what: &[u8]) {
-    io::write_all(STDERR_FILENO, what);
+// Says on standard error what failed, if that can be written: there is nobody else to tell.
+fn tell<W: io::Write>(to: &mut W, what: &[u8]) -> ExitCode {
+    let _said = to.write_all(what);
+    ExitCode::FAILURE
 }
 
 // Writes the answers that wait, and answers whether all were taken.
-fn put(out: &[u8], used: usize) -> bool
+fn put<W: io::Write>(to: &mut W, out: &[u8], used: usize) -> bool
     requires { used ≤ length out.now }
 {
-    if io::write_all(STDOUT_FILENO, &out[..used]) {
-        return true;
-    }
-    tell(b"stepper: standard output cannot be written\n");
-    false
+    to.write_all(&out[..used]).is_ok()
 }
 
-// Whether what a read answered is no failure; else says so.
-fn readable(got: isize) -> bool {
-    if got < 0 {
-        tell(b"stepper: standard input cannot be read\n");
-        return false;
+// What comes after a read that was answered so, and a write that was taken or not.
+fn after_read(got: io::Result<usize>, sent: bool) -> Next {
+    if !sent {
+        return Next::Unwritten;
     }
-    true
+    match got {
+        Ok(0) => Next::Ended,
+        Ok(_) => Next::More,
+        Err(_) => Next::Unread,
+    }
+}
+
+// How many bytes a read has brought.
+fn count(got: &io::Result<usize>) -> usize
+    ensures { MatchResult got.now (λ n. result ≡ n) (λ e. result ≡ 0) }
+{
+    match got {
+        Ok(n) => *n,
+        Err(_) => 0,
+    }
 }
 
 // Reads once and writes the answer to every line that ended: who types a line sees its answer.
-fn read_once(image: &mut [u8], out: &mut [u8; ANSWERS], room: &mut [u8; 5140], s: Session) -> Turn
+fn read_once<R: io::Read, W: io::Write>(
+    from: &mut R,
+    to: &mut W,
+    image: &mut [u8],
+    out: &mut [u8; ANSWERS],
+    room: &mut [u8; 5140],
+    s: Session,
+) -> Turn
     ensures { Reads image.old room.old s result image.new room.new }
 {
-    let mut block = io::buffer();
-    let got = libc::read(STDIN_FILENO, &mut block);
-    let n = io::count(got, &block);
+    let mut block = [0u8; BLOCK];
+    let got = from.read(&mut block);
+    let n = count(&got);
     let session = feed(image, out, room, written(s), &block[..n]);
-    let sent = put(out, session.used);
-    let read = readable(got);
+    let sent = put(to, out, session.used);
     Turn {
         session,
-        more: (n > 0) & sent,
-        whole: read & sent,
+        next: after_read(got, sent),
     }
 }
 
-// Nothing says that the input ends, so the reads are counted down, from a number that no run uses up.
-fn read_all(image: &mut [u8], out: &mut [u8; ANSWERS], room: &mut [u8; 5140]) -> Turn
+// Nothing says that the input ends, so the reads are counted, up to a number that no run reaches.
+fn read_all<R: io::Read, W: io::Write>(
+    from: &mut R,
+    to: &mut W,
+    image: &mut [u8],
+    out: &mut [u8; ANSWERS],
+    room: &mut [u8; 5140],
+) -> Turn
     ensures { ReadsAll image.old room.old result.session image.new room.new }
 {
     let line = lines::fresh();
@@ -339,36 +370,55 @@ fn read_all(image: &mut [u8], out: &mut [u8; ANSWERS], room: &mut [u8; 5140]) ->
         used: 0,
         first: true,
     };
-    let mut reads = u64::MAX;
-    while reads > 0 {
-        let turn = read_once(image, out, room, session);
+    for _ in 0..u64::MAX {
+        let turn = read_once(from, to, image, out, room, session);
         session = turn.session;
-        if !turn.more {
+        if !matches!(turn.next, Next::More) {
             return turn;
         }
-        reads -= 1;
     }
     Turn {
         session,
-        more: true,
-        whole: false,
+        next: Next::Unread,
     }
 }
 
-// Writes what the input's end is answered: the last line, if it has no newline, and the closing line.
-fn write_end(image: &mut [u8], out: &mut [u8; ANSWERS], room: &mut [u8; 5140], s: Session) {
+// Writes what the input's end is answered: the last line, if it has no newline, and the closing line; answers whether all was
+// taken.
+fn write_end<W: io::Write>(
+    to: &mut W,
+    image: &mut [u8],
+    out: &mut [u8; ANSWERS],
+    room: &mut [u8; 5140],
+    s: Session,
+) -> bool {
     let used = end_input(image, out, room, written(s));
-    put(out, used);
+    put(to, out, used)
 }
 
 // After a failure no closing line is written: what was written is then known not to be the whole.
-fn main() {
+fn main(rt: HostRuntime) -> ExitCode {
     let mut image = [0u8; controller::IMAGE_LENGTH];
     controller::fresh(&mut image, 0);
     let mut out = [0u8; ANSWERS];
     let mut room = [0u8; 5140];
-    let turn = read_all(&mut image, &mut out, &mut room);
-    if turn.whole {
-        write_end(&mut image, &mut out, &mut room, turn.session);
+    let mut to = rt.stdout();
+    let turn = read_all(&mut rt.stdin(), &mut to, &mut image, &mut out, &mut room);
+    let whole = match turn.next {
+        Next::More | Next::Unread => {
+            return tell(
+                &mut rt.stderr(),
+                b"stepper: standard input cannot be read\n",
+            );
+        }
+        Next::Ended => write_end(&mut to, &mut image, &mut out, &mut room, turn.session),
+        Next::Unwritten => false,
+    };
+    if !whole {
+        return tell(
+            &mut rt.stderr(),
+            b"stepper: standard output cannot be written\n",
+        );
     }
+    ExitCode::SUCCESS
 }

@@ -31,10 +31,15 @@ pub enum Call {
     Owner,
     Why,
     Night,
+    Class,
+    Took,
+    Undone,
+    Tally,
 }
 
-/// The refusals of each call in their order: the paper's, with 9 in append, 17 and 18 as order 10 puts them, 15 as order 4.
-pub const ORDERS: [(Call, &[u8]); 19] = [
+/// The refusals of each call in their order: the paper's, with 9 in append, 17 and 18 as order 10 puts them, 15 as order
+/// 4; a tally asks first what it is lent.
+pub const ORDERS: [(Call, &[u8]); 23] = [
     (Call::Fresh, &[1, 2]),
     (Call::Append, &[1, 3, 4, 9]),
     (Call::Rollback, &[1, 5, 18, 6]),
@@ -54,6 +59,10 @@ pub const ORDERS: [(Call, &[u8]); 19] = [
     (Call::Owner, &[1, 2]),
     (Call::Why, &[1, 2, 5, 18, 10, 15]),
     (Call::Night, &[1, 2, 10]),
+    (Call::Class, &[1, 5, 18]),
+    (Call::Took, &[1, 5, 18]),
+    (Call::Undone, &[1, 5, 18]),
+    (Call::Tally, &[2, 1]),
 ];
 
 /// A neighbouring pair of a call's refusals: where both hold, the later one is answered.
@@ -126,7 +135,7 @@ impl Swapped {
     pub fn read(self, state: Option<&State>, bytes: &[u8], query: Query) -> u64 {
         let Swapped(call, first, then) = self;
         let answer = query.packed(state, bytes);
-        if call != call_read(query) || answer != u64::from(first) {
+        if Some(call) != call_read(query) || answer != u64::from(first) {
             return answer;
         }
         let Some(mut state) = state.cloned().or_else(|| repaired(bytes)) else {
@@ -136,6 +145,9 @@ impl Swapped {
         match &mut asked {
             Query::Transaction { field, .. } if first == 2 => *field = 1,
             Query::Transaction { number, .. } if first == 5 && *number == 0 => *number = 1,
+            Query::Class { number } | Query::Took { number } | Query::Undone { number } if first == 5 && *number == 0 => {
+                *number = 1
+            }
             Query::Why(question) => question_without(first, &mut state, question),
             _ => {}
         }
@@ -160,15 +172,20 @@ fn call_of(request: &Request) -> Call {
     }
 }
 
-fn call_read(query: Query) -> Call {
-    match query {
+/// The read that can be refused for more than one reason.
+fn call_read(query: Query) -> Option<Call> {
+    Some(match query {
         Query::Value { .. } => Call::Value,
         Query::Transaction { .. } => Call::Transaction,
         Query::Record { .. } => Call::Record,
         Query::Connection { .. } => Call::Connection,
         Query::Owner { .. } => Call::Owner,
+        Query::Class { .. } => Call::Class,
+        Query::Took { .. } => Call::Took,
+        Query::Undone { .. } => Call::Undone,
+        Query::Drift => return None,
         Query::Why(_) => Call::Why,
-    }
+    })
 }
 
 /// The state of an image in which only the master's number is no node's.

@@ -194,6 +194,7 @@ pub fn plans(rule: Rule, t: Transaction, h: Head, i: Number) -> Plan
 }
 
 // The plan that job 2 decides for entry t, numbered i; `settled` is Applied's, and `line` says whether the line is open.
+#[inline(always)]
 pub fn apply_change(
     t: Transaction,
     h: Head,

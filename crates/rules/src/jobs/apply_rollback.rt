@@ -200,6 +200,7 @@ pub fn plans(rule: Rule, t: Transaction, h: Head, i: Number) -> Plan
 }
 
 // The plan that job 4 decides for entry t, numbered i; `settled` is Applied's, and `line` says whether the line is open.
+#[inline(always)]
 pub fn apply_rollback(
     t: Transaction,
     h: Head,

@@ -6,6 +6,7 @@ use crate::nights;
 use crate::owners;
 use crate::remembers;
 use crate::retries;
+use crate::sheets;
 use crate::switches;
 use crate::whys;
 use crate::wide;
@@ -13,6 +14,7 @@ use makowist_host::controller::{Refusal, State, PATHS};
 use makowist_host::jobs::Rule;
 use makowist_host::northbound::{Request, Served};
 use makowist_host::reads::{Query, CONNECTION_FIELDS, RECORD_FIELDS, TABLES, TRANSACTION_FIELDS};
+use makowist_host::sheet::Class;
 use makowist_host::why::Reason;
 
 #[derive(Default)]
@@ -45,11 +47,13 @@ pub struct Counts {
     pub owners: owners::Seen,
     /// What order 13 brings.
     pub remembers: remembers::Seen,
+    /// What order 11 brings.
+    pub sheets: sheets::Seen,
     /// What order 8 brings.
     pub switches: switches::Seen,
     /// Numbers of more than 16 bits, and rooms by the byte.
     pub wide: wide::Seen,
-    /// By what is read: how often each table, field, path or reason was shown.
+    /// By what is read: how often each table, field, path, reason, class, or no and yes, was shown.
     shown: [[u64; MOST_FIELDS]; KINDS.len()],
     /// By what is read: how often each refusal was answered.
     refused: [[u64; ANSWERS]; KINDS.len()],
@@ -64,14 +68,18 @@ const ANSWERS: usize = Refusal::Folded as usize + 1;
 /// The most fields that anything that is read has: an owner's are its paths.
 const MOST_FIELDS: usize = PATHS;
 
-/// What is read, how many tables, fields, paths or reasons it has, and the refusals that it can answer.
-const KINDS: [(&str, u64, &[usize]); 6] = [
+/// What is read, how many tables, fields, paths, reasons or classes it has, and the refusals that it can answer.
+const KINDS: [(&str, u64, &[usize]); 10] = [
     ("value", TABLES, &[1, 2]),
     ("transaction", TRANSACTION_FIELDS, &[1, 2, 5, 18]),
     ("record", RECORD_FIELDS, &[1, 2]),
     ("connection", CONNECTION_FIELDS, &[1, 2]),
     ("reason", Reason::ALL.len() as u64, &[1, 2, 5, 18, 10, 15]),
     ("path's owner", PATHS as u64, &[1, 2]),
+    ("class", Class::ALL.len() as u64, &[1, 5, 18]),
+    ("change taken or not", 2, &[1, 5, 18]),
+    ("change undone or not", 2, &[1, 5, 18]),
+    ("mask of differing paths", 1, &[1]),
 ];
 
 impl Counts {
@@ -101,10 +109,14 @@ impl Counts {
             Query::Connection { field, .. } => (3, field),
             Query::Why(_) => (4, packed >> 8 & 0xff),
             Query::Owner { path } => (5, path.saturating_add(1)),
+            Query::Class { .. } => (6, packed >> 32),
+            Query::Took { .. } => (7, (packed >> 32) + 1),
+            Query::Undone { .. } => (8, (packed >> 32) + 1),
+            Query::Drift => (9, 1),
         };
         self.read(packed);
         match packed & 0xff {
-            0 => self.shown[kind].get_mut(field as usize - 1).into_iter().for_each(|shown| *shown += 1),
+            0 => self.shown[kind].get_mut((field as usize).wrapping_sub(1)).into_iter().for_each(|shown| *shown += 1),
             refusal => self.refused[kind][refusal as usize] += 1,
         }
         if let Some(state) = state {
@@ -148,6 +160,7 @@ impl Counts {
         let unseen_owners = self.owners.told();
         let unseen_switches = self.switches.told();
         let unseen_remembers = self.remembers.told();
+        let unseen_sheets = self.sheets.told();
         let unseen_wide = self.wide.told();
         let unseen_reads = self.told_reads();
         println!("{:>12}  {:>12}  {:>12}  rule, and its stores", "cut 0", "cut 1", "cut 2");
@@ -161,7 +174,7 @@ impl Counts {
         println!("rules seen: {rules} of {}; refusals seen: {refusals} of {}", Rule::ALL.len(), Refusal::ALL.len());
         let unseen = [self.states, self.freed, self.migrations].iter().chain(&self.statuses).filter(|count| **count == 0).count();
         let unseen_orders = [unseen_retries, unseen_folds, unseen_whys, unseen_nights, unseen_imports, unseen_owners, unseen_switches];
-        let unseen_orders = unseen_orders.into_iter().chain([unseen_remembers]);
+        let unseen_orders = unseen_orders.into_iter().chain([unseen_remembers, unseen_sheets]);
         unseen + unseen_answers + unseen_rules + unseen_reads + unseen_orders.sum::<usize>() + unseen_wide
     }
 }

@@ -60,6 +60,8 @@ pub struct Desk {
     explained: Option<Question>,
     /// What comes between a cut job and its retry.
     pub random: Random,
+    /// What the sheet is asked.
+    pub drawn: Random,
     watch: Watch,
 }
 
@@ -76,6 +78,7 @@ impl Desk {
             reached: false,
             explained: None,
             random: Random::new(0),
+            drawn: Random::new(0),
             watch,
         }
     }

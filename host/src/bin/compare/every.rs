@@ -74,6 +74,7 @@ fn walk(desk: &mut Desk, remembers: bool, folded: Number, transactions: usize) -
                 for query in queries(state) {
                     desk.query(Some(state), bytes, query)?;
                 }
+                desk.sheet(Some(state), bytes)?;
             }
             if place % NIGHT_ONE_IN == 0 {
                 by_itself::enough(desk, state, bytes, &mut random)?;

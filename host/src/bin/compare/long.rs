@@ -62,6 +62,7 @@ impl Migration<'_> {
 
     fn read(&mut self, random: &mut Random) -> Compared<()> {
         self.desk.read(Some(&self.state), &self.bytes, random.below(MOST_ROOM + 1))?;
+        self.desk.sheet(Some(&self.state), &self.bytes)?;
         self.desk.query(Some(&self.state), &self.bytes, Query::any(&self.state, random))
     }
 

@@ -1,7 +1,8 @@
 //! Holds the proved controller and the independent one together, call by call, reply and every byte; each of them to what orders
 //! 3 and 8 promise, at every job that is cut; both to what order 8 says of the target, and to what order 7 says of owners, at every
 //! state of a session, of targets that forget and that remember (order 13); and the proved one to what order 4 does, at every job
-//! that is answered 11 or asked after, to what order 2 does, at every night, and to what order 6 does, at every import.
+//! that is answered 11 or asked after, to what order 2 does, at every night, to what order 6 does, at every import, and to
+//! what order 11 says of a sheet's totals, at every sheet.
 //!
 //! Arguments, each `name=value`, in any order:
 //!
@@ -16,7 +17,8 @@
 //!
 //! Ends with 0 where there is no difference and no count is 0: every answer, every rule, with each cut and called again, every
 //! reason of every job, every read, every way for a night to pass, for a list to be imported, for a path to have an owner and for a
-//! target of either kind to be stopped and synchronised, every argument too great in every way.
+//! target of either kind to be stopped and synchronised, for a log to stand on the handover sheet, every argument too great
+//! in every way.
 
 mod by_itself;
 mod claims;
@@ -24,6 +26,7 @@ mod counts;
 mod desk;
 mod every;
 mod folds;
+mod handover;
 mod imports;
 mod lists;
 mod long;
@@ -33,6 +36,7 @@ mod owners;
 mod remembers;
 mod retries;
 mod sessions;
+mod sheets;
 mod states;
 mod statuses;
 mod switches;
@@ -113,6 +117,7 @@ fn compare(desk: &mut Desk, sizes: &Sizes, seed: u64, tells: bool) -> Compared<(
     };
     let mut random = Random::new(seed);
     desk.random = Random::new(seed);
+    desk.drawn = Random::new(seed);
     compare_chosen(desk, told)?;
     desk.reached = true;
     if sizes.transactions > 0 {
@@ -134,6 +139,10 @@ fn compare(desk: &mut Desk, sizes: &Sizes, seed: u64, tells: bool) -> Compared<(
         told("lists imported, drawn with the seed", desk);
     }
     desk.reached = false;
+    if desk.asks_for_sheets() {
+        handover::drawn(desk, &mut Random::new(seed))?;
+        told("whole sheets, drawn with the seed", desk);
+    }
     states::unreached(desk, sizes.unreached, &mut random)?;
     told("states that no session reaches", desk);
     states::damaged(desk, sizes.damaged, &mut random)?;
@@ -156,6 +165,10 @@ fn compare_chosen(desk: &mut Desk, told: impl Fn(&str, &Desk)) -> Compared<()> {
     if desk.asks_for_owners() {
         claims::run(desk)?;
         told("owners in chosen sessions, states and images", desk);
+    }
+    if desk.asks_for_sheets() {
+        handover::run(desk)?;
+        told("what the switch took, in chosen sessions, states, totals and sheets", desk);
     }
     if desk.packs_statuses() {
         statuses::run(desk)?;

@@ -93,6 +93,7 @@ fn session(desk: &mut Desk, random: &mut Random) -> Compared<()> {
             false => sensible(&state, log_limit, random),
         };
         let served = desk.call(&mut state, &mut bytes, &request)?;
+        desk.sheet_behind(&state, &bytes)?;
         desk.switched(&mut switch, (&state, &bytes), &request, &served)?;
         is_imported &= !matches!(request, Request::Fresh(_));
         if is_imported && served.reply.is_ok() {

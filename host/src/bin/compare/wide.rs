@@ -8,10 +8,11 @@ use makowist_host::controller::{Number, Refusal, State, NODES, PATHS};
 use makowist_host::night::{Night, BUDGET_LIMIT, OUTCOMES};
 use makowist_host::northbound::{bytes_of, Request};
 use makowist_host::reads::{Query, CONNECTION_FIELDS, RECORD_FIELDS, TABLES, TRANSACTION_FIELDS};
+use makowist_host::sheet::{Tally, LOGS, TOTALS};
 use std::ops::RangeInclusive;
 
 /// The functions that take numbers, each with its arguments in their order.
-const FUNCTIONS: [(&str, &[Argument]); 15] = [
+const FUNCTIONS: [(&str, &[Argument]); 19] = [
     ("rollback", &[Argument::Number]),
     ("fold", &[Argument::Number]),
     ("connect", &[Argument::Node]),
@@ -27,6 +28,10 @@ const FUNCTIONS: [(&str, &[Argument]); 15] = [
     ("night", &[Argument::Node, Argument::Budget]),
     ("owner", &[Argument::Path]),
     ("fresh", &[Argument::Remembers]),
+    ("class", &[Argument::Number]),
+    ("took", &[Argument::Number]),
+    ("undone", &[Argument::Number]),
+    ("tally", &[Argument::Log]),
 ];
 
 /// The most arguments that a function has.
@@ -71,6 +76,10 @@ impl Seen {
             Query::Connection { .. } => 10,
             Query::Why(_) => 11,
             Query::Owner { .. } => 13,
+            Query::Class { .. } => 15,
+            Query::Took { .. } => 16,
+            Query::Undone { .. } => 17,
+            Query::Drift => return,
         };
         self.saw(function, state, query.numbers(), answer);
     }
@@ -79,6 +88,13 @@ impl Seen {
         let table_in_range = night.outcomes.len() == OUTCOMES && night.outcomes.iter().all(|outcome| *outcome <= 1);
         if table_in_range {
             self.saw(12, state, night.clone().numbers(), answer);
+        }
+    }
+
+    /// A tally whose totals every log's place allows.
+    pub fn tallied(&mut self, state: &State, asked: &Tally, answer: u64) {
+        if asked.totals == [0; TOTALS] {
+            self.saw(18, state, asked.clone().numbers(), answer);
         }
     }
 
@@ -146,6 +162,7 @@ fn in_range(function: &str, argument: Argument, state: &State) -> RangeInclusive
         Argument::Field => 1..=CONNECTION_FIELDS,
         Argument::Budget => 0..=BUDGET_LIMIT,
         Argument::Remembers => 0..=1,
+        Argument::Log => 1..=LOGS as u64,
     }
 }
 

@@ -1,0 +1,40 @@
+-- `skip` meets its contract. Assumes nothing.
+use Prim.Native.Nat.{◌-◌}
+use native.Mathlib.Omega.{arith}
+use Rattle.controller.proofs.Decided.{size}
+use borrow.Author.Tests.{not-false}
+use Rattle.controller.proofs.Turned.{quiet_more}
+use Rattle.controller.proofs.nights.skip.Goals as goal
+
+pub last_number-n-requires : goal.last_number-n-requires
+last_number-n-requires c = let h = size _ c.requires.0 in omega arith
+
+pub load_change-change-requires : goal.load_change-change-requires
+load_change-change-requires c = let h = size _ c.requires.0 in omega arith
+
+pub load_head-h-requires : goal.load_head-h-requires
+load_head-h-requires c = let h = size _ c.requires.0 in omega arith
+
+pub loop-i-init : goal.loop-i-init
+loop-i-init c = c.requires.1
+
+pub overflow_add-number : goal.overflow_add-number
+overflow_add-number c = omega (arith, c.loop-i-test.true)
+
+pub load_entry-t-requires : goal.load_entry-t-requires
+load_entry-t-requires c = (omega arith, size _ c.requires.0)
+
+pub returns-then-not-is_idle : goal.returns-then-not-is_idle
+returns-then-not-is_idle c = c.loop-i.invariant
+
+pub overflow_add-i : goal.overflow_add-i
+overflow_add-i c = omega (arith, c.loop-i-test.true)
+
+pub loop-i-smaller : goal.loop-i-smaller
+loop-i-smaller c = omega (arith, c.loop-i-test.true)
+
+pub loop-i-preserved : goal.loop-i-preserved
+loop-i-preserved c = quiet_more _ c.requires.0 _ _ _ _ _ _ c.loop-i.invariant c.loop-i-test.true c.last_number-n.ensures c.load_change-change.ensures c.load_head-h.ensures c.load_entry-t.ensures c.is_idle.ensures (c.if-not-is_idle.false)
+
+pub returns : goal.returns
+returns c = c.loop-i.invariant

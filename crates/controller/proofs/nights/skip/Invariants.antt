@@ -1,0 +1,10 @@
+-- `skip` meets its contract. Assumes nothing.
+use Prim.Native.Nat.{◌-◌}
+use Rattle.controller.specs.Nights.{Quiet}
+use Rattle.controller.proofs.nights.skip.Given as goal
+
+abbrev pub invariant-loop-i : goal.invariant-loop-i
+invariant-loop-i l = Quiet l.s l.i
+
+abbrev pub decreases-loop-i : goal.decreases-loop-i
+decreases-loop-i l = l.n - l.i

@@ -1,0 +1,20 @@
+-- `apply_rollback_why` meets its contract. Assumes nothing.
+use Rattle.controller.proofs.Explained.{ordinal_in_holds, rollback_11, rollback_15}
+use Rattle.controller.proofs.Decided.{entry_here, entry_size_holds}
+use native.Mathlib.Omega.{arith}
+use Rattle.controller.proofs.reasons.apply_rollback_why.Goals as goal
+
+pub load_entry-t-requires : goal.load_entry-t-requires
+load_entry-t-requires c = entry_here _ _ c.requires.0
+
+pub load_head-h-requires : goal.load_head-h-requires
+load_head-h-requires c = let h = entry_size_holds _ _ c.requires.0 in omega arith
+
+pub rollback_waits-requires : goal.rollback_waits-requires
+rollback_waits-requires c = ordinal_in_holds _ _ c.requires.0.formed c.load_head-h.ensures
+
+pub returns-then-p-eq11 : goal.returns-then-p-eq11
+returns-then-p-eq11 c = rollback_11 _ _ c.requires.0 _ c.load_entry-t.ensures _ c.load_head-h.ensures _ c.rollback_quiet-quiet.ensures _ _ _ c.line-open.ensures _ c.of.ensures _ c.apply_rollback-p.ensures c.if-p-eq11.true c.rollback_waits.ensures
+
+pub returns : goal.returns
+returns c = rollback_15 _ _ c.requires.0 _ c.load_entry-t.ensures _ c.load_head-h.ensures _ c.rollback_quiet-quiet.ensures _ _ _ c.line-open.ensures _ c.of.ensures _ c.apply_rollback-p.ensures c.if-p-eq11.false c.refuses.ensures

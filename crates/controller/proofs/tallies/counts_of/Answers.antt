@@ -1,0 +1,45 @@
+-- `counts_of` meets its contract. Assumes nothing.
+use Prim.Native.Nat.{◌-◌}
+use native.Mathlib.Omega.{arith}
+use Rattle.controller.proofs.Tallied.{counting_none, counting_more, counting_done, counted_low, class_here, class_place}
+use Rattle.controller.proofs.Decided.{size}
+use Rattle.controller.proofs.tallies.counts_of.Goals as goal
+
+pub last_number-n-requires : goal.last_number-n-requires
+last_number-n-requires c = size _ c.requires
+
+pub last_fold-i-requires : goal.last_fold-i-requires
+last_fold-i-requires c = size _ c.requires
+
+pub loop-i-init : goal.loop-i-init
+loop-i-init c = counting_none _ c.requires _ c.last_fold-i.ensures
+
+pub overflow_add-number : goal.overflow_add-number
+overflow_add-number c = omega (arith, c.loop-i-test.true)
+
+pub load_class-requires : goal.load_class-requires
+load_class-requires c = class_here _ c.requires _ _ c.loop-i.invariant _ _ c.last_fold-i.ensures c.last_number-n.ensures c.loop-i-test.true
+
+pub overflow_sub-k : goal.overflow_sub-k
+overflow_sub-k c = omega (arith, (class_place _ _ _ c.load_class.ensures).0)
+
+pub overflow_cast-k : goal.overflow_cast-k
+overflow_cast-k c = omega (arith, (class_place _ _ _ c.load_class.ensures).1)
+
+pub bounds-a-k : goal.bounds-a-k
+bounds-a-k c = omega (arith, (class_place _ _ _ c.load_class.ensures).1)
+
+pub overflow_add-one : goal.overflow_add-one
+overflow_add-one c = omega (arith, counted_low _ c.requires _ _ c.loop-i.invariant (c.load_class.result - 1) _ c.last_number-n.ensures c.loop-i-test.true)
+
+pub bounds-a-k-in-loop-i : goal.bounds-a-k-in-loop-i
+bounds-a-k-in-loop-i c = omega (arith, (class_place _ _ _ c.load_class.ensures).1)
+
+pub loop-i-smaller : goal.loop-i-smaller
+loop-i-smaller c = omega (arith, c.loop-i-test.true)
+
+pub loop-i-preserved : goal.loop-i-preserved
+loop-i-preserved c = counting_more _ c.requires _ _ c.loop-i.invariant _ _ c.last_number-n.ensures c.loop-i-test.true c.load_class.ensures
+
+pub returns : goal.returns
+returns c = counting_done _ c.requires _ _ c.loop-i.invariant _ c.last_number-n.ensures c.loop-i-test.false

@@ -1,0 +1,164 @@
+// What the switches took (order 11): a log's transactions by class, and the paths at which its committed and its applied
+// values differ.
+ghost use Rattle.std.specs.Prelude.{◌≡◌, true, cond, ◌+◌, ◌*◌, ◌≤◌, ◌<◌, eqb, length};
+ghost use Rattle.machine.specs.Sheet.{counts, mask_of, row_of, added, together};
+ghost use Rattle.image.specs.Layout.{image_length};
+ghost use Rattle.image.specs.View.{view};
+ghost use Rattle.image.specs.Formed.{formed};
+ghost use Rattle.controller.specs.Tallies.{totals_in, put_totals, lent_ok, given, Lent, Reports, Fitting};
+
+use fields::{get_twos, get2, put_twos, put2};
+use image::{
+    APPLIED_VALUES_AT, COMMITTED_VALUES_AT, last_fold, last_number, load_class, load_value,
+    well_formed,
+};
+
+// The refusal, or 0 with the kept transactions of each class (open, stopped, invalid, taken, undoing, undone), the paths that
+// differ as a mask, bit p for path p, and how many they are.
+#[derive(Clone, Copy)]
+pub struct Tally {
+    pub answer: u8,
+    pub counts: [u8; 6],
+    pub mask: u32,
+    pub drift: u8,
+}
+
+// ---- the totals
+
+fn wide8(x: u8) -> u16
+    ensures { (result ≡ x) × (result < 256) }
+{
+    x as u16
+}
+
+fn wide16(x: u16) -> u32
+    ensures { (result ≡ x) × (result < 65536) }
+{
+    x as u32
+}
+
+fn total_of(totals: &[u8]) -> u32
+    requires { length totals.now ≡ 12 }
+    ensures { result ≡ together (totals_in totals.now) }
+{
+    let t = get_twos(totals, 0);
+    let a = wide16(t[0]);
+    let b = wide16(t[1]);
+    let c = wide16(t[2]);
+    let d = wide16(t[3]);
+    let e = wide16(get2(totals, 8));
+    let f = wide16(get2(totals, 10));
+    a + b + c + d + e + f
+}
+
+// Whether a log at this place can have these totals before it.
+pub fn lent_ok(log: u16, totals: &[u8]) -> bool
+    ensures { result ≡ lent_ok log totals.now }
+{
+    if (1 <= log) & (log <= 64) {
+        if totals.len() == 12 {
+            let most = 128 * wide16(log - 1);
+            return total_of(totals) <= most;
+        }
+        return false;
+    }
+    false
+}
+
+fn add(totals: &mut [u8], counts: [u8; 6])
+    requires { Fitting totals.old counts }
+    ensures { totals.new ≡ put_totals totals.old (added (totals_in totals.old) counts) }
+{
+    let t = get_twos(totals, 0);
+    let a = t[0] + wide8(counts[0]);
+    let b = t[1] + wide8(counts[1]);
+    let c = t[2] + wide8(counts[2]);
+    let d = t[3] + wide8(counts[3]);
+    let e = get2(totals, 8) + wide8(counts[4]);
+    let f = get2(totals, 10) + wide8(counts[5]);
+    put_twos(totals, 0, [a, b, c, d]);
+    put2(totals, 8, e);
+    put2(totals, 10, f);
+}
+
+// ---- a log's line
+
+// The kept transactions of each class.
+fn counts_of(s: &[u8]) -> [u8; 6]
+    requires { formed s.now ≡ true }
+    ensures { result ≡ counts (view s.now).log.entries }
+{
+    let n = last_number(s);
+    let mut a = [0u8, 0, 0, 0, 0, 0];
+    let mut i = last_fold(s);
+    while i < n {
+        let number = i + 1;
+        let k = (load_class(s, number) - 1) as usize;
+        let one = a[k] + 1;
+        a[k] = one;
+        i = number;
+    }
+    a
+}
+
+// One path more, below those that the mask has.
+fn with_path(mask: u32, x: u16, y: u16) -> u32
+    requires { mask < 2147483648 }
+    ensures { result ≡ 2 * mask + cond (eqb x y) 0 1 }
+{
+    if x == y {
+        return 2 * mask;
+    }
+    2 * mask + 1
+}
+
+// The paths at which the committed and the applied values differ, the last first.
+pub fn mask_of(s: &[u8]) -> u32
+    requires { image_length ≤ length s.now }
+    ensures { result ≡ mask_of (view s.now) }
+{
+    let mut mask: u32 = 0;
+    let mut k: u8 = 32;
+    while 0 < k {
+        k -= 1;
+        let v = load_value(s, COMMITTED_VALUES_AT, k);
+        let w = load_value(s, APPLIED_VALUES_AT, k);
+        mask = with_path(mask, v, w);
+    }
+    mask
+}
+
+fn row(s: &[u8]) -> Tally
+    requires { formed s.now ≡ true }
+    ensures { result ≡ given (row_of (view s.now)) }
+{
+    let counts = counts_of(s);
+    let mask = mask_of(s);
+    let drift = u32::count_ones(mask) as u8;
+    Tally {
+        answer: 0,
+        counts,
+        mask,
+        drift,
+    }
+}
+
+// A log's line, its counts added to the totals. Refuses 1.
+pub fn report(s: &[u8], totals: &mut [u8]) -> Tally
+    requires { Lent totals.old }
+    ensures { Reports s.now totals.old result totals.new }
+{
+    if well_formed(s) {
+        let r = row(s);
+        let counts = r.counts;
+        add(totals, counts);
+        return r;
+    }
+    let counts = [0u8, 0, 0, 0, 0, 0];
+    Tally {
+        answer: 1,
+        counts,
+        mask: 0,
+        drift: 0,
+    }
+}

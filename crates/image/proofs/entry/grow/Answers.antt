@@ -1,0 +1,7 @@
+-- `grow` meets its contract. Assumes nothing.
+use Rattle.image.specs.View.{write}
+use Rattle.image.proofs.entry.grow.Goals as goal
+
+pub returns : goal.returns
+unfolding write
+returns c = cc

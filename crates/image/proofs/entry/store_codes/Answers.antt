@@ -1,0 +1,6 @@
+-- `store_codes` meets its contract. Assumes nothing.
+use Rattle.image.proofs.Chain.{coded}
+use Rattle.image.proofs.entry.store_codes.Goals as goal
+
+pub returns : goal.returns
+returns c = coded _ _ _ _ _ _ c.args.t c.pack.ensures c.put2.ensures c.put1.ensures c.put1-2.ensures

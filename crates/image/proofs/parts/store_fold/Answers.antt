@@ -1,0 +1,7 @@
+-- `store_fold` meets its contract. Assumes nothing.
+use Rattle.image.specs.View.{write}
+use Rattle.image.proofs.parts.store_fold.Goals as goal
+
+pub returns : goal.returns
+unfolding write
+returns c = cc

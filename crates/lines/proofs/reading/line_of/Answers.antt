@@ -1,0 +1,15 @@
+-- `line_of` meets its contract. Assumes nothing.
+
+use Rattle.lines.proofs.reading.line_of.Goals as goal
+
+pub returns : goal.returns
+returns c = rw (
+  c.at_most.ensures,
+  c.most_of-most.ensures,
+  c.call_of-call.ensures,
+  c.number_in-e.ensures,
+  c.number_in-d.ensures,
+  c.number_in-c.ensures,
+  c.number_in-b.ensures,
+  c.number_in-a.ensures,
+)

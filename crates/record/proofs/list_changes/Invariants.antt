@@ -1,0 +1,13 @@
+-- `list_changes` goes from the last fold to the highest number. Assumes nothing.
+use Rattle.record.specs.Told.{held_text}
+use Rattle.lines.specs.Replies.{Put}
+use Rattle.image.specs.View.{view}
+use Rattle.image.specs.Records.{folded_of}
+use Prim.Native.Nat.{◌-◌, ◌≤◌}
+use Rattle.record.proofs.list_changes.Given as goal
+
+abbrev pub invariant-loop-k : goal.invariant-loop-k
+invariant-loop-k l = (folded_of l.s ≤ l.k) × ((l.k ≤ l.n) × Put l.initial.out l.start (held_text (view l.s) (l.k - folded_of l.s)) l.at l.out)
+
+abbrev pub decreases-loop-k : goal.decreases-loop-k
+decreases-loop-k l = l.n - l.k

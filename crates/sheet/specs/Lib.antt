@@ -1,0 +1,3 @@
+-- The definitions of the sheet: all that one has to believe of this crate. Assumes nothing.
+pub mod SheetText
+pub mod Reports
