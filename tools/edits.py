@@ -20,7 +20,7 @@ import tempfile
 
 from respell import snake
 
-OLD, PORTED = "878ee41", "3c41676"
+OLD, PORTED = "878ee41", "3bc4aba"
 TOKEN = re.compile(r'«[^»\n]*»|[^\s(){}.;,@"«»]+|[(){}.;,@"]')
 LIBRARY = re.compile(r"use (?:Prim|mathlib|lib)\.")
 PRELUDE = "use Rattle.std.specs.Prelude.{"
