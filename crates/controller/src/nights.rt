@@ -11,7 +11,7 @@ ghost use Rattle.controller.specs.Nights.{put_event, fitting, refuses, Awake, sc
 use crate::calls::{is_node, of_commit};
 use crate::deciding::{line, present, rest, settled};
 use crate::perform::perform;
-use fields::put4;
+use fields::put;
 use image::{
     APPLIED_AT, COMMITTED_AT, last_fold, last_number, load_change, load_entry, load_head,
     load_mastership,
@@ -403,10 +403,10 @@ fn put_event(room: &mut [u8], k: u16, e: Event)
     if at + 16 <= room.len() {
         let number = e.number;
         let status = e.status;
-        put4(room, at, e.phase as u32);
-        put4(room, at + 4, e.stage as u32);
-        put4(room, at + 8, number.get() as u32);
-        put4(room, at + 12, status.code() as u32);
+        put(room, at, e.phase as u32);
+        put(room, at + 4, e.stage as u32);
+        put(room, at + 8, number.get() as u32);
+        put(room, at + 12, status.code() as u32);
         return;
     }
 }

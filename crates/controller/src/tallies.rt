@@ -7,7 +7,7 @@ ghost use Rattle.image.specs.View.{view};
 ghost use Rattle.image.specs.Formed.{formed};
 ghost use Rattle.controller.specs.Tallies.{totals_in, put_totals, lent_ok, given, Lent, Reports, Fitting};
 
-use fields::{get_twos, get2, put_twos, put2};
+use fields::{get, get_four, put, put_four};
 use image::{
     APPLIED_VALUES_AT, COMMITTED_VALUES_AT, last_fold, last_number, load_class, load_value,
     well_formed,
@@ -41,13 +41,13 @@ fn total_of(totals: &[u8]) -> u32
     requires { length totals.now ≡ 12 }
     ensures { result ≡ together (totals_in totals.now) }
 {
-    let t = get_twos(totals, 0);
+    let t = get_four::<u16>(totals, 0);
     let a = wide16(t[0]);
     let b = wide16(t[1]);
     let c = wide16(t[2]);
     let d = wide16(t[3]);
-    let e = wide16(get2(totals, 8));
-    let f = wide16(get2(totals, 10));
+    let e = wide16(get::<u16>(totals, 8));
+    let f = wide16(get::<u16>(totals, 10));
     a + b + c + d + e + f
 }
 
@@ -69,16 +69,16 @@ fn add(totals: &mut [u8], counts: [u8; 6])
     requires { Fitting totals.old counts }
     ensures { totals.new ≡ put_totals totals.old (added (totals_in totals.old) counts) }
 {
-    let t = get_twos(totals, 0);
+    let t = get_four::<u16>(totals, 0);
     let a = t[0] + wide8(counts[0]);
     let b = t[1] + wide8(counts[1]);
     let c = t[2] + wide8(counts[2]);
     let d = t[3] + wide8(counts[3]);
-    let e = get2(totals, 8) + wide8(counts[4]);
-    let f = get2(totals, 10) + wide8(counts[5]);
-    put_twos(totals, 0, [a, b, c, d]);
-    put2(totals, 8, e);
-    put2(totals, 10, f);
+    let e = get::<u16>(totals, 8) + wide8(counts[4]);
+    let f = get::<u16>(totals, 10) + wide8(counts[5]);
+    put_four(totals, 0, [a, b, c, d]);
+    put(totals, 8, e);
+    put(totals, 10, f);
 }
 
 // ---- a log's line

@@ -27,6 +27,10 @@ abbrev pub total : List ℕ → ℕ
 total [] = 0
 total (w ∷ ws) = w + total ws
 
+-- four of one width
+abbrev pub four : ℕ → List ℕ
+four w = w ∷ w ∷ w ∷ w ∷ []
+
 abbrev pub ones : List ℕ
 ones = 1 ∷ 1 ∷ 1 ∷ 1 ∷ []
 

@@ -1,135 +1,140 @@
 // Numbers of one, two and four bytes, little-endian, in a lent slice of bytes.
 #![tactic(auto)]
 
-ghost use Rattle.std.specs.Prelude.{◌≡◌, ◌+◌, ◌≤◌, ◌<◌, length};
-ghost use Rattle.fields.specs.Field.{ones, twos};
+ghost use Rattle.std.specs.Prelude.{◌≡◌, ℕ, ◌+◌, ◌*◌, ◌≤◌, List, length, map};
+ghost use Rattle.fields.specs.Field.{field, put_field, four};
 ghost use Rattle.fields.specs.Promises.{Gets, GetsFour, Puts, PutsFour};
+ghost use Rattle.fields.specs.Numbers.{numbers_are, number_tells};
 
-fn wide16(x: u8) -> u16
-    ensures { (result ≡ x) × (result < 256) }
-{
-    x as u16
+// A number that lies in bytes, little-endian.
+pub trait Field: Copy {
+    // How many bytes it takes.
+    ghost WIDTH: { ℕ };
+
+    // The number that it is, and those of a list.
+    ghost number: { Self → ℕ };
+
+    ghost numbers: { List Self → List ℕ };
+
+    const WIDTH: usize;
+
+    fn of_bytes(bytes: &[u8]) -> Self
+        requires { length bytes.now ≡ WIDTH }
+        ensures { number result ≡ field bytes.now 0 WIDTH };
+
+    fn put_bytes(self, bytes: &mut [u8])
+        requires { length bytes.old ≡ WIDTH }
+        ensures { bytes.new ≡ put_field bytes.old 0 WIDTH (number self) };
+
+    ghost each: { (xs : List Self) → numbers xs ≡ map number xs };
+
+    ghost tells: { (x y : Self) → number x ≡ number y → x ≡ y };
 }
 
-fn wide32(x: u8) -> u32
-    ensures { (result ≡ x) × (result < 256) }
-{
-    x as u32
+impl Field for u8 {
+    ghost WIDTH = { 1 };
+
+    ghost number = { λ x. x };
+
+    ghost numbers = { λ xs. xs };
+
+    ghost each = { numbers_are };
+
+    ghost tells = { number_tells };
+
+    const WIDTH: usize = 1;
+
+    fn of_bytes(bytes: &[u8]) -> u8 {
+        bytes[0]
+    }
+
+    fn put_bytes(self, bytes: &mut [u8]) {
+        bytes[0] = self;
+    }
 }
 
-// The byte at a place.
-pub fn get1(s: &[u8], at: usize) -> u8
-    requires { at + 1 ≤ length s.now }
-    ensures { Gets s.now at 1 result }
-{
-    s[at]
+impl Field for u16 {
+    ghost WIDTH = { 2 };
+
+    ghost number = { λ x. x };
+
+    ghost numbers = { λ xs. xs };
+
+    ghost each = { numbers_are };
+
+    ghost tells = { number_tells };
+
+    const WIDTH: usize = 2;
+
+    fn of_bytes(bytes: &[u8]) -> u16 {
+        u16::from_le_bytes([bytes[0], bytes[1]])
+    }
+
+    fn put_bytes(self, bytes: &mut [u8]) {
+        bytes.copy_from_slice(&self.to_le_bytes());
+    }
 }
 
-// The number of two bytes at a place.
-pub fn get2(s: &[u8], at: usize) -> u16
-    requires { at + 2 ≤ length s.now }
-    ensures { Gets s.now at 2 result }
-{
-    let b = at + 1;
-    let x = wide16(s[at]);
-    let y = wide16(s[b]);
-    x + 256 * y
+impl Field for u32 {
+    ghost WIDTH = { 4 };
+
+    ghost number = { λ x. x };
+
+    ghost numbers = { λ xs. xs };
+
+    ghost each = { numbers_are };
+
+    ghost tells = { number_tells };
+
+    const WIDTH: usize = 4;
+
+    fn of_bytes(bytes: &[u8]) -> u32 {
+        u32::from_le_bytes([bytes[0], bytes[1], bytes[2], bytes[3]])
+    }
+
+    fn put_bytes(self, bytes: &mut [u8]) {
+        bytes.copy_from_slice(&self.to_le_bytes());
+    }
 }
 
-// The number of four bytes at a place.
-pub fn get4(s: &[u8], at: usize) -> u32
-    requires { at + 4 ≤ length s.now }
-    ensures { Gets s.now at 4 result }
+// The number at a place.
+pub fn get<T: Field>(s: &[u8], at: usize) -> T
+    requires { at + T.WIDTH ≤ length s.now }
+    ensures { Gets s.now at T.WIDTH (T.number result) }
 {
-    let b = at + 1;
-    let c = b + 1;
-    let d = c + 1;
-    let x = wide32(s[at]);
-    let y = wide32(s[b]);
-    let z = wide32(s[c]);
-    let w = wide32(s[d]);
-    x + 256 * (y + 256 * (z + 256 * w))
+    T::of_bytes(&s[at..at + T::WIDTH])
 }
 
-// A byte, put at a place.
-pub fn put1(s: &mut [u8], at: usize, x: u8)
-    requires { at + 1 ≤ length s.old }
-    ensures { Puts s.old at 1 x s.new }
+// A number, put at a place.
+pub fn put<T: Field>(s: &mut [u8], at: usize, x: T)
+    requires { at + T.WIDTH ≤ length s.old }
+    ensures { Puts s.old at T.WIDTH (T.number x) s.new }
 {
-    s[at] = x;
+    x.put_bytes(&mut s[at..at + T::WIDTH]);
 }
 
-// A number of two bytes, put at a place.
-pub fn put2(s: &mut [u8], at: usize, x: u16)
-    requires { at + 2 ≤ length s.old }
-    ensures { Puts s.old at 2 x s.new }
+// Four numbers, one after another.
+pub fn get_four<T: Field>(s: &[u8], at: usize) -> [T; 4]
+    requires { at + 4 * T.WIDTH ≤ length s.now }
+    ensures { GetsFour s.now at (four T.WIDTH) (T.numbers result) }
 {
-    let b = at + 1;
-    s[at] = (x % 256) as u8;
-    s[b] = (x / 256 % 256) as u8;
-}
-
-// A number of four bytes, put at a place.
-pub fn put4(s: &mut [u8], at: usize, x: u32)
-    requires { at + 4 ≤ length s.old }
-    ensures { Puts s.old at 4 x s.new }
-{
-    let b = at + 1;
-    let c = b + 1;
-    let d = c + 1;
-    let y = x / 256;
-    let z = y / 256;
-    let w = z / 256;
-    s[at] = (x % 256) as u8;
-    s[b] = (y % 256) as u8;
-    s[c] = (z % 256) as u8;
-    s[d] = (w % 256) as u8;
-}
-
-// Four numbers of one byte, one after another.
-pub fn get_ones(s: &[u8], at: usize) -> [u8; 4]
-    requires { at + 4 ≤ length s.now }
-    ensures { GetsFour s.now at ones result }
-{
+    let width = T::WIDTH;
     [
-        get1(s, at),
-        get1(s, at + 1),
-        get1(s, at + 2),
-        get1(s, at + 3),
+        get(s, at),
+        get(s, at + width),
+        get(s, at + 2 * width),
+        get(s, at + 3 * width),
     ]
 }
 
-// Four numbers of two bytes, one after another.
-pub fn get_twos(s: &[u8], at: usize) -> [u16; 4]
-    requires { at + 8 ≤ length s.now }
-    ensures { GetsFour s.now at twos result }
+// Four numbers, put one after another.
+pub fn put_four<T: Field>(s: &mut [u8], at: usize, x: [T; 4])
+    requires { at + 4 * T.WIDTH ≤ length s.old }
+    ensures { PutsFour s.old at (four T.WIDTH) (T.numbers x) s.new }
 {
-    [
-        get2(s, at),
-        get2(s, at + 2),
-        get2(s, at + 4),
-        get2(s, at + 6),
-    ]
-}
-
-// Four bytes, put one after another.
-pub fn put_ones(s: &mut [u8], at: usize, x: [u8; 4])
-    requires { at + 4 ≤ length s.old }
-    ensures { PutsFour s.old at ones x s.new }
-{
-    put1(s, at, x[0]);
-    put1(s, at + 1, x[1]);
-    put1(s, at + 2, x[2]);
-    put1(s, at + 3, x[3]);
-}
-
-// Four numbers of two bytes, put one after another.
-pub fn put_twos(s: &mut [u8], at: usize, x: [u16; 4])
-    requires { at + 8 ≤ length s.old }
-    ensures { PutsFour s.old at twos x s.new }
-{
-    put2(s, at, x[0]);
-    put2(s, at + 2, x[1]);
-    put2(s, at + 4, x[2]);
-    put2(s, at + 6, x[3]);
+    let width = T::WIDTH;
+    put(s, at, x[0]);
+    put(s, at + width, x[1]);
+    put(s, at + 2 * width, x[2]);
+    put(s, at + 3 * width, x[3]);
 }

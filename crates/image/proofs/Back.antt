@@ -8,7 +8,6 @@ use native.Mathlib.Omega.{arith}
 use borrow.Author.Tests.{leb-true}
 use lib.Dec.{leb}
 use Rattle.kinds.specs.Statuses.{progress_code, progress_of}
-use Rattle.kinds.specs.declared.Progress.TheVariants as progress
 use Rattle.fields.specs.Field.{field, put_field, fields_at, put_fields}
 use Rattle.fields.proofs.Laws.{Bytes, put_back}
 use Rattle.fields.proofs.Runs.{puts_back}

@@ -1,6 +1,6 @@
 -- The target's values brought to Applied's, path by path: what each write leaves, and what they come to (order 13). Assumes
 -- nothing.
-use Prim.Native.Nat.{ℕ, zero, suc, ◌+◌, ◌*◌, ◌≤◌, ◌<◌}
+use Prim.Native.Nat.{ℕ, suc, ◌+◌, ◌*◌, ◌≤◌, ◌<◌}
 use mathlib.Core.Path.{◌≡◌, refl, ap, ap₂, sym, ◌∙◌}
 use mathlib.Core.Logic.{inl, inr, ⊎_elim}
 use mathlib.Core.Bool.{Bool, true, false, cond}
@@ -10,7 +10,7 @@ use native.Mathlib.Omega.{arith}
 use borrow.Author.Tests.{eq-eqb, ne_eqb, lt-ltb}
 use lib.Dec.{eqb}
 use lib.ListN.{length, get_or}
-use Rattle.fields.specs.Field.{field, put_field}
+use Rattle.fields.specs.Field.{put_field}
 use Rattle.fields.proofs.Laws.{Outside, put_outside, field_kept, length_put}
 use Rattle.fields.proofs.Runs.{table_at}
 use Rattle.machine.specs.Stores.{of_applied, of_target, value}

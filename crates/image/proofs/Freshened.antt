@@ -1,14 +1,13 @@
 -- A fresh image, of either kind, as the code makes it; it is well-formed, and shows the fresh state. Assumes nothing.
-use Prim.Native.Nat.{ℕ, zero, suc, ◌+◌, ◌≤◌, ◌<◌}
-use mathlib.Core.Path.{◌≡◌, refl, ap, ap₂, sym, ◌∙◌}
+use Prim.Native.Nat.{ℕ, zero, suc, ◌+◌, ◌≤◌}
+use mathlib.Core.Path.{◌≡◌, refl, ap, ap₂, ◌∙◌}
 use mathlib.Core.Logic.{inl, inr}
 use mathlib.Core.Bool.{Bool, true, false}
 use mathlib.Core.List.{List, [], ◌∷◌}
 use native.Mathlib.Omega.{arith}
-use borrow.Author.Tests.{eq-eqb, eqb-true, eqb-false, le-leb}
-use lib.Dec.{eqb}
-use lib.ListN.{length, get_or, set, replicate, length-replicate, length-set}
-use lib.Seq.{get_or-set_same, get_or-set_other, ext_get_or}
+use borrow.Author.Tests.{eq-eqb, le-leb}
+use mir.Val.{bool_byte}
+use lib.ListN.{length, get_or, replicate, length-replicate}
 use Rattle.kinds.specs.Statuses.{progress_of}
 use Rattle.fields.specs.Field.{field, put_field, fields_at, total}
 use Rattle.fields.proofs.Laws.{Outside, put_outside, put_same, field_kept, length_put}
@@ -46,27 +45,11 @@ unfolding fields_at
 fields_zeros [] n at = refl
 fields_zeros (w ∷ ws) n at = ap₂ (λ (x : ℕ) (xs : List ℕ). x ∷ xs) (field_zeros w n at) (fields_zeros ws n (at + w))
 
--- ---- the loop: the first k bytes are 0
-pub record Cleared (l s : List ℕ) (k : ℕ) : Type 0 where
-  pub size : length s ≡ length l
-  pub done : (j : ℕ) → j < k → get_or s j 0 ≡ 0
-
-pub cleared_none : (l : List ℕ) → Cleared l l 0
-cleared_none l = record { size = refl; done = λ j h. absurd (omega arith) }
-
-pub cleared_more : (l s m : List ℕ) (n k : ℕ) → Cleared l s k → n ≡ length l → k < n → m ≡ set s k 0 → Cleared l m (k + 1)
-cleared_more l s m n k c f h e =
-    record { size = ap length e ∙ length-set s k 0 ∙ c.size; done = λ j q. ap (λ (x : List ℕ). get_or x j 0) e ∙ go j q (eqb j k) refl }
-  where
-    go : (j : ℕ) → j < k + 1 → (b : Bool) → eqb j k ≡ b → get_or (set s k 0) j 0 ≡ 0
-    go j q true z = let y : j ≡ k = eqb-true j k z in rw y (get_or-set_same s k 0 0 (omega (arith, c.size)))
-    go j q false z = get_or-set_other s k j 0 0 (eqb-false j k z) ∙ c.done j (omega (arith, eqb-false j k z))
-
-pub cleared_all : (l s : List ℕ) (n k : ℕ) → n ≡ length l → n ≤ k → Cleared l s k → s ≡ zeros (length l)
-cleared_all l s n k e h c =
-    ext_get_or 0 s (zeros (length l)) (c.size ∙ sym (length_zeros (length l))) (λ j q. c.done j (omega (arith, c.size)) ∙ sym (byte_zeros (length l) j))
-
 -- ---- cleared, and the two bytes set
+pub flag_byte : (b : Bool) → bool_byte b ≡ flag_code b
+flag_byte true = refl
+flag_byte false = refl
+
 pub freshened : (m : Bool) (l l1 l2 l3 : List ℕ) (f : ℕ) → length l ≡ image_length → l1 ≡ zeros (length l) → l2 ≡ put_field l1 configuration_at 1 1 → f ≡ flag_code m
     → l3 ≡ put_field l2 (target_at + remembers_in) 1 f → l3 ≡ fresh_image m
 unfolding fresh_image

@@ -13,7 +13,7 @@ use Rattle.fields.specs.Field.{put_field}
 use Rattle.fields.proofs.Laws.{Outside, field_kept, put_outside, length_put}
 use Rattle.fields.proofs.Runs.{fields_kept}
 use Rattle.machine.specs.Stores.{Table, of_committed, of_target, of_base, of_owners, value}
-use Rattle.image.specs.Layout.{entry_widths, head_widths, table_widths, configuration_widths, mastership_widths, target_widths, connections_widths, place_of, last_at, change_at, committed_at, applied_at, values_at, configuration_at, mastership_at, target_at, connections_at, folded_at, highest, stride, head_size, table_size, table_length, value_size, connections_size, connected_at, running_in, remembers_in}
+use Rattle.image.specs.Layout.{entry_widths, head_widths, table_widths, configuration_widths, mastership_widths, target_widths, connections_widths, place_of, last_at, change_at, committed_at, applied_at, values_at, configuration_at, mastership_at, target_at, connections_at, folded_at, stride, head_size, table_size, table_length, value_size, connections_size, connected_at, running_in, remembers_in}
 use Rattle.image.specs.Records.{to_entry, entry_at, last_of, folded_of, change_of, to_head, head_at, to_configuration, configuration_of, to_mastership, mastership_of, to_target, target_of, to_connections, connections_of}
 use Rattle.image.specs.View.{up_from, table_of, entries_of, log_of, part_of, ledger_of, net_of, write}
 use Rattle.image.specs.Formed.{statuses_ok, flags_ok}

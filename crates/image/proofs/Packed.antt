@@ -2,6 +2,8 @@
 -- number in range is that of the four statuses that it gives. Assumes nothing.
 use Prim.Native.Nat.{ℕ, zero, suc, ◌+◌, ◌*◌, ◌/◌, ◌%◌, ◌≤◌, ◌<◌}
 use mathlib.Core.Path.{◌≡◌, refl, ap, ◌∙◌}
+use mathlib.Core.List.{List, [], ◌∷◌}
+use lib.ListN.{get_or}
 use native.Mathlib.Omega.{arith}
 use Rattle.kinds.specs.declared.Transaction.{Transaction}
 use Rattle.kinds.specs.declared.Status.{Status}
@@ -105,8 +107,26 @@ packed_back n h =
     )
     (again n)
 
--- ---- as the code packs them
-pub packs : (t : Transaction) (a b c d : ℕ) → a ≡ code_of t.change.commit → b ≡ code_of t.change.apply → c ≡ code_of t.rollback.commit → d ≡ code_of t.rollback.apply
-    → a * 343 + b * 49 + c * 7 + d ≡ packed_of t
+-- ---- as the code packs them: the number of the first k of a list of statuses
+abbrev pub packed_first : List Status → ℕ → ℕ
+packed_first xs zero = 0
+packed_first xs (suc k) = packed_first xs k * 7 + code_of (get_or xs k None)
+
+pub room_left : (xs : List Status) (k : ℕ) → k < 4 → packed_first xs k ≤ 342
+room_left xs zero h = omega arith
+room_left xs (suc zero) h = omega (arith, code_low (get_or xs 0 None))
+room_left xs (suc (suc zero)) h = omega (arith, code_low (get_or xs 0 None), code_low (get_or xs 1 None))
+room_left xs (suc (suc (suc zero))) h = omega (arith, code_low (get_or xs 0 None), code_low (get_or xs 1 None), code_low (get_or xs 2 None))
+room_left xs (suc (suc (suc (suc k)))) h = absurd (omega arith)
+
+regrouped : (a b c d : ℕ) → (((0 * 7 + a) * 7 + b) * 7 + c) * 7 + d ≡ packed a b c d
+regrouped a b c d = omega arith
+
+abbrev pub statuses_of : Transaction → List Status
+statuses_of t = t.change.commit ∷ t.change.apply ∷ t.rollback.commit ∷ t.rollback.apply ∷ []
+
+pub packs : (t : Transaction) (n k : ℕ) → n ≡ packed_first (statuses_of t) k → k ≡ 4 → n ≡ packed_of t
 unfolding packed_of
-packs t a b c d p q r s = rw (p, q, r, s)
+packs t n k e h =
+    rw h at e
+    ∙ regrouped (code_of t.change.commit) (code_of t.change.apply) (code_of t.rollback.commit) (code_of t.rollback.apply)

@@ -12,13 +12,13 @@ use lib.Seq.{take-suc, take_all}
 use native.Mathlib.Numerals.{add-one}
 use Rattle.kinds.specs.declared.Transaction.{Transaction}
 use Rattle.fields.specs.Field.{field, fields_at, ones, twos}
-use Rattle.machine.specs.State.{State, last, entry_of}
+use Rattle.machine.specs.State.{last, entry_of}
 use Rattle.machine.specs.Stores.{of_owners}
 use Rattle.machine.specs.WellFormed.{all_entries, pairs_ok, recalls_ok, all_at_most, log_ok, entry_ok, heads_ok, sizes_ok, well_formed}
 use Rattle.image.specs.Layout.{slots, highest, highest_ordinal, phase_in, count_in, index_in, change_ordinal_in, rollback_ordinal_in, paths_in, owners_in, value_size, values_at, last_at, folded_at, image_length}
 use Rattle.image.specs.Records.{entry_at, last_of, folded_of, connections_of}
-use Rattle.image.specs.View.{up_from, table_of, view}
-use Rattle.image.specs.Formed.{all_kept, statuses_ok, entry_statuses_ok, marks_ok, flags_ok, entry_formed, codes_ok, formed}
+use Rattle.image.specs.View.{table_of, view}
+use Rattle.image.specs.Formed.{all_kept, entry_statuses_ok, marks_ok, flags_ok, entry_formed, codes_ok, formed}
 use Rattle.image.proofs.Chain.{length_table, value_loaded}
 use Rattle.image.proofs.UpTo.{length_up_to, kept_same, kept_both, kept_entries, entry_up_from, and_left, and_right}
 

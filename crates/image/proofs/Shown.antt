@@ -1,11 +1,10 @@
 -- The joint: the view of an image with a row of stores made in it is the view with the same stores made. Assumes nothing.
-use Prim.Native.Nat.{ℕ, zero, suc, ◌+◌, ◌-◌, ◌*◌, ◌%◌, ◌≤◌, ◌<◌}
+use Prim.Native.Nat.{ℕ, ◌+◌, ◌-◌, ◌*◌, ◌≤◌, ◌<◌}
 use mathlib.Core.Path.{◌≡◌, refl, ap, ap₂, sym, subst, ◌∙◌}
-use mathlib.Core.Logic.{◌⊎◌, inl, inr, ⊎_elim}
+use mathlib.Core.Logic.{inl, inr, ⊎_elim}
 use mathlib.Core.Bool.{Bool, true, false, cond}
 use mathlib.Core.List.{List, [], ◌∷◌, ◌++◌}
 use native.Mathlib.Omega.{arith}
-use native.Mathlib.Numerals.{add-one}
 use borrow.Author.Tests.{ltb-true, ltb-false}
 use lib.Dec.{ltb}
 use lib.ListN.{length, set, drop}
@@ -21,7 +20,7 @@ use Rattle.kinds.specs.Numbers.{num}
 use Rattle.fields.specs.Field.{put_field, put_fields}
 use Rattle.fields.proofs.Laws.{Outside, length_put, put_outside, put_same}
 use Rattle.fields.proofs.Runs.{Fit, length_puts, puts_outside, puts_same, table_set}
-use Rattle.machine.specs.State.{Part, Ledger, Net, Log, State, blank, grown, put_place}
+use Rattle.machine.specs.State.{Part, Ledger, Net, Log, State, blank, put_place}
 use Rattle.machine.specs.Stores.{Table, of_committed, of_applied, of_target, of_base, of_owners, Store, grow, entry, fold, change, committed_head, applied_head, value, target_values, configuration, mastership, connections, target, with_log, with_committed, with_applied, with_net, after_value, after, afters}
 use Rattle.image.specs.Layout.{entry_widths, head_widths, table_widths, configuration_widths, mastership_widths, target_widths, connections_widths, slot_of, place_of, last_at, change_at, committed_at, applied_at, values_at, configuration_at, mastership_at, target_at, connections_at, folded_at, image_length, slots, highest, stride, head_size, table_size, connections_size}
 use Rattle.image.specs.Records.{to_entry, entry_numbers, entry_at, put_entry_at, last_of, folded_of, change_of, to_head, head_numbers, head_at, put_head_at, to_configuration, configuration_numbers, configuration_of, put_configuration, to_mastership, mastership_numbers, mastership_of, put_mastership, to_target, target_numbers, target_of, put_target, to_connections, connections_numbers, eight, connections_of, put_connections}

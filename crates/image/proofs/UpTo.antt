@@ -10,8 +10,11 @@ use lib.Dec.{ltb, leb, eqb}
 use lib.ListN.{length, get_or, set, drop, length-append, length-set, length-drop, get_or-append}
 use lib.Seq.{get_or-append_seam, get_or-set_same, get_or-set_other, get_or-drop, ext_get_or}
 use borrow.Author.Tests.{eqb-true, eqb-false, ltb-true, ltb-false, leb-true, leb-false}
+use Rattle.std.specs.Bool.{MatchBool}
+use Rattle.std.specs.List.{AllWithin, HoldsAt, range_with_len}
+use Rattle.std.proofs.lemmas.List.FromFn.{get_or-range_with_len, length-range_with_len}
 use Rattle.kinds.specs.declared.Transaction.{Transaction}
-use Rattle.machine.specs.State.{Log, place_of, put_place, blank}
+use Rattle.machine.specs.State.{place_of, put_place, blank}
 use Rattle.machine.specs.WellFormed.{all_from}
 use Rattle.image.specs.View.{up_to, up_from}
 use Rattle.image.specs.Formed.{all_up_to, all_kept}
@@ -212,6 +215,24 @@ kept_from p b n h = all_from_holds (λ j. p (b + j)) (n - b) (λ k u v. h (b + k
 pub kept_both : (p q : ℕ → Bool) (b n : ℕ) → all_kept (λ k. p k && q k) b n ≡ (all_kept p b n && all_kept q b n)
 unfolding all_kept
 kept_both p q b n = all_both (λ j. p (b + j)) (λ j. q (b + j)) (n - b)
+
+-- the scan, by the library's `all` over the numbers from b up to n, each of which stands for the next
+pub kept_scanned : (p : ℕ → Bool) (b n : ℕ) (r : Bool) → b ≤ n
+    → MatchBool r (AllWithin (λ (x : ℕ). p (x + 1) ≡ true) (range_with_len b (n - b)) 0 (length (range_with_len b (n - b))))
+    ((i : ℕ) × (i < length (range_with_len b (n - b))) × HoldsAt (λ (x : ℕ). p (x + 1) ≡ false) (range_with_len b (n - b)) i)
+    → r ≡ all_kept p b n
+kept_scanned p b n true h m =
+    sym
+    (kept_from p b n
+    (λ k u v.
+    let i : ℕ = k - (b + 1) in
+    let e : get_or (range_with_len b (n - b)) i 0 + 1 ≡ k = omega (arith, get_or-range_with_len b (n - b) i 0 (omega arith)) in
+    subst (λ (x : ℕ). p x ≡ true) e (m i 0 (omega arith) (omega (arith, length-range_with_len b (n - b))))))
+kept_scanned p b n false h m =
+    let i : ℕ = m.0 in
+    let q : i < n - b = omega (arith, m.1, length-range_with_len b (n - b)) in
+    let e : get_or (range_with_len b (n - b)) i 0 + 1 ≡ b + i + 1 = omega (arith, get_or-range_with_len b (n - b) i 0 q) in
+    sym (kept_not p b n (b + i + 1) (omega arith) (omega arith) (subst (λ (x : ℕ). p x ≡ false) e (m.2 0)))
 
 -- the test of every entry of a log so made
 pub kept_entries : (p : ℕ → Transaction → Bool) (f : ℕ → Transaction) (b n : ℕ) → all_from p (suc b) (up_from f b n) ≡ all_kept (λ k. p k (f k)) b n

@@ -7,7 +7,7 @@ ghost use Rattle.image.specs.Formed.{statuses_ok};
 ghost use Rattle.image.specs.Promises.{LoadsClass};
 
 use crate::entry::place_of;
-use fields::get2;
+use fields::get;
 
 const CLASSES: [u8; 2401] = *b"\
     1116161555656555565655556565555656555565655556565111616155565655556565555656555565655556565555656511\
@@ -51,5 +51,5 @@ pub fn load_class(s: &[u8], n: u16) -> u8
     ensures { LoadsClass s.now n result }
 {
     let at = place_of(n as usize);
-    class_of(get2(s, at) as usize)
+    class_of(get::<u16>(s, at) as usize)
 }

@@ -10,7 +10,7 @@ use crate::layout::{
     ROLLBACK_ORDINAL_IN, STRIDE, VALUES_IN,
 };
 use crate::statuses::{apply_in, change_in, commit_in, pack, rollback_in};
-use fields::{get_ones, get_twos, get1, get2, get4, put_ones, put_twos, put1, put2, put4};
+use fields::{get, get_four, put, put_four};
 use kinds::{Number, Ordinal, Side, Transaction};
 
 // Where the entry of number n lies: at its slot of the ring. No other function says it.
@@ -28,7 +28,7 @@ fn load_side(s: &[u8], h: u16, o: usize) -> Side
 {
     let commit = commit_in(h);
     let apply = apply_in(h);
-    let ordinal = Ordinal::of(get4(s, o));
+    let ordinal = Ordinal::of(get::<u32>(s, o));
     Side {
         commit,
         apply,
@@ -42,16 +42,16 @@ pub fn load_entry(s: &[u8], n: u16) -> Transaction
     ensures { LoadsEntry s.now n result }
 {
     let at = place_of(n as usize);
-    let statuses = get2(s, at);
+    let statuses = get::<u16>(s, at);
     let change = load_side(s, change_in(statuses), at + CHANGE_ORDINAL_IN);
     let rollback = load_side(s, rollback_in(statuses), at + ROLLBACK_ORDINAL_IN);
-    let phase = get1(s, at + PHASE_IN);
-    let count = get1(s, at + COUNT_IN);
-    let index = Number::of(get2(s, at + INDEX_IN));
-    let paths = get_ones(s, at + PATHS_IN);
-    let values = get_twos(s, at + VALUES_IN);
-    let kept = get_twos(s, at + KEPT_IN);
-    let owners = get_twos(s, at + OWNERS_IN);
+    let phase = get::<u8>(s, at + PHASE_IN);
+    let count = get::<u8>(s, at + COUNT_IN);
+    let index = Number::of(get::<u16>(s, at + INDEX_IN));
+    let paths = get_four::<u8>(s, at + PATHS_IN);
+    let values = get_four::<u16>(s, at + VALUES_IN);
+    let kept = get_four::<u16>(s, at + KEPT_IN);
+    let owners = get_four::<u16>(s, at + OWNERS_IN);
     Transaction {
         phase,
         count,
@@ -71,8 +71,8 @@ pub fn carries_next(s: &[u8], n: u16, a: Ordinal) -> bool
     ensures { TellsCarried s.now n a result }
 {
     let at = place_of(n as usize);
-    let change = Ordinal::of(get4(s, at + CHANGE_ORDINAL_IN));
-    let rollback = Ordinal::of(get4(s, at + ROLLBACK_ORDINAL_IN));
+    let change = Ordinal::of(get::<u32>(s, at + CHANGE_ORDINAL_IN));
+    let rollback = Ordinal::of(get::<u32>(s, at + ROLLBACK_ORDINAL_IN));
     let by_change = change.follows(a);
     let by_rollback = rollback.follows(a);
     by_change | by_rollback
@@ -82,9 +82,9 @@ fn store_codes(s: &mut [u8], at: usize, t: Transaction)
     requires { at + index_in ≤ length s.old }
     ensures { s.new ≡ put_fields s.old at code_widths (codes t) }
 {
-    put2(s, at, pack(t));
-    put1(s, at + PHASE_IN, t.phase);
-    put1(s, at + COUNT_IN, t.count);
+    put(s, at, pack(t));
+    put(s, at + PHASE_IN, t.phase);
+    put(s, at + COUNT_IN, t.count);
 }
 
 fn store_marks(s: &mut [u8], at: usize, t: Transaction)
@@ -96,9 +96,9 @@ fn store_marks(s: &mut [u8], at: usize, t: Transaction)
     let i = t.index;
     let a = x.ordinal;
     let b = y.ordinal;
-    put2(s, at + INDEX_IN, i.get());
-    put4(s, at + CHANGE_ORDINAL_IN, a.get());
-    put4(s, at + ROLLBACK_ORDINAL_IN, b.get());
+    put(s, at + INDEX_IN, i.get());
+    put(s, at + CHANGE_ORDINAL_IN, a.get());
+    put(s, at + ROLLBACK_ORDINAL_IN, b.get());
 }
 
 // The entry of number n, put in its slot of the ring.
@@ -113,10 +113,10 @@ pub fn store_entry(s: &mut [u8], n: u16, t: Transaction)
     let owners = t.owners;
     store_codes(s, at, t);
     store_marks(s, at, t);
-    put_ones(s, at + PATHS_IN, paths);
-    put_twos(s, at + VALUES_IN, values);
-    put_twos(s, at + KEPT_IN, kept);
-    put_twos(s, at + OWNERS_IN, owners);
+    put_four(s, at + PATHS_IN, paths);
+    put_four(s, at + VALUES_IN, values);
+    put_four(s, at + KEPT_IN, kept);
+    put_four(s, at + OWNERS_IN, owners);
 }
 
 // One entry more, where the highest number given is n.
@@ -125,5 +125,5 @@ pub fn grow(s: &mut [u8], n: u16, t: Transaction)
     ensures { Grows s.old n t s.new }
 {
     store_entry(s, n + 1, t);
-    put2(s, LAST_AT, n + 1);
+    put(s, LAST_AT, n + 1);
 }

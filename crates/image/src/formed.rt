@@ -19,14 +19,14 @@ use crate::layout::{
     OWNERS_AT, OWNERS_IN, PATHS_IN, PHASE_IN, REMEMBERS_AT, REVISION_IN, RING, ROLLBACK_ORDINAL_IN,
     RUNNING_AT, SECOND_PATH_IN, SLOTS, STRIDE, TABLE_LENGTH, TARGET_IN, THIRD_PATH_IN, VALUE_SIZE,
 };
-use fields::{get_twos, get1, get2, get4};
+use fields::{get, get_four};
 
 // The four statuses of the entry at a place, in one number.
 fn statuses_formed(s: &[u8], at: usize) -> bool
     requires { at + stride ≤ length s.now }
     ensures { result ≡ statuses_ok s.now at }
 {
-    get2(s, at) <= HIGHEST_PACKED
+    get::<u16>(s, at) <= HIGHEST_PACKED
 }
 
 // The owners that entry n at a place remembers.
@@ -35,7 +35,7 @@ fn recalls_formed(s: &[u8], at: usize, n: usize) -> bool
     ensures { result ≡ recalls_ok n (fields_at s.now (at + owners_in) twos) }
 {
     let i = n as u16;
-    let o = get_twos(s, at + OWNERS_IN);
+    let o = get_four::<u16>(s, at + OWNERS_IN);
     ((o[0] < i) & (o[1] < i)) & ((o[2] < i) & (o[3] < i))
 }
 
@@ -44,22 +44,22 @@ fn marks_formed(s: &[u8], at: usize, n: usize) -> bool
     requires { (n ≤ highest) × (at + stride ≤ length s.now) }
     ensures { result ≡ marks_ok s.now at n }
 {
-    let phase = get1(s, at + PHASE_IN);
+    let phase = get::<u8>(s, at + PHASE_IN);
     if phase < 1 {
         return false;
     }
     if 2 < phase {
         return false;
     }
-    let index = get2(s, at + INDEX_IN) as usize;
+    let index = get::<u16>(s, at + INDEX_IN) as usize;
     if n <= index {
         return false;
     }
     if recalls_formed(s, at, n) {
-        if HIGHEST_ORDINAL < get4(s, at + CHANGE_ORDINAL_IN) {
+        if HIGHEST_ORDINAL < get::<u32>(s, at + CHANGE_ORDINAL_IN) {
             return false;
         }
-        return get4(s, at + ROLLBACK_ORDINAL_IN) <= HIGHEST_ORDINAL;
+        return get::<u32>(s, at + ROLLBACK_ORDINAL_IN) <= HIGHEST_ORDINAL;
     }
     false
 }
@@ -69,8 +69,8 @@ fn rises(s: &[u8], at: usize) -> bool
     requires { at + 2 ≤ length s.now }
     ensures { result ≡ (ltb (field s.now at 1) (field s.now (at + 1) 1) && ltb (field s.now (at + 1) 1) 32) }
 {
-    let a = get1(s, at);
-    let b = get1(s, at + 1);
+    let a = get::<u8>(s, at);
+    let b = get::<u8>(s, at + 1);
     if b <= a {
         return false;
     }
@@ -82,14 +82,14 @@ fn pairs_formed(s: &[u8], at: usize) -> bool
     requires { at + stride ≤ length s.now }
     ensures { result ≡ pairs_ok (field s.now (at + count_in) 1) (fields_at s.now (at + paths_in) ones) }
 {
-    let n = get1(s, at + COUNT_IN);
+    let n = get::<u8>(s, at + COUNT_IN);
     if n < 1 {
         return false;
     }
     if 4 < n {
         return false;
     }
-    if 32 <= get1(s, at + PATHS_IN) {
+    if 32 <= get::<u8>(s, at + PATHS_IN) {
         return false;
     }
     if n < 2 {
@@ -130,13 +130,11 @@ fn run_formed(s: &[u8], b: usize, n: usize) -> bool
     ensures { result ≡ all_kept (entry_formed s.now) b n }
 {
     let mut at = place_of(b + 1);
-    let mut i = b;
-    while i < n {
+    for i in b..n {
         if !entry_formed(s, at, i + 1) {
             return false;
         }
         at += STRIDE;
-        i += 1;
     }
     true
 }
@@ -161,10 +159,10 @@ fn head_formed(s: &[u8], at: usize, n: u16) -> bool
     requires { at + head_size ≤ length s.now }
     ensures { result ≡ head_ok n (head_at s.now at) }
 {
-    let i = get2(s, at);
-    let t = get2(s, at + TARGET_IN);
-    let v = get2(s, at + REVISION_IN);
-    let o = get4(s, at + ORDINAL_IN);
+    let i = get::<u16>(s, at);
+    let t = get::<u16>(s, at + TARGET_IN);
+    let v = get::<u16>(s, at + REVISION_IN);
+    let o = get::<u32>(s, at + ORDINAL_IN);
     ((i <= n) & ((t <= n) & (v <= n))) & (o <= HIGHEST_ORDINAL)
 }
 
@@ -174,11 +172,9 @@ fn owners_formed(s: &[u8], n: u16) -> bool
     ensures { result ≡ all_at_most n (table_of s.now of_owners) }
 {
     let mut ok = true;
-    let mut k: usize = 0;
-    while k < TABLE_LENGTH {
-        let owner = get2(s, OWNERS_AT + VALUE_SIZE * k);
+    for k in 0..TABLE_LENGTH {
+        let owner = get::<u16>(s, OWNERS_AT + VALUE_SIZE * k);
         ok = ok & (owner <= n);
-        k += 1;
     }
     ok
 }
@@ -190,10 +186,10 @@ fn heads_formed(s: &[u8], n: u16) -> bool
 {
     let committed = head_formed(s, COMMITTED_AT, n);
     let applied = head_formed(s, APPLIED_AT, n);
-    let change = get2(s, CHANGE_AT);
-    let revision = get2(s, COMMITTED_REVISION_AT);
+    let change = get::<u16>(s, CHANGE_AT);
+    let revision = get::<u16>(s, COMMITTED_REVISION_AT);
     let owners = owners_formed(s, change);
-    let master = get1(s, MASTERSHIP_AT);
+    let master = get::<u8>(s, MASTERSHIP_AT);
     (committed & applied) & (((change <= n) & ((revision <= change) & owners)) & (master <= 8))
 }
 
@@ -202,17 +198,17 @@ fn flags_formed(s: &[u8]) -> bool
     requires { length s.now ≡ image_length }
     ensures { result ≡ flags_ok s.now }
 {
-    let state = get1(s, CONFIGURATION_AT);
-    let running = get1(s, RUNNING_AT);
-    let remembers = get1(s, REMEMBERS_AT);
-    let a = get1(s, CONNECTED_1_AT);
-    let b = get1(s, CONNECTED_2_AT);
-    let c = get1(s, CONNECTED_3_AT);
-    let d = get1(s, CONNECTED_4_AT);
-    let e = get1(s, CONNECTED_5_AT);
-    let f = get1(s, CONNECTED_6_AT);
-    let g = get1(s, CONNECTED_7_AT);
-    let h = get1(s, CONNECTED_8_AT);
+    let state = get::<u8>(s, CONFIGURATION_AT);
+    let running = get::<u8>(s, RUNNING_AT);
+    let remembers = get::<u8>(s, REMEMBERS_AT);
+    let a = get::<u8>(s, CONNECTED_1_AT);
+    let b = get::<u8>(s, CONNECTED_2_AT);
+    let c = get::<u8>(s, CONNECTED_3_AT);
+    let d = get::<u8>(s, CONNECTED_4_AT);
+    let e = get::<u8>(s, CONNECTED_5_AT);
+    let f = get::<u8>(s, CONNECTED_6_AT);
+    let g = get::<u8>(s, CONNECTED_7_AT);
+    let h = get::<u8>(s, CONNECTED_8_AT);
     let first = (a <= 1) & ((b <= 1) & ((c <= 1) & (d <= 1)));
     let last = (e <= 1) & ((f <= 1) & ((g <= 1) & (h <= 1)));
     ((1 <= state) & (state <= 3)) & (((running <= 1) & (remembers <= 1)) & (first & last))
@@ -225,8 +221,8 @@ pub fn well_formed(s: &[u8]) -> bool
     if s.len() != IMAGE_LENGTH {
         return false;
     }
-    let n = get2(s, LAST_AT);
-    let b = get2(s, FOLDED_AT);
+    let n = get::<u16>(s, LAST_AT);
+    let b = get::<u16>(s, FOLDED_AT);
     if n < b {
         return false;
     }

@@ -1,7 +1,7 @@
 // The nodes and the switch: configuration, mastership, target and the eight connections.
 ghost use Rattle.std.specs.Prelude.{◌≡◌, ◌+◌, ◌*◌, ◌≤◌, length};
 ghost use Rattle.image.specs.Layout.{image_length, node_size};
-ghost use Rattle.image.specs.Records.{flag_code, to_node, put_node_at};
+ghost use Rattle.image.specs.Records.{to_node, put_node_at};
 ghost use Rattle.image.specs.Promises.{LoadsConfiguration, StoresConfiguration, LoadsMastership, StoresMastership, LoadsTarget, StoresTarget, LoadsConnection, LoadsConnections, StoresConnections};
 
 use crate::layout::{
@@ -9,7 +9,7 @@ use crate::layout::{
     MASTERSHIP_TERM_AT, NODE_2_AT, NODE_3_AT, NODE_4_AT, NODE_5_AT, NODE_6_AT, NODE_7_AT,
     NODE_8_AT, NODE_SIZE, REMEMBERS_AT, RUNNING_AT, TARGET_AT, THREE_NODES, TWO_NODES,
 };
-use fields::{get1, get4, put1, put4};
+use fields::{get, put};
 use kinds::{Configuration, Connection, Mastership, Progress, Target, Term};
 
 // ---- configuration, mastership, target
@@ -19,8 +19,8 @@ pub fn load_configuration(s: &[u8]) -> Configuration
     requires { image_length ≤ length s.now }
     ensures { LoadsConfiguration s.now result }
 {
-    let state = Progress::of(get1(s, CONFIGURATION_AT));
-    let term = Term::of(get4(s, CONFIGURATION_TERM_AT));
+    let state = Progress::of(get::<u8>(s, CONFIGURATION_AT));
+    let term = Term::of(get::<u32>(s, CONFIGURATION_TERM_AT));
     Configuration { state, term }
 }
 
@@ -31,8 +31,8 @@ pub fn store_configuration(s: &mut [u8], g: Configuration)
 {
     let state = g.state;
     let term = g.term;
-    put1(s, CONFIGURATION_AT, state.code());
-    put4(s, CONFIGURATION_TERM_AT, term.get());
+    put(s, CONFIGURATION_AT, state.code());
+    put(s, CONFIGURATION_TERM_AT, term.get());
 }
 
 // The master, its term and the connection that it was made at.
@@ -40,9 +40,9 @@ pub fn load_mastership(s: &[u8]) -> Mastership
     requires { image_length ≤ length s.now }
     ensures { LoadsMastership s.now result }
 {
-    let master = get1(s, MASTERSHIP_AT);
-    let term = Term::of(get4(s, MASTERSHIP_TERM_AT));
-    let conn = get4(s, CONN_AT);
+    let master = get::<u8>(s, MASTERSHIP_AT);
+    let term = Term::of(get::<u32>(s, MASTERSHIP_TERM_AT));
+    let conn = get::<u32>(s, CONN_AT);
     Mastership { master, term, conn }
 }
 
@@ -52,19 +52,9 @@ pub fn store_mastership(s: &mut [u8], m: Mastership)
     ensures { StoresMastership s.old m s.new }
 {
     let term = m.term;
-    put1(s, MASTERSHIP_AT, m.master);
-    put4(s, MASTERSHIP_TERM_AT, term.get());
-    put4(s, CONN_AT, m.conn);
-}
-
-// A flag's byte.
-pub fn flag_code(b: bool) -> u8
-    ensures { result ≡ flag_code b }
-{
-    if b {
-        return 1;
-    }
-    0
+    put(s, MASTERSHIP_AT, m.master);
+    put(s, MASTERSHIP_TERM_AT, term.get());
+    put(s, CONN_AT, m.conn);
 }
 
 // The target's id, whether it runs, and whether it remembers.
@@ -72,9 +62,9 @@ pub fn load_target(s: &[u8]) -> Target
     requires { image_length ≤ length s.now }
     ensures { LoadsTarget s.now result }
 {
-    let id = get4(s, TARGET_AT);
-    let running = get1(s, RUNNING_AT) == 1;
-    let remembers = get1(s, REMEMBERS_AT) == 1;
+    let id = get::<u32>(s, TARGET_AT);
+    let running = get::<u8>(s, RUNNING_AT) == 1;
+    let remembers = get::<u8>(s, REMEMBERS_AT) == 1;
     Target {
         id,
         running,
@@ -87,9 +77,9 @@ pub fn store_target(s: &mut [u8], t: Target)
     requires { image_length ≤ length s.old }
     ensures { StoresTarget s.old t s.new }
 {
-    put4(s, TARGET_AT, t.id);
-    put1(s, RUNNING_AT, flag_code(t.running));
-    put1(s, REMEMBERS_AT, flag_code(t.remembers));
+    put(s, TARGET_AT, t.id);
+    put(s, RUNNING_AT, u8::from(t.running));
+    put(s, REMEMBERS_AT, u8::from(t.remembers));
 }
 
 // ---- the eight connections
@@ -98,8 +88,8 @@ fn load_node(s: &[u8], at: usize) -> Connection
     requires { at + node_size ≤ length s.now }
     ensures { result ≡ to_node s.now at }
 {
-    let id = get4(s, at);
-    let connected = get1(s, at + CONNECTED_IN) == 1;
+    let id = get::<u32>(s, at);
+    let connected = get::<u8>(s, at + CONNECTED_IN) == 1;
     Connection { id, connected }
 }
 
@@ -131,8 +121,8 @@ fn store_node(s: &mut [u8], at: usize, x: Connection)
     requires { at + node_size ≤ length s.old }
     ensures { s.new ≡ put_node_at s.old at x }
 {
-    put4(s, at, x.id);
-    put1(s, at + CONNECTED_IN, flag_code(x.connected));
+    put(s, at, x.id);
+    put(s, at + CONNECTED_IN, u8::from(x.connected));
 }
 
 fn store_nodes(s: &mut [u8], at: usize, a: Connection, b: Connection, c: Connection, d: Connection)

@@ -9,7 +9,7 @@ use crate::layout::{
     APPLIED_VALUES_AT, BASE_AT, CHANGE_AT, COMMITTED_VALUES_AT, FOLDED_AT, LAST_AT, ORDINAL_IN,
     REVISION_IN, TABLE_LENGTH, TARGET_IN, TARGET_VALUES_AT, VALUE_SIZE,
 };
-use fields::{get2, get4, put2, put4};
+use fields::{get, put};
 use kinds::{Head, Number, Ordinal};
 
 // ---- the highest number given, the last fold, and Committed's change
@@ -19,7 +19,7 @@ pub fn last_number(s: &[u8]) -> u16
     requires { image_length ≤ length s.now }
     ensures { TellsLast s.now result }
 {
-    get2(s, LAST_AT)
+    get::<u16>(s, LAST_AT)
 }
 
 // 0 where nothing is folded.
@@ -27,7 +27,7 @@ pub fn last_fold(s: &[u8]) -> u16
     requires { image_length ≤ length s.now }
     ensures { TellsFolded s.now result }
 {
-    get2(s, FOLDED_AT)
+    get::<u16>(s, FOLDED_AT)
 }
 
 // The last fold, put in its place.
@@ -35,7 +35,7 @@ pub fn store_fold(s: &mut [u8], n: Number)
     requires { image_length ≤ length s.old }
     ensures { StoresFolded s.old n s.new }
 {
-    put2(s, FOLDED_AT, n.get());
+    put(s, FOLDED_AT, n.get());
 }
 
 // Committed's change.
@@ -43,7 +43,7 @@ pub fn load_change(s: &[u8]) -> Number
     requires { image_length ≤ length s.now }
     ensures { LoadsChange s.now result }
 {
-    Number::of(get2(s, CHANGE_AT))
+    Number::of(get::<u16>(s, CHANGE_AT))
 }
 
 // Committed's change, put in its place.
@@ -51,7 +51,7 @@ pub fn store_change(s: &mut [u8], n: Number)
     requires { image_length ≤ length s.old }
     ensures { StoresChange s.old n s.new }
 {
-    put2(s, CHANGE_AT, n.get());
+    put(s, CHANGE_AT, n.get());
 }
 
 // ---- a head, at its place
@@ -61,10 +61,10 @@ pub fn load_head(s: &[u8], at: usize) -> Head
     requires { at + head_size ≤ length s.now }
     ensures { LoadsHead s.now at result }
 {
-    let index = Number::of(get2(s, at));
-    let target = Number::of(get2(s, at + TARGET_IN));
-    let revision = Number::of(get2(s, at + REVISION_IN));
-    let ordinal = Ordinal::of(get4(s, at + ORDINAL_IN));
+    let index = Number::of(get::<u16>(s, at));
+    let target = Number::of(get::<u16>(s, at + TARGET_IN));
+    let revision = Number::of(get::<u16>(s, at + REVISION_IN));
+    let ordinal = Ordinal::of(get::<u32>(s, at + ORDINAL_IN));
     Head {
         index,
         target,
@@ -82,10 +82,10 @@ pub fn store_head(s: &mut [u8], at: usize, h: Head)
     let target = h.target;
     let revision = h.revision;
     let ordinal = h.ordinal;
-    put2(s, at, index.get());
-    put2(s, at + TARGET_IN, target.get());
-    put2(s, at + REVISION_IN, revision.get());
-    put4(s, at + ORDINAL_IN, ordinal.get());
+    put(s, at, index.get());
+    put(s, at + TARGET_IN, target.get());
+    put(s, at + REVISION_IN, revision.get());
+    put(s, at + ORDINAL_IN, ordinal.get());
 }
 
 // ---- a table of values, at its place
@@ -106,20 +106,14 @@ pub fn table_place(table: u16) -> usize
     BASE_AT
 }
 
-fn wide(x: u8) -> usize
-    ensures { (result ≡ x) × (result < 256) }
-{
-    x as usize
-}
-
 // The value of a path; 0 where there is no such path.
 pub fn load_value(s: &[u8], at: usize, p: u8) -> u16
     requires { at + table_size ≤ length s.now }
     ensures { LoadsValue s.now at p result }
 {
-    let k = wide(p);
+    let k = usize::from(p);
     if k < TABLE_LENGTH {
-        return get2(s, at + VALUE_SIZE * k);
+        return get::<u16>(s, at + VALUE_SIZE * k);
     }
     0
 }
@@ -129,9 +123,9 @@ pub fn store_value(s: &mut [u8], at: usize, p: u8, v: u16)
     requires { at + table_size ≤ length s.old }
     ensures { StoresValue s.old at p v s.new }
 {
-    let k = wide(p);
+    let k = usize::from(p);
     if k < TABLE_LENGTH {
-        put2(s, at + VALUE_SIZE * k, v);
+        put(s, at + VALUE_SIZE * k, v);
         return;
     }
 }
@@ -143,10 +137,8 @@ pub fn clear_target(s: &mut [u8])
     requires { image_length ≤ length s.old }
     ensures { ClearsTarget s.old s.new }
 {
-    let mut k: usize = 0;
-    while k < TABLE_LENGTH {
-        put2(s, TARGET_VALUES_AT + VALUE_SIZE * k, 0);
-        k += 1;
+    for k in 0..TABLE_LENGTH {
+        put(s, TARGET_VALUES_AT + VALUE_SIZE * k, 0u16);
     }
 }
 
@@ -155,12 +147,12 @@ fn write_path(s: &mut [u8], k: usize) -> u16
     requires { (k < 32) × (image_length ≤ length s.old) }
     ensures { WritesPath s.old k result s.new }
 {
-    let v = get2(s, APPLIED_VALUES_AT + VALUE_SIZE * k);
-    let w = get2(s, TARGET_VALUES_AT + VALUE_SIZE * k);
+    let v = get::<u16>(s, APPLIED_VALUES_AT + VALUE_SIZE * k);
+    let w = get::<u16>(s, TARGET_VALUES_AT + VALUE_SIZE * k);
     if w == v {
         return 0;
     }
-    put2(s, TARGET_VALUES_AT + VALUE_SIZE * k, v);
+    put(s, TARGET_VALUES_AT + VALUE_SIZE * k, v);
     1
 }
 
@@ -169,11 +161,9 @@ pub fn write_differing(s: &mut [u8]) -> u16
     requires { image_length ≤ length s.old }
     ensures { WritesDiffering s.old result s.new }
 {
-    let mut count: u16 = 0;
-    let mut k: usize = 0;
-    while k < TABLE_LENGTH {
+    let mut count = 0;
+    for k in 0..TABLE_LENGTH {
         count += write_path(s, k);
-        k += 1;
     }
     count
 }

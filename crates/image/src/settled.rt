@@ -1,9 +1,7 @@
 // Whether what carries an ordinal is Done applying: the scan that a Pending apply asks for. An ordinal is compared with an
 // ordinal only: a number or a term in its place does not compile.
 ghost use Rattle.std.specs.Prelude.{◌≡◌, true, ◌+◌, ◌≤◌, length};
-ghost use Rattle.fields.specs.Field.{field};
-ghost use Rattle.image.specs.Packed.{change_in, rollback_in};
-ghost use Rattle.image.specs.Layout.{image_length, stride, statuses_size, change_ordinal_in, rollback_ordinal_in};
+ghost use Rattle.image.specs.Layout.{image_length};
 ghost use Rattle.image.specs.Formed.{all_kept, formed};
 ghost use Rattle.image.specs.Settled.{side_settled_at, entry_settled_at};
 ghost use Rattle.image.specs.Promises.{TellsSettled};
@@ -12,31 +10,17 @@ use crate::entry::place_of;
 use crate::layout::{CHANGE_ORDINAL_IN, ROLLBACK_ORDINAL_IN};
 use crate::parts::{last_fold, last_number};
 use crate::statuses::{apply_in, change_in, rollback_in};
-use fields::{get2, get4};
+use fields::get;
 use kinds::Ordinal;
 
-// Whether the change of the entry at a place does not carry ordinal o, or is Done applying. Its statuses are loaded only where it
-// carries it.
-fn change_settled(s: &[u8], o: Ordinal, at: usize) -> bool
-    requires { at + stride ≤ length s.now }
-    ensures { result ≡ side_settled_at s.now o.0 (change_in (field s.now at statuses_size)) (at + change_ordinal_in) }
+// Whether a side does not carry ordinal o, or is Done applying: its two statuses are in one number, its ordinal is at a place.
+fn side_settled(s: &[u8], o: Ordinal, h: u16, at: usize) -> bool
+    requires { at + 4 ≤ length s.now }
+    ensures { result ≡ side_settled_at s.now o.0 h at }
 {
-    let carried = Ordinal::of(get4(s, at + CHANGE_ORDINAL_IN));
+    let carried = Ordinal::of(get::<u32>(s, at));
     if carried.is(o) {
-        let apply = apply_in(change_in(get2(s, at)));
-        return apply.done();
-    }
-    true
-}
-
-// The same of its rollback.
-fn rollback_settled(s: &[u8], o: Ordinal, at: usize) -> bool
-    requires { at + stride ≤ length s.now }
-    ensures { result ≡ side_settled_at s.now o.0 (rollback_in (field s.now at statuses_size)) (at + rollback_ordinal_in) }
-{
-    let carried = Ordinal::of(get4(s, at + ROLLBACK_ORDINAL_IN));
-    if carried.is(o) {
-        let apply = apply_in(rollback_in(get2(s, at)));
+        let apply = apply_in(h);
         return apply.done();
     }
     true
@@ -47,10 +31,9 @@ fn entry_settled(s: &[u8], o: Ordinal, n: usize) -> bool
     ensures { result ≡ entry_settled_at s.now o.0 n }
 {
     let at = place_of(n);
-    if change_settled(s, o, at) {
-        return rollback_settled(s, o, at);
-    }
-    false
+    let statuses = get::<u16>(s, at);
+    side_settled(s, o, change_in(statuses), at + CHANGE_ORDINAL_IN)
+        && side_settled(s, o, rollback_in(statuses), at + ROLLBACK_ORDINAL_IN)
 }
 
 // Entries b + 1 to n.
@@ -58,14 +41,7 @@ fn entries_settled(s: &[u8], o: Ordinal, b: usize, n: usize) -> bool
     requires { (b ≤ n) × (image_length ≤ length s.now) }
     ensures { result ≡ all_kept (entry_settled_at s.now o.0) b n }
 {
-    let mut i = b;
-    while i < n {
-        if !entry_settled(s, o, i + 1) {
-            return false;
-        }
-        i += 1;
-    }
-    true
+    (b..n).all(|i| entry_settled(s, o, i + 1))
 }
 
 // Whether every entry kept that carries ordinal o is Done applying.

@@ -1,29 +1,25 @@
 // Four statuses in one number of two bytes (order 12): each side is commit × 7 + apply, and the number is the change's × 49 +
 // the rollback's. What is above 2,400 is no such number: `formed` refuses it.
 ghost use Rattle.std.specs.Prelude.{◌≡◌, ◌≤◌};
-ghost use Rattle.kinds.specs.Statuses.{code_of};
 ghost use Rattle.image.specs.Packed.{packed_of, change_in, rollback_in, commit_in, apply_in};
 
 use kinds::{Status, Transaction};
-
-// A status's number, in two bytes.
-fn wide(x: Status) -> u16
-    ensures { (result ≡ code_of x) × (result ≤ 6) }
-{
-    x.code() as u16
-}
 
 // The four statuses of a transaction.
 pub fn pack(t: Transaction) -> u16
     ensures { result ≡ packed_of t }
 {
-    let x = t.change;
-    let y = t.rollback;
-    let a = x.commit;
-    let b = x.apply;
-    let c = y.commit;
-    let d = y.apply;
-    wide(a) * 343 + wide(b) * 49 + wide(c) * 7 + wide(d)
+    let statuses = [
+        t.change.commit,
+        t.change.apply,
+        t.rollback.commit,
+        t.rollback.apply,
+    ];
+    let mut packed = 0;
+    for status in statuses {
+        packed = packed * 7 + u16::from(status.code());
+    }
+    packed
 }
 
 // The change's two.

@@ -10,7 +10,7 @@ ghost use Rattle.controller.specs.Tallies.{most_logs, totals_in};
 ghost use Rattle.sheet.specs.Reports.{tally_line, piece_end, PutsLog, PutsLogs, Reports};
 
 use controller::Tally;
-use fields::get2;
+use fields::get;
 use std::io;
 use std::io::{Read, Write};
 use std::process::ExitCode;
@@ -83,12 +83,12 @@ fn put_totals(totals: &[u8; 12], out: &mut [u8], used: usize) -> usize
     ensures { Put out.old used (totals_line (totals_in totals.now)) result out.new }
 {
     let numbers = [
-        get2(totals, 0),
-        get2(totals, 2),
-        get2(totals, 4),
-        get2(totals, 6),
-        get2(totals, 8),
-        get2(totals, 10),
+        get::<u16>(totals, 0),
+        get::<u16>(totals, 2),
+        get::<u16>(totals, 4),
+        get::<u16>(totals, 6),
+        get::<u16>(totals, 8),
+        get::<u16>(totals, 10),
     ];
     let end = used + LINE;
     let n = lines::write_totals(&mut out[used..end], numbers);

@@ -6,9 +6,9 @@ pub returns : goal.returns
 returns c = totals_put c.args.totals.now
     _ c.args.used
     _ _ _ (totals_same c.args.totals.now
-    c.get2.ensures
-    c.get2-2.ensures
-    c.get2-3.ensures c.get2-4.ensures
-    c.get2-5.ensures c.get2-6.ensures)
+    c.get.ensures
+    c.get-2.ensures
+    c.get-3.ensures c.get-4.ensures
+    c.get-5.ensures c.get-6.ensures)
     c.requires
     c.write_totals-n.ensures

@@ -7,4 +7,4 @@ use Rattle.image.proofs.formed.head_formed.Goals as goal
 
 pub returns : goal.returns
 unfolding head_ok head_at fields_at
-returns c = simp (c.get2-i.ensures, c.get2-t.ensures, c.get2-v.ensures, c.get4-o.ensures, add_assoc)
+returns c = simp (c.get-i.ensures, c.get-t.ensures, c.get-v.ensures, c.get-o.ensures, add_assoc)

@@ -6,4 +6,4 @@ use Rattle.image.proofs.formed.heads_formed.Goals as goal
 
 pub returns : goal.returns
 unfolding view head_at change_of mastership_of fields_at
-returns c = simp (c.head_formed-committed.ensures, c.head_formed-applied.ensures, c.owners_formed-owners.ensures, c.get2-change.ensures, c.get2-revision.ensures, c.get1-master.ensures)
+returns c = simp (c.head_formed-committed.ensures, c.head_formed-applied.ensures, c.owners_formed-owners.ensures, c.get-change.ensures, c.get-revision.ensures, c.get-master.ensures)

@@ -1,5 +1,4 @@
 -- `owners_formed` meets its contract: `ok` says whether the owners before k are at most n. Assumes nothing.
-use Prim.Native.Nat.{◌-◌}
 use mathlib.Core.Path.{refl}
 use borrow.Author.Rules.{rules}
 use Rattle.machine.specs.WellFormed.{all_at_most}
@@ -11,7 +10,7 @@ unfolding all_at_most
 loop-k-init c = (search rules, refl)
 
 pub loop-k-preserved : goal.loop-k-preserved
-loop-k-preserved c = (search rules, most_more _ _ _ _ _ c.loop-k-test.true c.get2-owner.ensures c.loop-k.invariant.1)
+loop-k-preserved c = (search rules, most_more _ _ _ _ _ c.loop-k-test.true c.get-owner.ensures c.loop-k.invariant.1)
 
 pub returns : goal.returns
 returns c = most_all _ _ _ _ c.loop-k-test.false c.loop-k.invariant.1

@@ -3,4 +3,4 @@
 use Rattle.image.proofs.formed.recalls_formed.Goals as goal
 
 pub returns : goal.returns
-returns c = rw c.get_twos-o.ensures
+returns c = rw c.get_four-o.ensures

@@ -1,11 +1,7 @@
 -- `run_formed` meets its contract: the entries before i are formed, and `at` is the place of the next. Assumes nothing.
-use Prim.Native.Nat.{◌-◌}
 use mathlib.Core.Path.{sym, ◌∙◌}
-use mathlib.Core.Bool.{true}
 use borrow.Author.Rules.{rules}
-use borrow.Author.Tests.{not-true, not-false}
 use native.Mathlib.Omega.{arith}
-use Rattle.image.specs.Formed.{entry_formed}
 use Rattle.image.proofs.UpTo.{kept_none, kept_more, kept_not, kept_done}
 use Rattle.image.proofs.formed.run_formed.Goals as goal
 

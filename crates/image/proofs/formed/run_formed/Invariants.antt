@@ -8,6 +8,3 @@ use Rattle.image.proofs.formed.run_formed.Given as goal
 
 abbrev pub invariant-loop-i : goal.invariant-loop-i
 invariant-loop-i l = (l.at ≡ stride * (l.b % slots) + stride * (l.i - l.b)) × ((l.b ≤ l.i) × ((l.i ≤ l.n) × (all_kept (entry_formed l.s) l.b l.i ≡ true)))
-
-abbrev pub decreases-loop-i : goal.decreases-loop-i
-decreases-loop-i l = l.n - l.i

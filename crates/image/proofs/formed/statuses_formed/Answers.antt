@@ -4,4 +4,4 @@ use Rattle.image.proofs.formed.statuses_formed.Goals as goal
 
 pub returns : goal.returns
 unfolding statuses_ok
-returns c = simp (← c.get2.ensures)
+returns c = simp (← c.get.ensures)

@@ -1,11 +1,8 @@
 -- `clear_target` meets its contract. Assumes nothing.
-use Prim.Native.Nat.{◌≤◌, ◌-◌}
+use Prim.Native.Nat.{◌≤◌}
 use Rattle.machine.specs.State.{absent}
 use Rattle.image.proofs.Chain.{Here}
 use Rattle.image.proofs.parts.clear_target.Given as goal
 
 abbrev pub invariant-loop-k : goal.invariant-loop-k
 invariant-loop-k l = (l.k ≤ 32) × Here l.initial.s absent l.s l.k
-
-abbrev pub decreases-loop-k : goal.decreases-loop-k
-decreases-loop-k l = 32 - l.k

@@ -1,5 +1,5 @@
 -- `write_differing` meets its contract. Assumes nothing.
-use Prim.Native.Nat.{◌≤◌, ◌-◌}
+use Prim.Native.Nat.{◌≤◌}
 use mathlib.Core.Path.{◌≡◌}
 use lib.ListN.{length}
 use Rattle.image.proofs.Differed.{Differed}
@@ -7,6 +7,3 @@ use Rattle.image.proofs.parts.write_differing.Given as goal
 
 abbrev pub invariant-loop-k : goal.invariant-loop-k
 invariant-loop-k l = (l.k ≤ 32) × ((length l.s ≡ length l.initial.s) × Differed l.initial.s l.s l.k l.count)
-
-abbrev pub decreases-loop-k : goal.decreases-loop-k
-decreases-loop-k l = 32 - l.k

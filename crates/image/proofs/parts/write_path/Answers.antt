@@ -4,7 +4,7 @@ use Rattle.image.proofs.Differed.{path_same, path_other}
 use Rattle.image.proofs.parts.write_path.Goals as goal
 
 pub returns-then-w-v : goal.returns-then-w-v
-returns-then-w-v c = path_same _ _ _ _ _ c.get2-v.ensures c.get2-w.ensures c.if-w-v.true refl
+returns-then-w-v c = path_same _ _ _ _ _ c.get-v.ensures c.get-w.ensures c.if-w-v.true refl
 
 pub returns : goal.returns
-returns c = path_other _ _ _ _ _ c.get2-v.ensures c.get2-w.ensures _ c.if-w-v.false refl c.put2.ensures
+returns c = path_other _ _ _ _ _ c.get-v.ensures c.get-w.ensures _ c.if-w-v.false refl c.put.ensures

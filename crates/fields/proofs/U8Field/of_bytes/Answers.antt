@@ -1,7 +1,7 @@
--- `get4` meets its contract. Assumes nothing.
+-- `of_bytes` meets its contract. Assumes nothing.
 use native.Mathlib.Omega.{arith}
 use Rattle.fields.specs.Field.{field}
-use Rattle.fields.proofs.get4.Goals as goal
+use Rattle.fields.proofs.U8Field.of_bytes.Goals as goal
 
 pub returns : goal.returns
 unfolding field

@@ -1,0 +1,7 @@
+-- `put_bytes` meets its contract. Assumes nothing.
+use mathlib.Core.Path.{◌∙◌}
+use Rattle.fields.proofs.Parts.{two_bytes}
+use Rattle.fields.proofs.U16Field.put_bytes.Goals as goal
+
+pub returns : goal.returns
+returns c = c.copy_from_slice.ensures.after ∙ c.to_le_bytes.ensures ∙ two_bytes _ _ c.requires
