@@ -1,7 +1,7 @@
 -- What a row of reads gives, and what a row of writes leaves, over variables. Assumes nothing.
 use mathlib.Core.Bool.{Bool, ◌||◌, cond}
 use Prim.Native.Nat.{ℕ, zero, suc, ◌+◌, ◌-◌, ◌*◌, ◌<◌, ◌≤◌}
-use mathlib.Core.Path.{◌≡◌, refl, ap, ap₂, sym, ◌∙◌}
+use mathlib.Core.Path.{◌≡◌, refl, ap, ap₂, sym, ◌∙◌, subst}
 use mathlib.Core.List.{List, [], ◌∷◌, ◌++◌}
 use native.Mathlib.Nat.{add_assoc, min-eq_left}
 use native.Mathlib.Numerals.{add-one}
@@ -9,7 +9,10 @@ use native.Mathlib.Omega.{arith}
 use borrow.Author.Tests.{lt-ltb, le-ltb}
 use lib.Dec.{ltb}
 use lib.ListN.{length, get_or, take, replicate, length-take, length-replicate, get_or-replicate, replicate-append-replicate, get_or-eq_default}
-use lib.Seq.{take-suc, take_all}
+use lib.Seq.{take-suc, take_all, ext_get_or}
+use denote.Param.Members.{Mut}
+use Rattle.std.specs.Fn.{Called}
+use Rattle.std.specs.Array.{IsFromFnResult, IsFromFnResultFrom}
 use Rattle.kinds.specs.declared.Transaction.{Transaction}
 use Rattle.kinds.specs.declared.Side.{Side}
 use Rattle.kinds.specs.declared.Number.{Number}
@@ -21,7 +24,7 @@ use Rattle.fields.proofs.Runs.{table_at, length_fields, length_puts, puts_append
 use Rattle.machine.specs.State.{absent, never, node_of}
 use Rattle.machine.specs.Stores.{Table, target_values}
 use Rattle.image.specs.Packed.{packed_of, change_in, rollback_in}
-use Rattle.image.specs.Layout.{code_widths, mark_widths, value_size, table_widths, node_widths, place_of, phase_in, count_in, index_in, change_ordinal_in, rollback_ordinal_in, paths_in, values_in, kept_in, owners_in, target_values_at, connections_at, values_at, node_at}
+use Rattle.image.specs.Layout.{code_widths, mark_widths, value_size, table_widths, node_widths, node_size, place_of, phase_in, count_in, index_in, change_ordinal_in, rollback_ordinal_in, paths_in, values_in, kept_in, owners_in, target_values_at, connections_at, values_at, node_at}
 use Rattle.image.specs.Records.{to_side, to_connections, codes, marks, entry_at, put_entry_at, to_node, put_node_at, connections_of, put_connections}
 use Rattle.image.specs.View.{table_of, write}
 
@@ -54,11 +57,10 @@ unfolding put_entry_at put_fields
 stored l l1 l2 l3 l4 l5 l6 n at e t q1 q2 q3 q4 q5 q6 = simp (q6, q5, q4, q3, q2, q1, e, add_assoc)
 
 -- ---- the eight connections
-pub nodes_loaded : (l : List ℕ) (a b d e f g h i : Connection)
-    → a ≡ to_node l connections_at → b ≡ to_node l (node_at 1) → d ≡ to_node l (node_at 2) → e ≡ to_node l (node_at 3) → f ≡ to_node l (node_at 4) → g ≡ to_node l (node_at 5) → h ≡ to_node l (node_at 6) → i ≡ to_node l (node_at 7)
-    → (a ∷ b ∷ d ∷ e ∷ f ∷ g ∷ h ∷ i ∷ []) ≡ connections_of l
-unfolding connections_of fields_at
-nodes_loaded l a b d e f g h i q0 q1 q2 q3 q4 q5 q6 q7 = rw (q0, q1, q2, q3, q4, q5, q6, q7)
+length_nodes : (m : ℕ) (l : List ℕ) (at : ℕ) → length (to_connections (fields_at l at (node_widths m))) ≡ m
+unfolding fields_at
+length_nodes zero l at = refl
+length_nodes (suc m) l at = ap suc (length_nodes m l (at + 4 + 1))
 
 nodes_at : (m : ℕ) (l : List ℕ) (at k : ℕ) → k < m → get_or (to_connections (fields_at l at (node_widths m))) k never ≡ to_node l (at + 5 * k)
 unfolding fields_at
@@ -66,6 +68,29 @@ nodes_at zero l at k h = absurd (omega arith)
 nodes_at (suc m) l at zero h = let z : at + 5 * 0 ≡ at = omega arith in rw z
 nodes_at (suc m) l at (suc k) h =
     let e : at + 4 + 1 + 5 * k ≡ at + 5 * suc k = omega arith in nodes_at m l (at + 4 + 1) k (omega arith) ∙ ap (to_node l) e
+
+-- what a closure with one answer at each number makes of the numbers from i on
+module _ {F : Type 0} (g : Mut F (ℕ × Unit {0}) Connection) (f : F) (ys : List Connection) (h : ℕ → Connection)
+    (told : (i : ℕ) (y : Connection) (q : F) → Called g f (i, tt) y q → (q ≡ f) × (y ≡ h i)) where
+  made_at : (n i : ℕ) → IsFromFnResultFrom g f ys i n → (k : ℕ) → k < n → get_or ys (i + k) never ≡ h (i + k)
+  made_at zero i m k p = absurd (omega arith)
+  made_at (suc n) i m zero p =
+      let z : i + 0 ≡ i = omega arith in
+      ap (λ (j : ℕ). get_or ys j never) z ∙ m.2.1 never ∙ (told i m.1 m.0 m.3).1 ∙ ap h (sym z)
+  made_at (suc n) i m (suc k) p =
+      let z : i + suc k ≡ i + 1 + k = omega arith in
+      ap (λ (j : ℕ). get_or ys j never) z
+      ∙ made_at n (i + 1) (subst (λ (x : F). IsFromFnResultFrom g x ys (i + 1) n) (told i m.1 m.0 m.3).0 m.4) k (omega arith) ∙ ap h (sym z)
+
+  pub made : (n : ℕ) → IsFromFnResult g f ys n → (k : ℕ) → k < n → get_or ys k never ≡ h k
+  made n m k p = let z : 0 + k ≡ k = omega arith in rw z at (made_at n 0 m.each k p)
+
+pub nodes_loaded : (l : List ℕ) (ys : List Connection) → length ys ≡ 8 → ((k : ℕ) → k < 8 → get_or ys k never ≡ to_node l (connections_at + node_size * k)) → ys ≡ connections_of l
+unfolding connections_of
+nodes_loaded l ys e h =
+    let z : length (to_connections (fields_at l connections_at (node_widths 8))) ≡ 8 = length_nodes 8 l connections_at in
+    ext_get_or never ys (to_connections (fields_at l connections_at (node_widths 8))) (e ∙ sym z)
+    (λ k p. h k (omega arith) ∙ sym (nodes_at 8 l connections_at k (omega arith)))
 
 pub node_loaded : (l : List ℕ) (n : ℕ) (x : Connection) → 1 ≤ n → n ≤ 8 → x ≡ to_node l (node_at (n - 1)) → x ≡ node_of (connections_of l) n
 unfolding connections_of
@@ -86,13 +111,22 @@ value_stored l m at p k v e h q = rw (lt-ltb p 32 (omega arith)) (q ∙ rw e)
 pub value_lost : (l : List ℕ) (at p k v : ℕ) → k ≡ p → 32 ≤ k → l ≡ cond (ltb p 32) (put_field l (at + 2 * p) 2 v) l
 value_lost l at p k v e h = rw (le-ltb p 32 (omega arith))
 
--- ---- connections stored
-pub nodes_stored : (l l1 l2 : List ℕ) (xs : List Connection)
-    → l1 ≡ put_node_at (put_node_at (put_node_at (put_node_at l connections_at (get_or xs 0 never)) (node_at 1) (get_or xs 1 never)) (node_at 2) (get_or xs 2 never)) (node_at 3) (get_or xs 3 never)
-    → l2 ≡ put_node_at (put_node_at (put_node_at (put_node_at l1 (node_at 4) (get_or xs 4 never)) (node_at 5) (get_or xs 5 never)) (node_at 6) (get_or xs 6 never)) (node_at 7) (get_or xs 7 never)
-    → l2 ≡ put_connections l xs
-unfolding put_connections put_node_at put_fields
-nodes_stored l l1 l2 xs p q = q ∙ rw p
+-- ---- connections stored: the first k of them
+pub stored_nodes : List ℕ → List Connection → ℕ → List ℕ
+stored_nodes l xs zero = l
+stored_nodes l xs (suc k) = put_node_at (stored_nodes l xs k) (node_at k) (get_or xs k never)
+
+pub no_node : (l : List ℕ) (xs : List Connection) → l ≡ stored_nodes l xs 0
+unfolding stored_nodes
+no_node l xs = refl
+
+pub one_node : (l m m' : List ℕ) (xs : List Connection) (k : ℕ) → m ≡ stored_nodes l xs k → m' ≡ put_node_at m (node_at k) (get_or xs k never) → m' ≡ stored_nodes l xs (k + 1)
+unfolding stored_nodes
+one_node l m m' xs k p q = q ∙ ap (λ (j : List ℕ). put_node_at j (node_at k) (get_or xs k never)) p ∙ sym (ap (stored_nodes l xs) (add-one k))
+
+pub all_nodes : (l m : List ℕ) (xs : List Connection) (k : ℕ) → m ≡ stored_nodes l xs k → k ≡ 8 → m ≡ put_connections l xs
+unfolding put_connections put_node_at put_fields stored_nodes
+all_nodes l m xs k p e = rw e at p
 
 -- ---- a table of two-byte numbers, written one after another
 module _ (l vs : List ℕ) (at : ℕ) where

@@ -1,5 +1,5 @@
 -- The scan's order of tests is that of the definition. Assumes nothing.
-use Prim.Native.Nat.{ℕ, ◌+◌, ◌-◌, ◌*◌, ◌≤◌, ◌<◌}
+use Prim.Native.Nat.{ℕ, zero, suc, ◌+◌, ◌-◌, ◌*◌, ◌≤◌, ◌<◌}
 use mathlib.Core.Path.{◌≡◌, refl, ap, ap₂, sym, ◌∙◌}
 use mathlib.Core.Bool.{Bool, true, false, ◌&&◌, ◌||◌, and-true, and-false, and_assoc}
 use mathlib.Core.List.{List, [], ◌∷◌, ◌++◌}
@@ -15,10 +15,10 @@ use Rattle.fields.specs.Field.{field, fields_at, ones, twos}
 use Rattle.machine.specs.State.{last, entry_of}
 use Rattle.machine.specs.Stores.{of_owners}
 use Rattle.machine.specs.WellFormed.{all_entries, pairs_ok, recalls_ok, all_at_most, log_ok, entry_ok, heads_ok, sizes_ok, well_formed}
-use Rattle.image.specs.Layout.{slots, highest, highest_ordinal, phase_in, count_in, index_in, change_ordinal_in, rollback_ordinal_in, paths_in, owners_in, value_size, values_at, last_at, folded_at, image_length}
+use Rattle.image.specs.Layout.{slots, highest, highest_ordinal, phase_in, count_in, index_in, change_ordinal_in, rollback_ordinal_in, paths_in, owners_in, value_size, values_at, last_at, folded_at, configuration_at, target_at, running_in, remembers_in, connected_at, image_length}
 use Rattle.image.specs.Records.{entry_at, last_of, folded_of, connections_of}
 use Rattle.image.specs.View.{table_of, view}
-use Rattle.image.specs.Formed.{all_kept, entry_statuses_ok, marks_ok, flags_ok, entry_formed, codes_ok, formed}
+use Rattle.image.specs.Formed.{all_kept, flag_ok, entry_statuses_ok, marks_ok, flags_ok, entry_formed, codes_ok, formed}
 use Rattle.image.proofs.Chain.{length_table, value_loaded}
 use Rattle.image.proofs.UpTo.{length_up_to, kept_same, kept_both, kept_entries, entry_up_from, and_left, and_right}
 
@@ -234,3 +234,21 @@ module _ (l : List ℕ) (n : ℕ) where
 
   pub most_all : (k : ℕ) (b : Bool) → 32 ≤ k → b ≡ most_of k → b ≡ all_at_most n (table_of l of_owners)
   most_all k b h q = q ∙ ap (all_at_most n) (take_all k (table_of l of_owners) (omega (arith, length_table l of_owners)))
+
+-- ---- the flags, one node after another
+module _ (l : List ℕ) where
+  abbrev pub flags_first : ℕ → Bool
+  flags_first zero = flag_ok l (target_at + running_in) && flag_ok l (target_at + remembers_in)
+  flags_first (suc k) = flags_first k && flag_ok l (connected_at k)
+
+  pub flags_none : (x y : ℕ) → x ≡ field l (target_at + running_in) 1 → y ≡ field l (target_at + remembers_in) 1 → (leb x 1 && leb y 1) ≡ flags_first 0
+  flags_none x y p q = ap₂ (λ (a b : ℕ). leb a 1 && leb b 1) p q
+
+  pub flag_more : (k x : ℕ) (b : Bool) → x ≡ field l (connected_at k) 1 → b ≡ flags_first k → (b && leb x 1) ≡ flags_first (k + 1)
+  flag_more k x b e q = ap₂ (λ (c : Bool) (y : ℕ). c && leb y 1) q e ∙ sym (ap flags_first (add-one k))
+
+  pub flags_all : (k x : ℕ) (b : Bool) → x ≡ field l configuration_at 1 → k ≡ 8 → b ≡ flags_first k → ((leb 1 x && leb x 3) && b) ≡ flags_ok l
+  unfolding flags_ok
+  flags_all k x b e h q =
+      let q' : b ≡ flags_first 8 = rw h at q in
+      ap₂ (λ (y : ℕ) (c : Bool). (leb 1 y && leb y 3) && c) e q' ∙ simp and_assoc

@@ -13,9 +13,8 @@ ghost use Rattle.image.specs.Promises.{TellsFormed};
 use crate::entry::place_of;
 use crate::layout::{
     APPLIED_AT, CHANGE_AT, CHANGE_ORDINAL_IN, COMMITTED_AT, COMMITTED_REVISION_AT,
-    CONFIGURATION_AT, CONNECTED_1_AT, CONNECTED_2_AT, CONNECTED_3_AT, CONNECTED_4_AT,
-    CONNECTED_5_AT, CONNECTED_6_AT, CONNECTED_7_AT, CONNECTED_8_AT, COUNT_IN, FOLDED_AT,
-    HIGHEST_ORDINAL, HIGHEST_PACKED, IMAGE_LENGTH, INDEX_IN, LAST_AT, MASTERSHIP_AT, ORDINAL_IN,
+    CONFIGURATION_AT, CONNECTED_IN, CONNECTIONS_AT, COUNT_IN, FOLDED_AT, HIGHEST_ORDINAL,
+    HIGHEST_PACKED, IMAGE_LENGTH, INDEX_IN, LAST_AT, MASTERSHIP_AT, NODE_SIZE, NODES, ORDINAL_IN,
     OWNERS_AT, OWNERS_IN, PATHS_IN, PHASE_IN, REMEMBERS_AT, REVISION_IN, RING, ROLLBACK_ORDINAL_IN,
     RUNNING_AT, SECOND_PATH_IN, SLOTS, STRIDE, TABLE_LENGTH, TARGET_IN, THIRD_PATH_IN, VALUE_SIZE,
 };
@@ -201,17 +200,11 @@ fn flags_formed(s: &[u8]) -> bool
     let state = get::<u8>(s, CONFIGURATION_AT);
     let running = get::<u8>(s, RUNNING_AT);
     let remembers = get::<u8>(s, REMEMBERS_AT);
-    let a = get::<u8>(s, CONNECTED_1_AT);
-    let b = get::<u8>(s, CONNECTED_2_AT);
-    let c = get::<u8>(s, CONNECTED_3_AT);
-    let d = get::<u8>(s, CONNECTED_4_AT);
-    let e = get::<u8>(s, CONNECTED_5_AT);
-    let f = get::<u8>(s, CONNECTED_6_AT);
-    let g = get::<u8>(s, CONNECTED_7_AT);
-    let h = get::<u8>(s, CONNECTED_8_AT);
-    let first = (a <= 1) & ((b <= 1) & ((c <= 1) & (d <= 1)));
-    let last = (e <= 1) & ((f <= 1) & ((g <= 1) & (h <= 1)));
-    ((1 <= state) & (state <= 3)) & (((running <= 1) & (remembers <= 1)) & (first & last))
+    let mut ok = (running <= 1) & (remembers <= 1);
+    for k in 0..NODES {
+        ok = ok & (get::<u8>(s, CONNECTIONS_AT + NODE_SIZE * k + CONNECTED_IN) <= 1);
+    }
+    ((1 <= state) & (state <= 3)) & ok
 }
 
 // Whether the bytes, whatever they are and however many, are a well-formed image.

@@ -59,6 +59,8 @@ pub const CONNECTED_IN: usize = 4;
 
 pub const NODE_SIZE: usize = CONNECTED_IN + 1;
 
+pub const NODES: usize = 8;
+
 pub const TWO_NODES: usize = NODE_SIZE + NODE_SIZE;
 
 pub const THREE_NODES: usize = TWO_NODES + NODE_SIZE;
@@ -104,7 +106,7 @@ pub const REMEMBERS_AT: usize = RUNNING_AT + 1;
 
 pub const CONNECTIONS_AT: usize = REMEMBERS_AT + 1;
 
-pub const FOLDED_AT: usize = NODE_8_AT + NODE_SIZE;
+pub const FOLDED_AT: usize = CONNECTIONS_AT + NODES * NODE_SIZE;
 
 pub const BASE_AT: usize = FOLDED_AT + NUMBER_SIZE;
 

@@ -6,11 +6,11 @@ ghost use Rattle.image.specs.Promises.{LoadsConfiguration, StoresConfiguration, 
 
 use crate::layout::{
     CONFIGURATION_AT, CONFIGURATION_TERM_AT, CONN_AT, CONNECTED_IN, CONNECTIONS_AT, MASTERSHIP_AT,
-    MASTERSHIP_TERM_AT, NODE_2_AT, NODE_3_AT, NODE_4_AT, NODE_5_AT, NODE_6_AT, NODE_7_AT,
-    NODE_8_AT, NODE_SIZE, REMEMBERS_AT, RUNNING_AT, TARGET_AT, THREE_NODES, TWO_NODES,
+    MASTERSHIP_TERM_AT, NODE_SIZE, REMEMBERS_AT, RUNNING_AT, TARGET_AT,
 };
 use fields::{get, put};
 use kinds::{Configuration, Connection, Mastership, Progress, Target, Term};
+use std::array;
 
 // ---- configuration, mastership, target
 
@@ -106,15 +106,7 @@ pub fn load_connections(s: &[u8]) -> [Connection; 8]
     requires { image_length ≤ length s.now }
     ensures { LoadsConnections s.now result }
 {
-    let a = load_node(s, CONNECTIONS_AT);
-    let b = load_node(s, NODE_2_AT);
-    let c = load_node(s, NODE_3_AT);
-    let d = load_node(s, NODE_4_AT);
-    let e = load_node(s, NODE_5_AT);
-    let f = load_node(s, NODE_6_AT);
-    let g = load_node(s, NODE_7_AT);
-    let h = load_node(s, NODE_8_AT);
-    [a, b, c, d, e, f, g, h]
+    array::from_fn(|k| load_node(s, CONNECTIONS_AT + NODE_SIZE * k))
 }
 
 fn store_node(s: &mut [u8], at: usize, x: Connection)
@@ -125,29 +117,12 @@ fn store_node(s: &mut [u8], at: usize, x: Connection)
     put(s, at + CONNECTED_IN, u8::from(x.connected));
 }
 
-fn store_nodes(s: &mut [u8], at: usize, a: Connection, b: Connection, c: Connection, d: Connection)
-    requires { at + 4 * node_size ≤ length s.old }
-    ensures { s.new ≡ put_node_at (put_node_at (put_node_at (put_node_at s.old at a) (at + node_size) b) (at + 2 * node_size) c) (at + 3 * node_size) d }
-{
-    store_node(s, at, a);
-    store_node(s, at + NODE_SIZE, b);
-    store_node(s, at + TWO_NODES, c);
-    store_node(s, at + THREE_NODES, d);
-}
-
 // The connections of the eight nodes, put in their places.
 pub fn store_connections(s: &mut [u8], xs: [Connection; 8])
     requires { image_length ≤ length s.old }
     ensures { StoresConnections s.old xs s.new }
 {
-    let a = xs[0];
-    let b = xs[1];
-    let c = xs[2];
-    let d = xs[3];
-    store_nodes(s, CONNECTIONS_AT, a, b, c, d);
-    let e = xs[4];
-    let f = xs[5];
-    let g = xs[6];
-    let h = xs[7];
-    store_nodes(s, NODE_5_AT, e, f, g, h);
+    for (k, x) in xs.iter().enumerate() {
+        store_node(s, CONNECTIONS_AT + NODE_SIZE * k, *x);
+    }
 }

@@ -1,7 +1,13 @@
 -- `flags_formed` meets its contract. Assumes nothing.
-use Rattle.image.specs.Formed.{flags_ok}
+use native.Mathlib.Omega.{arith}
+use Rattle.image.proofs.Scanned.{flags_none, flag_more, flags_all}
 use Rattle.image.proofs.formed.flags_formed.Goals as goal
 
+pub loop-k-init : goal.loop-k-init
+loop-k-init c = flags_none _ _ _ c.get-running.ensures c.get-remembers.ensures
+
+pub loop-k-preserved : goal.loop-k-preserved
+loop-k-preserved c = flag_more _ _ _ _ c.get.ensures c.loop-k.invariant
+
 pub returns : goal.returns
-unfolding flags_ok
-returns c = simp (← c.get-state.ensures, ← c.get-running.ensures, ← c.get-remembers.ensures, ← c.get-a.ensures, ← c.get-b.ensures, ← c.get-c.ensures, ← c.get-d.ensures, ← c.get-e.ensures, ← c.get-f.ensures, ← c.get-g.ensures, ← c.get-h.ensures)
+returns c = flags_all _ c.loop-k.k _ _ c.get-state.ensures (omega arith) c.loop-k.invariant
