@@ -1,7 +1,9 @@
 // Whether what carries an ordinal is Done applying: the scan that a Pending apply asks for. An ordinal is compared with an
 // ordinal only: a number or a term in its place does not compile.
 ghost use Rattle.std.specs.Prelude.{◌≡◌, true, ◌+◌, ◌≤◌, length};
-ghost use Rattle.image.specs.Layout.{image_length};
+ghost use Rattle.fields.specs.Field.{field};
+ghost use Rattle.image.specs.Packed.{change_in, rollback_in};
+ghost use Rattle.image.specs.Layout.{image_length, stride, statuses_size, change_ordinal_in, rollback_ordinal_in};
 ghost use Rattle.image.specs.Formed.{all_kept, formed};
 ghost use Rattle.image.specs.Settled.{side_settled_at, entry_settled_at};
 ghost use Rattle.image.specs.Promises.{TellsSettled};
@@ -13,14 +15,29 @@ use crate::statuses::{apply_in, change_in, rollback_in};
 use fields::get;
 use kinds::Ordinal;
 
-// Whether a side does not carry ordinal o, or is Done applying: its two statuses are in one number, its ordinal is at a place.
-fn side_settled(s: &[u8], o: Ordinal, h: u16, at: usize) -> bool
-    requires { at + 4 ≤ length s.now }
-    ensures { result ≡ side_settled_at s.now o.0 h at }
+// Whether the change of the entry at a place does not carry ordinal o, or is Done applying. Its statuses are loaded only where it
+// carries it.
+fn change_settled(s: &[u8], o: Ordinal, at: usize) -> bool
+    requires { at + stride ≤ length s.now }
+    ensures { result ≡ side_settled_at s.now o.0 (change_in (field s.now at statuses_size)) (at + change_ordinal_in) }
 {
-    let carried = Ordinal::of(get::<u32>(s, at));
+    let carried = Ordinal::of(get::<u32>(s, at + CHANGE_ORDINAL_IN));
     if carried.is(o) {
-        let apply = apply_in(h);
+        let apply = apply_in(change_in(get::<u16>(s, at)));
+        return apply.done();
+    }
+    true
+}
+
+// The same of its rollback. No one function of both: one that is given a side's two statuses has those of every entry loaded and
+// divided, which was tried: six instructions more an entry and 32 bytes more of the night's stack than its limit.
+fn rollback_settled(s: &[u8], o: Ordinal, at: usize) -> bool
+    requires { at + stride ≤ length s.now }
+    ensures { result ≡ side_settled_at s.now o.0 (rollback_in (field s.now at statuses_size)) (at + rollback_ordinal_in) }
+{
+    let carried = Ordinal::of(get::<u32>(s, at + ROLLBACK_ORDINAL_IN));
+    if carried.is(o) {
+        let apply = apply_in(rollback_in(get::<u16>(s, at)));
         return apply.done();
     }
     true
@@ -31,9 +48,10 @@ fn entry_settled(s: &[u8], o: Ordinal, n: usize) -> bool
     ensures { result ≡ entry_settled_at s.now o.0 n }
 {
     let at = place_of(n);
-    let statuses = get::<u16>(s, at);
-    side_settled(s, o, change_in(statuses), at + CHANGE_ORDINAL_IN)
-        && side_settled(s, o, rollback_in(statuses), at + ROLLBACK_ORDINAL_IN)
+    if change_settled(s, o, at) {
+        return rollback_settled(s, o, at);
+    }
+    false
 }
 
 // Entries b + 1 to n.

@@ -2,10 +2,10 @@
 use Rattle.image.specs.Settled.{entry_settled_at}
 use Rattle.image.proofs.settled.entry_settled.Goals as goal
 
-pub returns-then-side_settled : goal.returns-then-side_settled
+pub returns-then-change_settled : goal.returns-then-change_settled
 unfolding entry_settled_at
-returns-then-side_settled c = simp (← c.place_of-at.ensures, ← c.get-statuses.ensures, ← c.change_in.ensures, ← c.rollback_in.ensures, ← c.side_settled.ensures, c.if-side_settled.true, ← c.side_settled-then-side_settled.ensures)
+returns-then-change_settled c = simp (← c.place_of-at.ensures, ← c.change_settled.ensures, c.if-change_settled.true, ← c.rollback_settled.ensures)
 
-pub returns-else-side_settled : goal.returns-else-side_settled
+pub returns : goal.returns
 unfolding entry_settled_at
-returns-else-side_settled c = simp (← c.place_of-at.ensures, ← c.get-statuses.ensures, ← c.change_in.ensures, ← c.side_settled.ensures, c.if-side_settled.false)
+returns c = simp (← c.place_of-at.ensures, ← c.change_settled.ensures, c.if-change_settled.false)
