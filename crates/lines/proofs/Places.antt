@@ -1,5 +1,5 @@
 -- Places of the table: which are like which, and what is found from one. Assumes nothing.
-use Prim.Native.Nat.{ℕ, zero, suc, ◌+◌, ◌-◌, ◌*◌, ◌%◌, ◌≤◌, ◌<◌}
+use Prim.Native.Nat.{ℕ, zero, suc, ◌+◌, ◌-◌, ◌*◌, ◌%◌, ◌≤◌, ◌<◌, min}
 use mathlib.Core.Path.{◌≡◌, refl, ap, sym, subst, ◌∙◌}
 use mathlib.Core.Logic.{◌⊎◌, inl, inr}
 use mathlib.Core.Bool.{Bool, true, false, cond, ◌&&◌, ◌||◌}
@@ -39,6 +39,14 @@ like_zero (suc a) = refl
 pub zero_like : (q : ℕ) → like 0 q ≡ false
 unfolding like
 zero_like q = refl
+
+-- where nothing is left before one of two places
+pub like_none : (a b k : ℕ) → min a b ≤ k → like (a - k) (b - k) ≡ false
+like_none a b k h = by (ltb k a) refl
+  where
+    by : (t : Bool) → ltb k a ≡ t → like (a - k) (b - k) ≡ false
+    by true e = let z : b - k ≡ 0 = omega (arith, ltb-true k a e) in ap (like (a - k)) z ∙ like_zero (a - k)
+    by false e = let z : a - k ≡ 0 = omega (arith, ltb-false k a e) in ap (λ (x : ℕ). like x (b - k)) z ∙ zero_like (b - k)
 
 -- ---- what is found
 module _ (p b q : ℕ) where

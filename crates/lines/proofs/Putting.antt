@@ -1,5 +1,5 @@
 -- Texts put one after another, and the digits of a number. Assumes nothing.
-use Prim.Native.Nat.{ℕ, zero, suc, ◌+◌, ◌/◌, ◌%◌, ◌^◌, ◌≤◌, ◌<◌}
+use Prim.Native.Nat.{ℕ, zero, suc, ◌+◌, ◌-◌, ◌/◌, ◌%◌, ◌^◌, ◌≤◌, ◌<◌}
 use mathlib.Core.Path.{◌≡◌, refl, ap, ap₂, sym, subst, ◌∙◌}
 use mathlib.Core.List.{List, [], ◌∷◌, ◌++◌, append_assoc, append-nil}
 use mathlib.Core.Bool.{Bool, true, false, cond}
@@ -7,8 +7,8 @@ use native.Mathlib.Omega.{arith}
 use native.Mathlib.Nat.{add-zero, zero-add, pow-suc}
 use borrow.Author.Tests.{eq-eqb, ne_eqb, lt-ltb, le-ltb, le-leb, lt-leb}
 use lib.Dec.{eqb, ltb, leb}
-use lib.ListN.{length, get_or, take, set, drop, length-append, length-take, length-drop, drop_of_length-le, take-append-drop}
-use lib.Seq.{sets, sets-eq, length-sets, length-take-le, drop-cons, drop-append-le, drop-drop, take-suc, take_all}
+use lib.ListN.{length, get_or, take, set, drop, length-append, length-drop, drop_of_length-le, take-append-drop}
+use lib.Seq.{sets, sets-eq, length-sets, length-take-le, drop-cons, drop-append-le, drop-drop}
 use native.Mathlib.Numerals.{add-one}
 use Rattle.kinds.specs.declared.Reply.{Reply}
 use Rattle.kinds.specs.Statuses.{code_of}
@@ -36,18 +36,19 @@ put_byte l at b = record { ends = refl; holds = refl }
 pub put_length : {l m t : List ℕ} {at e : ℕ} → Put l at t e m → length m ≡ length l
 put_length {l} {m} {t} {at} p = ap length p.holds ∙ length-sets l at t
 
--- one byte more of a text
-pub put_more : {l m : List ℕ} (t : List ℕ) {at : ℕ} (i : ℕ) → i < length t → Put l at (take i t) (at + i) m → Put l at (take (i + 1) t) (at + (i + 1)) (set m (at + i) (get_or t i 0))
-put_more {l} {m} t {at} i h p =
-    let q : Put l at (take i t ++ (get_or t i 0 ∷ [])) (at + i + 1) (set m (at + i) (get_or t i 0)) = put_then p (put_byte m (at + i) (get_or t i 0)) in
-    record {
-      ends = omega (arith, length-take (i + 1) t);
-      holds = q.holds ∙ ap (λ (s : List ℕ). sets l at s) (sym (take-suc t i 0 h) ∙ ap (λ (k : ℕ). take k t) (sym (add-one i)));
-    }
+-- a part of a list written whole
+part_set : (l t : List ℕ) (at n : ℕ) → at + n ≤ length l → n ≡ length t → take at l ++ (t ++ drop (at + n - at) (drop at l)) ≡ sets l at t
+part_set l t at n h e =
+    let w : at + n - at ≡ length t = omega arith in
+    ap (λ (k : ℕ). take at l ++ (t ++ drop k (drop at l))) w ∙ ap (λ (y : List ℕ). take at l ++ (t ++ y)) (drop-drop (length t) at l)
+    ∙ sym (append_assoc (take at l) t (drop (at + length t) l)) ∙ sym (sets-eq t l at (omega arith))
 
--- all of it
-pub put_whole : {l m : List ℕ} (t : List ℕ) {at : ℕ} (i : ℕ) → length t ≤ i → Put l at (take i t) (at + i) m → Put l at t (at + i) m
-put_whole {l} {m} t {at} i h p = rw (take_all i t h) at p
+pub part_sets : (l t s : List ℕ) (at n : ℕ) → at + n ≤ length l → n ≡ length t → s ≡ t → take at l ++ (s ++ drop (at + n - at) (drop at l)) ≡ sets l at t
+part_sets l t s at n h e f = ap (λ (z : List ℕ). take at l ++ (z ++ drop (at + n - at) (drop at l))) f ∙ part_set l t at n h e
+
+pub bytes_put :
+    (l t s : List ℕ) (at : ℕ) → at + length t ≤ length l → s ≡ t → Put l at t (at + length t) (take at l ++ (s ++ drop (at + length t - at) (drop at l)))
+bytes_put l t s at h e = record { ends = refl; holds = part_sets l t s at (length t) h refl e }
 
 -- ---- decimal
 spelled_more : (k n : ℕ) → n < 10 ^ suc k → spelled (suc (suc k)) n ≡ spelled (suc k) n

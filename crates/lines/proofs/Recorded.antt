@@ -1,6 +1,6 @@
 -- The lines of a log's record: lists put text by text, and the bytes that each line can have. Assumes nothing.
 use Prim.Native.Nat.{ℕ, zero, suc, ◌+◌, ◌*◌, ◌≤◌, ◌<◌}
-use mathlib.Core.Path.{◌≡◌, refl, ap, sym, subst, ◌∙◌}
+use mathlib.Core.Path.{◌≡◌, refl, ap, ap₂, sym, subst, ◌∙◌}
 use mathlib.Core.List.{List, [], ◌∷◌, ◌++◌, append_assoc, append-nil}
 use mathlib.Core.Bool.{Bool, true, false, cond}
 use native.Mathlib.Omega.{arith}
@@ -8,7 +8,8 @@ use native.Mathlib.Nat.{mul-suc, add-zero}
 use native.Mathlib.Numerals.{add-one}
 use borrow.Author.Tests.{lt-ltb, le-ltb}
 use lib.Dec.{ltb}
-use lib.ListN.{length, get_or, set, length-append}
+use lib.ListN.{length, get_or, take, set, length-append}
+use Rattle.std.proofs.lemmas.List.{get_or-take}
 use Rattle.kinds.specs.declared.Transaction.{Transaction}
 use Rattle.lines.specs.Text.{text}
 use Rattle.lines.specs.Decimal.{decimal}
@@ -155,6 +156,21 @@ pairs_short t h =
 -- where a list of pairs has come to
 pub pairs_at_holds : (p : ℕ → Bool) (f g : ℕ → ℕ) (k : ℕ) {l m : List ℕ} {at e : ℕ} → Put l at (listed p (λ j. pair_text (f j) (g j)) k) e m → e ≤ at + pair_room * k
 pairs_at_holds p f g k x = omega (arith, x.ends, listed_short p (λ j. pair_text (f j) (g j)) 22 (λ j. omega (arith, pair_length (f j) (g j))) k)
+
+-- one pair more of a transaction
+module _ (t : Transaction) where
+  abbrev pub first_pairs : ℕ → List ℕ
+  first_pairs k = listed (λ j. true) (λ j. pair_text (get_or t.paths j 0) (get_or t.values j 0)) k
+
+  pub pairs_more : {l m : List ℕ} {start at : ℕ} (k j p v : ℕ) → k < t.count → p ≡ get_or (take t.count t.paths) k 0
+      → v ≡ get_or (take t.count t.values) k 0 → j ≡ k + 1 → Put l start (first_pairs k) at m → {e : ℕ} {n : List ℕ}
+      → Put m at (comma_in start at ++ pair_text p v) e n → Put l start (first_pairs j) e n
+  pairs_more {l} {m} {start} {at} k j p v h a b i x {e} {n} y =
+      let q : p ≡ get_or t.paths k 0 = a ∙ get_or-take t.count t.paths k 0 h in
+      let w : v ≡ get_or t.values k 0 = b ∙ get_or-take t.count t.values k 0 h in
+      let z : Put m at (comma_in start at ++ pair_text (get_or t.paths k 0) (get_or t.values k 0)) e n =
+      subst (λ (u : List ℕ). Put m at (comma_in start at ++ u) e n) (ap₂ pair_text q w) y in
+      subst (λ (u : ℕ). Put l start (first_pairs u) e n) (sym i) (listed_more (λ j. true) (λ j. pair_text (get_or t.paths j 0) (get_or t.values j 0)) k x refl z)
 
 pub entry_short : (n : ℕ) (t : Transaction) (c k u : ℕ) → t.count ≤ 4 → length (entry_line n t c k u) ≤ entry_room
 unfolding entry_line

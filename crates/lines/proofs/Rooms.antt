@@ -1,5 +1,5 @@
 -- The room behind a line: what the line tells, put there one after another. Assumes nothing.
-use Prim.Native.Nat.{ℕ, zero, suc, ◌+◌, ◌-◌, ◌*◌, ◌/◌, ◌≤◌, ◌<◌}
+use Prim.Native.Nat.{ℕ, zero, suc, ◌+◌, ◌-◌, ◌*◌, ◌/◌, ◌≤◌, ◌<◌, min}
 use mathlib.Core.Path.{◌≡◌, refl, ap, ap₂, sym, subst, ◌∙◌}
 use mathlib.Core.List.{List, [], ◌∷◌, ◌++◌, foldl, foldl-append, append_assoc, append-nil}
 use mathlib.Core.Bool.{Bool, true, false, cond, ◌&&◌}
@@ -7,7 +7,7 @@ use native.Mathlib.Omega.{arith}
 use native.Mathlib.Numerals.{add-one}
 use borrow.Author.Tests.{ltb-true, ltb-false, lt-ltb, le-ltb}
 use lib.Dec.{eqb, leb, ltb}
-use lib.ListN.{length, take, drop, set, replicate, length-append, length-set, length-take, length-drop, length-replicate, replicate-append-replicate, take-append-drop}
+use lib.ListN.{length, take, drop, set, replicate, length-append, length-set, length-take, length-drop, length-replicate, take-append-drop}
 use lib.Seq.{sets, sets-eq, length-sets, take_all, take-append-le, take-suc-set, take_at, drop_at, length-take-le}
 use Rattle.machine.specs.Calls.{Pair}
 use Rattle.machine.specs.Import.{Entry, adds, undoes, neither}
@@ -19,7 +19,7 @@ use Rattle.lines.specs.Handed.{padded, numbers_of, entry_bytes, SmallEntry, Smal
 use Rattle.lines.proofs.Classes.{and_none}
 use Rattle.lines.proofs.Goes.{held, entry_held, tells, digit_adds, text_adds, adds as addsTo}
 use Rattle.lines.proofs.Runs.{told}
-use Rattle.lines.proofs.Putting.{sets_append}
+use Rattle.lines.proofs.Putting.{part_sets}
 
 -- ---- what a reader has of the room, and the room
 pub record Room : Type 0 where
@@ -240,21 +240,18 @@ noted_all (v ∷ ns) (suc g) u n m h e =
     ∙ ap₂ (λ (i j : ℕ). sets (set (set m (u + 4 + 2 * n) (low v)) i (high v)) j (two_bytes (take g ns))) (add-one (u + 4 + 2 * n)) (omega arith)
 
 -- ---- zeros, one after another
-pub cleared_more : (l m : List ℕ) (at i : ℕ) → m ≡ sets l at (replicate i 0) → set m (at + i) 0 ≡ sets l at (replicate (i + 1) 0)
-cleared_more l m at i e =
-    ap (λ (z : List ℕ). set z (at + i) 0) e
-    ∙ ap (λ (k : ℕ). set (sets l at (replicate i 0)) (at + k) 0) (sym (length-replicate {A = ℕ} i 0)) ∙ sets_append (replicate i 0) (0 ∷ []) l at
-    ∙ ap (λ (z : List ℕ). sets l at z) (replicate-append-replicate i 1 0)
+pub cleared : (l s : List ℕ) (at n : ℕ) → at + n ≤ length l → s ≡ replicate (length (take (at + n - at) (drop at l))) 0
+    → take at l ++ (s ++ drop (at + n - at) (drop at l)) ≡ sets l at (replicate n 0)
+cleared l s at n h f =
+    let e : length (take (at + n - at) (drop at l)) ≡ n = length-take-le (at + n - at) (drop at l) (omega (arith, length-drop at l)) ∙ omega arith in
+    part_sets l (replicate n 0) s at n h (sym (length-replicate {A = ℕ} n 0)) (f ∙ ap (λ (j : ℕ). replicate j 0) e)
 
-pub cleared_whole : (l m : List ℕ) (at i n : ℕ) → i ≤ n → n ≤ i → m ≡ sets l at (replicate i 0) → m ≡ sets l at (replicate n 0)
-cleared_whole l m at i n h g e = let j : i ≡ n = omega arith in e ∙ ap (λ (k : ℕ). sets l at (replicate k 0)) j
-
-pub at_most_low : (k n r : ℕ) → r ≡ at_most k n → r ≤ k
-at_most_low k n r e = subst (λ (x : ℕ). x ≤ k) (sym e) (by (ltb n k) refl)
+pub at_most_is : (k n : ℕ) → min n k ≡ at_most k n
+at_most_is k n = by (ltb n k) refl
   where
-    by : (t : Bool) → ltb n k ≡ t → cond t n k ≤ k
+    by : (t : Bool) → ltb n k ≡ t → min n k ≡ cond t n k
     by true e = omega (arith, ltb-true n k e)
-    by false e = omega arith
+    by false e = omega (arith, ltb-false n k e)
 
 -- ---- a whole entry
 -- t in place of as many bytes

@@ -62,6 +62,11 @@ parted_all : all size parted_at ≡ true
 unfolding all size letter_at
 parted_all = refl
 
+-- where the code's table ends
+pub size_is : size ≡ 960
+unfolding size
+size_is = refl
+
 pub first_newline : letter_at 0 ≡ 10
 unfolding letter_at
 first_newline = refl
@@ -94,14 +99,8 @@ some_letter : (p c : ℕ) → c ≡ letter_at p → eqb c 0 ≡ false → p < si
 some_letter p zero e h = differ h
 some_letter p (suc c) e h = within p (omega arith)
 
-pub in_table : (p c : ℕ) → c ≡ letter_at p → 0 < c → p < size
-in_table p c e h = within p (omega arith)
-
 pub in_place : (p c : ℕ) → c ≡ letter_at p → eqb p 0 || eqb c 0 ≡ false → p < size
 in_place p c e h = some_letter p c e (or_none (eqb p 0) (eqb c 0) h).1
-
-pub at_end : (p c : ℕ) → c ≡ letter_at p → c ≤ 0 → size ≤ p
-at_end p c e h = beyond_table p (omega arith)
 
 pub seek_itself :
     (p b c : ℕ) (t : Bool) → c ≡ letter_at p → eqb p 0 || eqb c 0 ≡ false → t ≡ takes c b → t ≡ true → seek_in (left p) p b p ≡ p + 1

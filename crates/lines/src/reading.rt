@@ -4,13 +4,15 @@
 ghost use Rattle.std.specs.Prelude.{◌≡◌, ◌+◌, ◌≤◌, ◌<◌, get_or, replicate};
 ghost use Rattle.std.proofs.lemmas.List.Edits.{sets};
 ghost use Rattle.lines.specs.Grammar.{is_word};
-ghost use Rattle.lines.specs.Reading.{letter_at, is_paired, is_numbered, is_mark, is_tag, like, takes, goes, seek, inside, begins, parts, may_end, past, placed, begun, grown, holding, two_at, at_most, stored, stored_in, kept, kept_in, noted, noted_in, pairs_of, filled_by, closed, closed_in, changed_in, entered_in, listed, listed_in, ended, ended_in, with_digit, digit_in, spelt, with_text, text_in, tag_before, number_in, most_of, call_of, line_of};
+ghost use Rattle.lines.specs.Reading.{letter_at, is_paired, is_numbered, is_mark, is_tag, like, takes, goes, seek, inside, begins, parts, may_end, past, placed, begun, grown, holding, two_at, stored, stored_in, kept, kept_in, noted, noted_in, pairs_of, filled_by, closed, closed_in, changed_in, entered_in, listed, listed_in, ended, ended_in, with_digit, digit_in, spelt, with_text, text_in, tag_before, number_in, most_of, call_of, line_of};
 ghost use Rattle.lines.specs.Promises.{StartsFresh, Pushes, Finishes, ReadsLine};
 
 // The table of forms. A row is a newline, its text, in which `#` is a number, `%` are pairs, `&` single digits and `$` entries, its
 // tag, and dots; letters in one column of two rows are `WIDTH` apart. The shortest lines come first: what a row shares with those
 // before it is compared.
 const WIDTH: usize = 64;
+
+const SIZE: usize = 15 * WIDTH;
 
 const STOP: [u8; 64] = *b"\ncall=stopT.....................................................";
 
@@ -164,22 +166,15 @@ fn is_word(b: u8) -> bool
 fn like(p: usize, q: usize) -> bool
     ensures { result ≡ like p q }
 {
-    let mut a = p;
-    let mut b = q;
-    while 0 < a {
-        if b == 0 {
-            return false;
-        }
-        let c = letter(a - 1);
-        let d = letter(b - 1);
+    for k in 0..p.min(q) {
+        let c = letter(p - k - 1);
+        let d = letter(q - k - 1);
         if c != d {
             return false;
         }
         if c == 10 {
             return true;
         }
-        a -= 1;
-        b -= 1;
     }
     false
 }
@@ -193,11 +188,10 @@ fn takes(c: u8, b: u8) -> bool
     c == b
 }
 
-fn goes(p: usize, q: usize, c: u8, b: u8) -> bool
-    requires { c ≡ letter_at q }
+fn goes(p: usize, q: usize, b: u8) -> bool
     ensures { result ≡ goes p b q }
 {
-    if takes(c, b) {
+    if takes(letter(q), b) {
         return like(p, q);
     }
     false
@@ -207,20 +201,17 @@ fn goes(p: usize, q: usize, c: u8, b: u8) -> bool
 fn seek(p: usize, b: u8) -> usize
     ensures { result ≡ seek p b }
 {
-    let mut c = letter(p);
+    let c = letter(p);
     if (p == 0) | (c == 0) {
         return 0;
     }
     if takes(c, b) {
         return p + 1;
     }
-    let mut q = p;
-    while 0 < c {
-        if goes(p, q, c, b) {
+    for q in (p..SIZE).step_by(WIDTH) {
+        if goes(p, q, b) {
             return q + 1;
         }
-        q += WIDTH;
-        c = letter(q);
     }
     0
 }
@@ -307,11 +298,11 @@ fn begun(r: Reader, s: u8, value: u16) -> Reader
 fn grown(r: Reader, d: u8) -> Reader
     ensures { result ≡ grown r d }
 {
-    let v = 10 * (r.value as u32) + d as u32;
-    if v <= 65535 {
-        return begun(r, r.sub, v as u16);
+    let v = 10 * u32::from(r.value) + u32::from(d);
+    match u16::try_from(v) {
+        Ok(value) => begun(r, r.sub, value),
+        Err(_) => placed(r, 0),
     }
-    placed(r, 0)
 }
 
 // What the reader has of the room.
@@ -324,22 +315,14 @@ fn holding(r: Reader, used: usize, count: u16) -> Reader
     next
 }
 
-fn at_most(most: usize, n: usize) -> usize
-    ensures { result ≡ at_most most n }
-{
-    if n < most {
-        return n;
-    }
-    most
-}
-
 // A number in two bytes, the low one first.
 fn two(room: &mut [u8; 5140], at: usize, v: u16)
     requires { at + 1 < 5140 }
     ensures { room.new ≡ two_at room.old at v }
 {
-    room[at] = (v % 256) as u8;
-    room[at + 1] = (v / 256 % 256) as u8;
+    let [low, high] = v.to_le_bytes();
+    room[at] = low;
+    room[at + 1] = high;
 }
 
 // The number that was being read is put into the room, if that has two bytes left.
@@ -382,7 +365,7 @@ fn noted(r: Reader, room: &mut [u8; 5140]) -> Reader
     let n = r.count;
     if u < 5121 {
         if n < 8 {
-            two(room, u + 4 + 2 * n as usize, r.value);
+            two(room, u + 4 + 2 * usize::from(n), r.value);
             return counted(r);
         }
         return counted(r);
@@ -404,11 +387,8 @@ fn clear(room: &mut [u8; 5140], at: usize, n: usize)
     requires { at + n ≤ 5140 }
     ensures { room.new ≡ sets room.old at (replicate n 0) }
 {
-    let mut i = 0;
-    while i < n {
-        room[at + i] = 0;
-        i += 1;
-    }
+    let end = at + n;
+    room[at..end].fill(0);
 }
 
 // An entry has ended: before its numbers come its kind, and how many pairs it has or which place it names; behind them zeros.
@@ -417,7 +397,7 @@ fn closed(r: Reader, room: &mut [u8; 5140], kind: u16, number: u16) -> Reader
 {
     let u = r.used;
     if u < 5121 {
-        let filled = 2 * at_most(8, r.count as usize);
+        let filled = 2 * usize::from(r.count).min(8);
         two(room, u, kind);
         two(room, u + 2, number);
         clear(room, u + 4 + filled, 16 - filled);
@@ -475,13 +455,13 @@ fn with_digit(r: Reader, room: &mut [u8; 5140], d: u8) -> Reader
     let c = letter(r.at);
     if c == b'&' {
         let next = kept(r, room);
-        return begun(next, 1, d as u16);
+        return begun(next, 1, u16::from(d));
     }
     if is_numbered(c) {
         if inside(r.sub) {
             return grown(r, d);
         }
-        return begun(r, begins(r.sub), d as u16);
+        return begun(r, begins(r.sub), u16::from(d));
     }
     placed(r, 0)
 }
@@ -546,21 +526,13 @@ fn tag_at(p: usize) -> u8
     0
 }
 
-fn wide(x: u8) -> u16
-    ensures { (result ≡ x) × (result < 256) }
-{
-    x as u16
-}
-
 // The number in the two bytes from `at` on, if they are among the `used`; else 0.
 fn number_in(room: &[u8; 5140], used: usize, at: usize) -> u16
     requires { at < 19 }
     ensures { result ≡ number_in used room.now at }
 {
     if at < used {
-        let low = wide(room[at]);
-        let high = wide(room[at + 1]);
-        return low + 256 * high;
+        return u16::from_le_bytes([room[at], room[at + 1]]);
     }
     0
 }
@@ -627,7 +599,7 @@ fn line_of(tag: u8, used: usize, room: &[u8; 5140]) -> Line
     let most = most_of(tag);
     Line {
         call,
-        length: at_most(most, used),
+        length: used.min(most),
     }
 }
 
@@ -646,10 +618,8 @@ pub fn read(line: &[u8], room: &mut [u8; 5140]) -> Line
     ensures { ReadsLine line.now room.old result room.new }
 {
     let mut r = fresh();
-    let mut i = 0;
-    while i < line.len() {
-        r = push(r, room, line[i]);
-        i += 1;
+    for &b in line {
+        r = push(r, room, b);
     }
     finish(r, room)
 }

@@ -27,7 +27,7 @@ pub fn list_number(out: &mut [u8], start: usize, at: usize, n: u16) -> usize
     ensures { Put out.old at (comma_in start at ++ decimal n) result out.new }
 {
     let next = put_comma(out, start, at);
-    put_decimal(out, next, n as u32)
+    put_decimal(out, next, u32::from(n))
 }
 
 // One pair more of the list that begins at `start`; answers where it ends.
@@ -36,8 +36,8 @@ pub fn list_pair(out: &mut [u8], start: usize, at: usize, path: u8, value: u16) 
     ensures { Put out.old at (comma_in start at ++ pair_text path value) result out.new }
 {
     let next = put_comma(out, start, at);
-    let colon = put_decimal(out, next, path as u32);
-    put_keyed(out, colon, b":", value as u32)
+    let colon = put_decimal(out, next, u32::from(path));
+    put_keyed(out, colon, b":", u32::from(value))
 }
 
 fn put_pairs(out: &mut [u8], at: usize, t: Transaction) -> usize
@@ -46,12 +46,10 @@ fn put_pairs(out: &mut [u8], at: usize, t: Transaction) -> usize
 {
     let paths = t.paths;
     let values = t.values;
-    let n = t.count as usize;
+    let n = usize::from(t.count);
     let mut end = at;
-    let mut k = 0;
-    while k < n {
-        end = list_pair(out, at, end, paths[k], values[k]);
-        k += 1;
+    for (&path, &value) in paths[..n].iter().zip(&values[..n]) {
+        end = list_pair(out, at, end, path, value);
     }
     end
 }
@@ -60,9 +58,9 @@ fn put_marks(out: &mut [u8], at: usize, class: u8, took: u8, undone: u8) -> usiz
     requires { at + 52 ≤ length out.old }
     ensures { Put out.old at (filled (text " class=# took=# undone=#\n") (class ∷ took ∷ undone ∷ [])) result out.new }
 {
-    let a = put_keyed(out, at, b" class=", class as u32);
-    let b = put_keyed(out, a, b" took=", took as u32);
-    let c = put_keyed(out, b, b" undone=", undone as u32);
+    let a = put_keyed(out, at, b" class=", u32::from(class));
+    let b = put_keyed(out, a, b" took=", u32::from(took));
+    let c = put_keyed(out, b, b" undone=", u32::from(undone));
     put_text(out, c, b"\n")
 }
 
@@ -79,7 +77,7 @@ pub fn write_entry(
     requires { (t.count ≤ 4) × (at + entry_room ≤ length out.old) }
     ensures { Put out.old at (entry_line number t class took undone) result out.new }
 {
-    let a = put_keyed(out, at, b"number=", number as u32);
+    let a = put_keyed(out, at, b"number=", u32::from(number));
     let b = put_text(out, a, b" pairs=");
     let c = put_pairs(out, b, t);
     put_marks(out, c, class, took, undone)
@@ -90,7 +88,7 @@ pub fn begin_folded(out: &mut [u8], at: usize, folded: u16) -> usize
     requires { at + 23 ≤ length out.old }
     ensures { Put out.old at (filled (text "folded=# base=") (folded ∷ [])) result out.new }
 {
-    let a = put_keyed(out, at, b"folded=", folded as u32);
+    let a = put_keyed(out, at, b"folded=", u32::from(folded));
     put_text(out, a, b" base=")
 }
 

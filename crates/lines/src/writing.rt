@@ -30,12 +30,9 @@ pub fn put_text(out: &mut [u8], at: usize, t: &[u8]) -> usize
     requires { at + length t.now ≤ length out.old }
     ensures { Put out.old at t.now result out.new }
 {
-    let mut i = 0;
-    while i < t.len() {
-        out[at + i] = t[i];
-        i += 1;
-    }
-    at + i
+    let end = at + t.len();
+    out[at..end].copy_from_slice(t);
+    end
 }
 
 // A key of a form, and the number that stands behind it.
@@ -59,21 +56,12 @@ pub fn write_reply(out: &mut [u8], reply: Reply) -> usize
     let status = event.status;
     let n = number.get();
     let s = status.code();
-    let a = put_keyed(out, 0, b"answer=", reply.answer as u32);
-    let b = put_keyed(out, a, b" phase=", event.phase as u32);
-    let c = put_keyed(out, b, b" stage=", event.stage as u32);
-    let d = put_keyed(out, c, b" number=", n as u32);
-    let e = put_keyed(out, d, b" status=", s as u32);
+    let a = put_keyed(out, 0, b"answer=", u32::from(reply.answer));
+    let b = put_keyed(out, a, b" phase=", u32::from(event.phase));
+    let c = put_keyed(out, b, b" stage=", u32::from(event.stage));
+    let d = put_keyed(out, c, b" number=", u32::from(n));
+    let e = put_keyed(out, d, b" status=", u32::from(s));
     put_text(out, e, b"\n")
-}
-
-fn number_at(numbers: &[u32], k: usize) -> u32
-    ensures { result ≡ get_or numbers.now k 0 }
-{
-    if k < numbers.len() {
-        return numbers[k];
-    }
-    0
 }
 
 // A letter of a form from `at` on: the `k`-th number where it is `#`, itself otherwise; answers where it ends.
@@ -82,7 +70,8 @@ fn put_letter(out: &mut [u8], at: usize, c: u8, numbers: &[u32], k: usize) -> us
     ensures { Put out.old at (filled_at c (get_or numbers.now k 0)) result out.new }
 {
     if c == b'#' {
-        return put_decimal(out, at, number_at(numbers, k));
+        let n = numbers.get(k).copied().unwrap_or(0);
+        return put_decimal(out, at, n);
     }
     out[at] = c;
     at + 1
@@ -108,13 +97,10 @@ fn write_form_in(out: &mut [u8], room: usize, form: &[u8], numbers: &[u32]) -> u
         return 0;
     }
     let mut at = 0;
-    let mut i = 0;
     let mut k = 0;
-    while i < form.len() {
-        let c = form[i];
+    for &c in form {
         at = put_letter(out, at, c, numbers, k);
         k = next_at(c, k);
-        i += 1;
     }
     at
 }
@@ -131,7 +117,7 @@ fn write_form(out: &mut [u8], form: &[u8], numbers: &[u32]) -> usize
 pub fn write_why(out: &mut [u8], answer: u8, reason: u8, named: u32) -> usize
     ensures { Written out.old (why_line answer reason named) result out.new }
 {
-    let numbers = [answer as u32, reason as u32, named];
+    let numbers = [u32::from(answer), u32::from(reason), named];
     write_form(out, b"answer=# reason=# named=#\n", &numbers)
 }
 
@@ -139,7 +125,7 @@ pub fn write_why(out: &mut [u8], answer: u8, reason: u8, named: u32) -> usize
 pub fn write_night(out: &mut [u8], answer: u8, jobs: u16, stopped: u8) -> usize
     ensures { Written out.old (night_line answer jobs stopped) result out.new }
 {
-    let numbers = [answer as u32, jobs as u32, stopped as u32];
+    let numbers = [u32::from(answer), u32::from(jobs), u32::from(stopped)];
     write_form(out, b"answer=# jobs=# stopped=#\n", &numbers)
 }
 
@@ -147,7 +133,7 @@ pub fn write_night(out: &mut [u8], answer: u8, jobs: u16, stopped: u8) -> usize
 pub fn write_import(out: &mut [u8], answer: u8, position: u16) -> usize
     ensures { Written out.old (import_line answer position) result out.new }
 {
-    let numbers = [answer as u32, position as u32];
+    let numbers = [u32::from(answer), u32::from(position)];
     write_form(out, b"answer=# position=#\n", &numbers)
 }
 
@@ -155,7 +141,7 @@ pub fn write_import(out: &mut [u8], answer: u8, position: u16) -> usize
 pub fn write_owner(out: &mut [u8], answer: u8, owner: u32) -> usize
     ensures { Written out.old (owner_line answer owner) result out.new }
 {
-    let numbers = [answer as u32, owner];
+    let numbers = [u32::from(answer), owner];
     write_form(out, b"answer=# owner=#\n", &numbers)
 }
 
@@ -170,9 +156,9 @@ pub fn write_closing(
     ensures { Written out.old (closing_line committed committed_ordinal applied applied_ordinal) result out.new }
 {
     let numbers = [
-        committed as u32,
+        u32::from(committed),
         committed_ordinal,
-        applied as u32,
+        u32::from(applied),
         applied_ordinal,
     ];
     write_form(
@@ -182,32 +168,20 @@ pub fn write_closing(
     )
 }
 
-fn wide(x: u8) -> u32
-    ensures { result ≡ x }
-{
-    x as u32
-}
-
-fn wide16(x: u16) -> u32
-    ensures { result ≡ x }
-{
-    x as u32
-}
-
 // The line of a log: its counts, class 1 first, the mask of the paths that differ, and how many they are.
 pub fn write_log(out: &mut [u8], log: u16, counts: [u8; 6], mask: u32, drift: u8) -> usize
     ensures { WrittenIn sheet_room out.old (log_line log counts mask drift) result out.new }
 {
     let numbers = [
-        wide16(log),
-        wide(counts[0]),
-        wide(counts[1]),
-        wide(counts[2]),
-        wide(counts[3]),
-        wide(counts[4]),
-        wide(counts[5]),
+        u32::from(log),
+        u32::from(counts[0]),
+        u32::from(counts[1]),
+        u32::from(counts[2]),
+        u32::from(counts[3]),
+        u32::from(counts[4]),
+        u32::from(counts[5]),
         mask,
-        wide(drift),
+        u32::from(drift),
     ];
     write_form_in(
         out,
@@ -221,7 +195,7 @@ pub fn write_log(out: &mut [u8], log: u16, counts: [u8; 6], mask: u32, drift: u8
 pub fn write_refused(out: &mut [u8], log: u16, answer: u8) -> usize
     ensures { WrittenIn sheet_room out.old (refused_line log answer) result out.new }
 {
-    let numbers = [log as u32, answer as u32];
+    let numbers = [u32::from(log), u32::from(answer)];
     write_form_in(out, SHEET_ROOM, b"log=# answer=#\n", &numbers)
 }
 
@@ -230,12 +204,12 @@ pub fn write_totals(out: &mut [u8], totals: [u16; 6]) -> usize
     ensures { WrittenIn sheet_room out.old (totals_line totals) result out.new }
 {
     let numbers = [
-        wide16(totals[0]),
-        wide16(totals[1]),
-        wide16(totals[2]),
-        wide16(totals[3]),
-        wide16(totals[4]),
-        wide16(totals[5]),
+        u32::from(totals[0]),
+        u32::from(totals[1]),
+        u32::from(totals[2]),
+        u32::from(totals[3]),
+        u32::from(totals[4]),
+        u32::from(totals[5]),
     ];
     write_form_in(
         out,

@@ -1,10 +1,8 @@
 -- `like` meets its contract. Assumes nothing.
 use mathlib.Core.Path.{◌≡◌}
+use Prim.Native.Nat.{◌-◌}
 use Rattle.lines.specs.Reading.{like}
 use Rattle.lines.proofs.reading.like.Given as goal
 
-abbrev pub invariant-loop-a : goal.invariant-loop-a
-invariant-loop-a l = like l.p l.q ≡ like l.a l.b
-
-abbrev pub decreases-loop-a : goal.decreases-loop-a
-decreases-loop-a l = l.a
+abbrev pub invariant-loop-k : goal.invariant-loop-k
+invariant-loop-k l = like l.p l.q ≡ like (l.p - l.k) (l.q - l.k)

@@ -6,7 +6,7 @@ use Rattle.lines.proofs.reading.noted.Goals as goal
 pub returns-then-n-lt8 : goal.returns-then-n-lt8
 returns-then-n-lt8 c = (
   c.counted.ensures,
-  rw (c.two.ensures, lt-ltb _ _ c.if-u-lt5121.true, lt-ltb _ _ c.if-n-lt8.true),
+  rw (c.two.ensures, c.from.ensures, lt-ltb _ _ c.if-u-lt5121.true, lt-ltb _ _ c.if-n-lt8.true),
 )
 
 pub returns-then-u-lt5121 : goal.returns-then-u-lt5121

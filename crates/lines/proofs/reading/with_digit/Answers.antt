@@ -4,7 +4,7 @@ use Rattle.lines.proofs.reading.with_digit.Goals as goal
 
 pub returns-then-c-eq38 : goal.returns-then-c-eq38
 returns-then-c-eq38 c = (
-  rw (c.begun.ensures, c.kept-next.ensures.0, ← c.letter-c.ensures) (simp (eq-eqb _ _ c.if-c-eq38.true)),
+  rw (c.begun.ensures, c.from.ensures, c.kept-next.ensures.0, ← c.letter-c.ensures) (simp (eq-eqb _ _ c.if-c-eq38.true)),
   rw (c.kept-next.ensures.1, ← c.letter-c.ensures) (simp (eq-eqb _ _ c.if-c-eq38.true)),
 )
 
@@ -26,6 +26,7 @@ pub returns-then-is_numbered : goal.returns-then-is_numbered
 returns-then-is_numbered c = (
   rw (
     c.begun-then-is_numbered.ensures,
+    c.from-then-is_numbered.ensures,
     ← c.letter-c.ensures,
     ne_eqb _ _ c.if-c-eq38.false,
     ← c.is_numbered.ensures,

@@ -9,7 +9,7 @@ pub put_keyed-a-requires : goal.put_keyed-a-requires
 put_keyed-a-requires c = keyed_fits (text "folded=") _ _ _ (omega (arith, c.requires))
 
 pub put_text-requires : goal.put_text-requires
-put_text-requires c = omega (arith, put_length c.put_keyed-a.ensures, keyed_ends (text "folded=") c.args.folded c.put_keyed-a.ensures, c.requires)
+put_text-requires c = omega (arith, put_length (rw c.from.ensures at c.put_keyed-a.ensures), keyed_ends (text "folded=") c.args.folded (rw c.from.ensures at c.put_keyed-a.ensures), c.requires)
 
 pub returns : goal.returns
-returns c = begin_put c.args.folded c.put_keyed-a.ensures c.put_text.ensures
+returns c = begin_put c.args.folded (rw c.from.ensures at c.put_keyed-a.ensures) c.put_text.ensures

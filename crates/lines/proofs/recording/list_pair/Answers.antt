@@ -6,10 +6,10 @@ use native.Mathlib.Omega.{arith}
 use Rattle.lines.proofs.recording.list_pair.Goals as goal
 
 pub put_decimal-colon-requires : goal.put_decimal-colon-requires
-put_decimal-colon-requires c = omega (arith, put_length c.put_comma-next.ensures, c.put_comma-next.ensures.ends, comma_short c.args.start c.args.at, decimal_short c.args.path, c.requires)
+put_decimal-colon-requires c = omega (arith, put_length c.put_comma-next.ensures, c.put_comma-next.ensures.ends, comma_short c.args.start c.args.at, decimal_short c.from.result, c.requires)
 
 pub put_keyed-requires : goal.put_keyed-requires
-put_keyed-requires c = keyed_fits (text ":") _ _ _ (omega (arith, put_length c.put_comma-next.ensures, put_length c.put_decimal-colon.ensures, c.put_comma-next.ensures.ends, c.put_decimal-colon.ensures.ends, comma_short c.args.start c.args.at, decimal_short c.args.path, c.requires))
+put_keyed-requires c = keyed_fits (text ":") _ _ _ (omega (arith, put_length c.put_comma-next.ensures, put_length c.put_decimal-colon.ensures, c.put_comma-next.ensures.ends, c.put_decimal-colon.ensures.ends, comma_short c.args.start c.args.at, decimal_short c.from.result, c.requires))
 
 pub returns : goal.returns
-returns c = put_then c.put_comma-next.ensures (put_then c.put_decimal-colon.ensures c.put_keyed.ensures)
+returns c = put_then c.put_comma-next.ensures (put_then (rw c.from.ensures at c.put_decimal-colon.ensures) (rw c.from-2.ensures at c.put_keyed.ensures))

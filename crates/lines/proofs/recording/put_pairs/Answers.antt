@@ -1,18 +1,29 @@
 -- `put_pairs` lists the pairs one after another: after k turns the first k of them stand there. Assumes nothing.
-use Rattle.lines.proofs.Recorded.{listed_none, listed_more, listed_whole, pairs_at_holds}
+use Rattle.std.proofs.lemmas.Slice.Zip.{zip_turn, zip_end}
+use Rattle.lines.proofs.Recorded.{listed_none, pairs_more, listed_whole, pairs_at_holds}
 use Rattle.lines.proofs.Putting.{put_length}
+use lib.ListN.{take, length, length-take, length-append}
 use native.Mathlib.Omega.{arith}
-use mathlib.Core.Path.{refl}
 use Rattle.lines.proofs.recording.put_pairs.Goals as goal
 
-pub loop-k-init : goal.loop-k-init
-loop-k-init c = (omega arith, listed_none _ _ _ _)
+pub loop-path-init : goal.loop-path-init
+loop-path-init c = listed_none _ _ _ _
 
 pub list_pair-end-requires : goal.list_pair-end-requires
-list_pair-end-requires c = omega (arith, put_length c.loop-k.invariant.1, pairs_at_holds _ _ _ c.loop-k.k c.loop-k.invariant.1, c.requires)
+list_pair-end-requires c =
+    let n = c.args.t.count in
+    let turn = zip_turn (take n c.args.t.paths) (take n c.args.t.values) c.loop-path.yielded _ _ c.next.new.self _ (cc) (cc) c.loop-path.yielded_by _ c.in-Some.is c.next.ensures.steps in
+    omega (arith, put_length c.loop-path.invariant, pairs_at_holds _ _ _ (length c.loop-path.yielded) c.loop-path.invariant, turn.0, length-take n c.args.t.paths, c.requires.0, c.requires.1)
 
-pub loop-k-preserved : goal.loop-k-preserved
-loop-k-preserved c = (omega (arith, c.loop-k-test.true), listed_more _ _ c.loop-k.k c.loop-k.invariant.1 refl c.list_pair-end.ensures)
+pub loop-path-preserved : goal.loop-path-preserved
+loop-path-preserved c =
+    let n = c.args.t.count in
+    let turn = zip_turn (take n c.args.t.paths) (take n c.args.t.values) c.loop-path.yielded _ _ c.next.new.self _ (cc) (cc) c.loop-path.yielded_by _ c.in-Some.is c.next.ensures.steps in
+    pairs_more c.args.t (length c.loop-path.yielded) _ _ _ (omega (arith, turn.0, length-take n c.args.t.paths))
+    (turn.2 0) (turn.3 0) (length-append c.loop-path.yielded _) c.loop-path.invariant c.list_pair-end.ensures
 
 pub returns : goal.returns
-returns c = listed_whole _ _ c.loop-k.k _ c.loop-k.invariant.0 c.loop-k-test.false c.loop-k.invariant.1
+returns c =
+    let n = c.args.t.count in
+    let end = zip_end (take n c.args.t.paths) (take n c.args.t.values) c.loop-path.yielded _ _ c.next.new.self _ (cc) (cc) c.loop-path.yielded_by c.in-None.is c.next.ensures.steps in
+    listed_whole _ _ (length c.loop-path.yielded) n (omega (arith, end, length-take n c.args.t.paths)) (omega (arith, end, length-take n c.args.t.paths, length-take n c.args.t.values, c.requires.0)) c.loop-path.invariant
