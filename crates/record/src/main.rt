@@ -1,11 +1,10 @@
 // The record of a log (order 11): its image from standard input; on standard output a line for each change kept, then what
 // is folded, then the changes that the switch holds. What is written is made by functions on slices; the reads and the
-// write themselves, of which no contract can say what the system gives or takes, stand in `read_all`, `put` and `tell` alone.
+// write themselves, of which no contract can say what the system gives or takes, stand in `read_all` and `run` alone.
 #![tactic(auto)]
 
 ghost use Rattle.std.specs.Prelude.{◌+◌, ◌*◌, ◌-◌, ◌≤◌, ◌<◌, ◌≡◌, true, not, ◌&&◌, eqb, length, get_or, IfOk};
 ghost use Rattle.machine.specs.Taken.{landed, holds};
-ghost use Rattle.machine.specs.Reads.{flag};
 ghost use Rattle.machine.specs.Stores.{of_base};
 ghost use Rattle.image.specs.Layout.{image_length, applied_at};
 ghost use Rattle.image.specs.Records.{folded_of, last_of, head_at};
@@ -21,6 +20,7 @@ use image::{
     load_head, load_value, well_formed,
 };
 use kinds::{Ordinal, Side, Transaction};
+use lines::Failure;
 use std::io;
 use std::io::{Read, Write};
 use std::process::ExitCode;
@@ -34,18 +34,7 @@ const RECORD: usize = 23134;
 fn side_landed(side: Side, applied: Ordinal) -> bool
     ensures { result ≡ landed side.apply applied.0 side.ordinal.0 }
 {
-    let apply = side.apply;
-    let ordinal = side.ordinal;
-    landed(apply, applied, ordinal)
-}
-
-fn flag(b: bool) -> u8
-    ensures { result ≡ flag b }
-{
-    if b {
-        return 1;
-    }
-    0
+    landed(side.apply, applied, side.ordinal)
 }
 
 // Taken and not undone.
@@ -64,8 +53,8 @@ fn write_change(s: &[u8], out: &mut [u8], at: usize, number: u16, a: Ordinal) ->
 {
     let t = load_entry(s, number);
     let class = load_class(s, number);
-    let took = flag(side_landed(t.change, a));
-    let undone = flag(side_landed(t.rollback, a));
+    let took = u8::from(side_landed(t.change, a));
+    let undone = u8::from(side_landed(t.rollback, a));
     lines::write_entry(out, at, number, t, class, took, undone)
 }
 
@@ -74,12 +63,9 @@ fn write_changes(s: &[u8], out: &mut [u8], a: Ordinal) -> usize
     requires { Applied s.now a.0 × (record_room ≤ length out.old) }
     ensures { Put out.old 0 (changes_text (view s.now) (last_of s.now - folded_of s.now)) result out.new }
 {
-    let n = last_number(s);
     let mut at = 0;
-    let mut k = last_fold(s);
-    while k < n {
+    for k in last_fold(s)..last_number(s) {
         at = write_change(s, out, at, k + 1, a);
-        k += 1;
     }
     at
 }
@@ -101,10 +87,8 @@ fn list_values(s: &[u8], out: &mut [u8], start: usize) -> usize
     ensures { Put out.old start (values_text (table_of s.now of_base)) result out.new }
 {
     let mut at = start;
-    let mut p: u8 = 0;
-    while p < 32 {
+    for p in 0..32 {
         at = list_value(s, out, start, at, p);
-        p += 1;
     }
     at
 }
@@ -134,12 +118,9 @@ fn list_changes(s: &[u8], out: &mut [u8], start: usize, a: Ordinal) -> usize
     requires { Applied s.now a.0 × (start + number_room * 128 ≤ length out.old) }
     ensures { Put out.old start (held_text (view s.now) (last_of s.now - folded_of s.now)) result out.new }
 {
-    let n = last_number(s);
     let mut at = start;
-    let mut k = last_fold(s);
-    while k < n {
+    for k in last_fold(s)..last_number(s) {
         at = list_change(s, out, start, at, k + 1, a);
-        k += 1;
     }
     at
 }
@@ -185,31 +166,23 @@ fn read_all<R: Read>(from: &mut R, input: &mut [u8]) -> io::Result<usize>
     Ok(at)
 }
 
-// Writes the record.
-fn put<W: Write>(to: &mut W, out: &[u8], n: usize) -> io::Result<()>
-    requires { n ≤ length out.now }
-{
-    to.write_all(&out[..n])
-}
-
-// Says on standard error what failed, if that can be written: there is nobody else to tell.
-fn tell<W: Write>(to: &mut W, what: &[u8]) -> ExitCode {
-    let _said = to.write_all(what);
-    ExitCode::FAILURE
-}
-
-fn main(rt: HostRuntime) -> ExitCode {
+fn run(rt: &HostRuntime) -> Result<(), Failure> {
     let mut input = [0u8; INPUT];
     let mut out = [0u8; RECORD];
-    let Ok(length) = read_all(&mut rt.stdin(), &mut input) else {
-        return tell(&mut rt.stderr(), b"record: standard input cannot be read\n");
-    };
+    let length = read_all(&mut rt.stdin(), &mut input).map_err(|_| Failure::Unread)?;
     let n = report(&input[..length], &mut out);
-    if put(&mut rt.stdout(), &out, n).is_err() {
-        return tell(
-            &mut rt.stderr(),
-            b"record: standard output cannot be written\n",
-        );
+    rt.stdout()
+        .write_all(&out[..n])
+        .map_err(|_| Failure::Unwritten)
+}
+
+// What failed is said on standard error, if that can be written: there is nobody else to tell.
+fn main(rt: HostRuntime) -> ExitCode {
+    match run(&rt) {
+        Ok(()) => ExitCode::SUCCESS,
+        Err(failure) => {
+            let _ = eprintln!(rt; "record: {failure}");
+            ExitCode::FAILURE
+        }
     }
-    ExitCode::SUCCESS
 }

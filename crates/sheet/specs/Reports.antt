@@ -17,10 +17,6 @@ tally_line k t = cond (eqb t.answer 0) (log_line k t.counts t.mask t.drift) (ref
 abbrev pub PutsLog : (l : List ℕ) (place : ℕ) (m out : List ℕ) (used end : ℕ) (m' after : List ℕ) → Type 0
 PutsLog l k m out used end m' after = Put out used (tally_line k (tally_of l k m)) end after × (m' ≡ totals_after l k m)
 
--- where a log that begins at `from` ends, in an input of this length
-abbrev pub piece_end : (from length : ℕ) → ℕ
-piece_end a n = cond (ltb (n - a) image_length) n (a + image_length)
-
 -- the lines of all logs are put, and the totals are theirs
 pub record PutsLogs (bs out : List ℕ) (end : ℕ) (m after : List ℕ) : Type 0 where
   pub puts : Put out 0 (lines_from 1 (logs_in (most_logs + 1) bs)) end after

@@ -1,16 +1,17 @@
 // The handover sheet (order 11): images from standard input, one after another; a line for each log on standard output, in
 // turn, and then the totals. It keeps the input, which is 64 images and the byte that tells of a 65th log, and the text. The
 // text is made by functions on slices; the reads and writes themselves, of which no contract can say what the system gives or
-// takes, stand in `read_all`, `put` and `tell` alone.
+// takes, stand in `read_all` and `run` alone.
 #![tactic(auto)]
 
 ghost use Rattle.std.specs.Prelude.{◌+◌, ◌*◌, ◌≤◌, ◌≡◌, length, replicate, IfOk};
 ghost use Rattle.lines.specs.Replies.{sheet_room, totals_line, Put, WrittenIn};
 ghost use Rattle.controller.specs.Tallies.{most_logs, totals_in};
-ghost use Rattle.sheet.specs.Reports.{tally_line, piece_end, PutsLog, PutsLogs, Reports};
+ghost use Rattle.sheet.specs.Reports.{tally_line, PutsLog, PutsLogs, Reports};
 
 use controller::Tally;
 use fields::get;
+use lines::Failure;
 use std::io;
 use std::io::{Read, Write};
 use std::process::ExitCode;
@@ -46,33 +47,14 @@ fn put_log(log: &[u8], place: u16, totals: &mut [u8; 12], out: &mut [u8], used: 
     used + n
 }
 
-// Where the log that begins at `from` ends: behind an image's bytes, or at the input's end.
-fn piece_end(from: usize, length: usize) -> usize
-    requires { from ≤ length }
-    ensures { result ≡ piece_end from length }
-{
-    if length - from < controller::IMAGE_LENGTH {
-        return length;
-    }
-    from + controller::IMAGE_LENGTH
-}
-
 // The logs of the input, in turn; none is looked at behind the 65th. Answers how many bytes stand then.
 fn put_logs(input: &[u8], totals: &mut [u8; 12], out: &mut [u8]) -> usize
     requires { (totals.old ≡ replicate 12 0) × (sheet_room * (most_logs + 1) ≤ length out.old) }
     ensures { PutsLogs input.now out.old result totals.new out.new }
 {
     let mut used = 0;
-    let mut from = 0;
-    let mut place: u16 = 1;
-    while from < input.len() {
-        if 65 < place {
-            return used;
-        }
-        let to = piece_end(from, input.len());
-        used = put_log(&input[from..to], place, totals, out, used);
-        from = to;
-        place += 1;
+    for (log, place) in input.chunks(controller::IMAGE_LENGTH).zip(1..66) {
+        used = put_log(log, place, totals, out, used);
     }
     used
 }
@@ -123,32 +105,24 @@ fn read_all<R: Read>(from: &mut R, input: &mut [u8]) -> io::Result<usize>
     Ok(used)
 }
 
-// Writes the text.
-fn put<W: Write>(to: &mut W, out: &[u8], used: usize) -> io::Result<()>
-    requires { used ≤ length out.now }
-{
-    to.write_all(&out[..used])
-}
-
-// Says on standard error what failed, if that can be written: there is nobody else to tell.
-fn tell<W: Write>(to: &mut W, what: &[u8]) -> ExitCode {
-    let _said = to.write_all(what);
-    ExitCode::FAILURE
-}
-
 // Of an input that was not read whole, nothing is written.
-fn main(rt: HostRuntime) -> ExitCode {
+fn run(rt: &HostRuntime) -> Result<(), Failure> {
     let mut input = [0u8; INPUT];
     let mut out = [0u8; TEXT];
-    let Ok(length) = read_all(&mut rt.stdin(), &mut input) else {
-        return tell(&mut rt.stderr(), b"sheet: standard input cannot be read\n");
-    };
+    let length = read_all(&mut rt.stdin(), &mut input).map_err(|_| Failure::Unread)?;
     let used = report(&input[..length], &mut out);
-    if put(&mut rt.stdout(), &out, used).is_err() {
-        return tell(
-            &mut rt.stderr(),
-            b"sheet: standard output cannot be written\n",
-        );
+    rt.stdout()
+        .write_all(&out[..used])
+        .map_err(|_| Failure::Unwritten)
+}
+
+// What failed is said on standard error, if that can be written: there is nobody else to tell.
+fn main(rt: HostRuntime) -> ExitCode {
+    match run(&rt) {
+        Ok(()) => ExitCode::SUCCESS,
+        Err(failure) => {
+            let _ = eprintln!(rt; "sheet: {failure}");
+            ExitCode::FAILURE
+        }
     }
-    ExitCode::SUCCESS
 }

@@ -7,7 +7,4 @@ use Prim.Native.Nat.{◌-◌, ◌≤◌}
 use Rattle.record.proofs.list_changes.Given as goal
 
 abbrev pub invariant-loop-k : goal.invariant-loop-k
-invariant-loop-k l = (folded_of l.s ≤ l.k) × ((l.k ≤ l.n) × Put l.initial.out l.start (held_text (view l.s) (l.k - folded_of l.s)) l.at l.out)
-
-abbrev pub decreases-loop-k : goal.decreases-loop-k
-decreases-loop-k l = l.n - l.k
+invariant-loop-k l = (folded_of l.s ≤ l.k) × ((l.k ≤ l.k-end) × Put l.initial.out l.start (held_text (view l.s) (l.k - folded_of l.s)) l.at l.out)

@@ -5,13 +5,13 @@ use native.Mathlib.Omega.{arith}
 use Rattle.record.proofs.list_values.Goals as goal
 
 pub loop-p-init : goal.loop-p-init
-loop-p-init c = (omega arith, listed_none _ _ _ _)
+loop-p-init c = listed_none _ _ _ _
 
 pub list_value-at-requires : goal.list_value-at-requires
-list_value-at-requires c = (c.requires.0, omega (arith, put_length c.loop-p.invariant.1, pairs_at_holds _ _ _ c.loop-p.p c.loop-p.invariant.1, c.loop-p-test.true, c.requires.1))
+list_value-at-requires c = (c.requires.0, omega (arith, put_length c.loop-p.invariant, pairs_at_holds _ _ _ c.loop-p.p c.loop-p.invariant, c.loop-p-test.true, c.requires.1))
 
 pub loop-p-preserved : goal.loop-p-preserved
-loop-p-preserved c = (omega (arith, c.loop-p-test.true), listed_next _ _ c.loop-p.p c.loop-p.invariant.1 c.list_value-at.ensures)
+loop-p-preserved c = listed_next _ _ c.loop-p.p c.loop-p.invariant c.list_value-at.ensures
 
 pub returns : goal.returns
-returns c = listed_whole _ _ c.loop-p.p 32 c.loop-p.invariant.0 c.loop-p-test.false c.loop-p.invariant.1
+returns c = listed_whole _ _ c.loop-p.p 32 c.loop-p.auto.p-end c.loop-p-test.false c.loop-p.invariant

@@ -6,12 +6,8 @@ use Rattle.machine.specs.Stores.{of_base}
 use lib.ListN.{get_or}
 use lib.Dec.{eqb}
 use mathlib.Core.Bool.{not}
-use Prim.Native.Nat.{◌-◌, ◌≤◌}
 use Rattle.record.proofs.list_values.Given as goal
 
 abbrev pub invariant-loop-p : goal.invariant-loop-p
-invariant-loop-p l = (l.p ≤ 32) × Put l.initial.out l.start
+invariant-loop-p l = Put l.initial.out l.start
     (listed (λ j. not (eqb (get_or (table_of l.s of_base) j 0) 0)) (λ j. pair_text j (get_or (table_of l.s of_base) j 0)) l.p) l.at l.out
-
-abbrev pub decreases-loop-p : goal.decreases-loop-p
-decreases-loop-p l = 32 - l.p

@@ -12,4 +12,4 @@ pub write_entry-requires : goal.write_entry-requires
 write_entry-requires c = (this_low c.requires.0 _ c.load_entry-t.ensures, c.requires.1)
 
 pub returns : goal.returns
-returns c = change_put c.requires.0 c.load_entry-t.result c.load_class-class.result c.flag-took.result c.flag-undone.result c.side_landed.result c.side_landed-2.result c.load_entry-t.ensures c.load_class-class.ensures c.side_landed.ensures c.flag-took.ensures c.side_landed-2.ensures c.flag-undone.ensures c.write_entry.ensures
+returns c = change_put c.requires.0 c.load_entry-t.result c.load_class-class.result c.from-took.result c.from-undone.result c.side_landed.result c.side_landed-2.result c.load_entry-t.ensures c.load_class-class.ensures c.side_landed.ensures c.from-took.ensures c.side_landed-2.ensures c.from-undone.ensures c.write_entry.ensures
