@@ -2,14 +2,12 @@
 // Program and host). It reads a block, writes what its lines are answered, and reads on. It keeps one image, one block, one
 // buffer of answers, the reader of one line and the room that it is lent, whatever the input's length and its lines' length.
 // What is written is made by functions on slices; the reads and writes themselves, of which no contract can say what the system
-// gives or takes, stand in `read_once`, `put` and `tell` alone.
+// gives or takes, stand in `read_once`, `write_end` and `main` alone.
 #![tactic(auto)]
 
-ghost use Rattle.std.specs.Prelude.{◌+◌, ◌*◌, ◌≤◌, ◌≡◌, length, take, get_or, MatchResult};
+ghost use Rattle.std.specs.Prelude.{◌+◌, ◌*◌, ◌≤◌, ◌≡◌, length, get_or};
 ghost use Rattle.lines.specs.Reading.{last_in};
 ghost use Rattle.lines.specs.Replies.{Written};
-ghost use Rattle.controller.specs.Bytes.{append_of};
-ghost use Rattle.controller.specs.Claims.{Claims};
 ghost use Rattle.controller.specs.Imports.{import_in};
 ghost use Rattle.stepper.specs.declared.Answer.TheVariants.{Slept};
 ghost use Rattle.stepper.specs.Answers.{Answers, Sleeps, places_in, table_in, BeginsIf, FreshensIf, line_for};
@@ -20,7 +18,7 @@ ghost use Rattle.stepper.specs.Runs.{Reads, ReadsAll};
 
 use controller::{Imported, Night, Read, Why};
 use kinds::Reply;
-use lines::{Call, Line, Reader};
+use lines::{Call, Failure, Line, Reader};
 use std::io;
 use std::process::ExitCode;
 
@@ -34,7 +32,7 @@ const BLOCK: usize = 4096;
 const ANSWERS: usize = ANSWER * BLOCK;
 
 // Between two bytes: the line so far, whether it has a byte, how much of the buffer is answers not yet written, and whether no line
-// came before it.
+// came before it. The buffer is an array with its length here, since the program's memory is fixed.
 #[derive(Clone, Copy)]
 struct Session {
     line: Reader,
@@ -43,19 +41,17 @@ struct Session {
     first: bool,
 }
 
-// What comes after a read: there may be more, or the input has ended; or it cannot be read, or the answers cannot be written.
+// What comes after a read: there may be more, or the input has ended.
 #[derive(Clone, Copy)]
 enum Next {
     More,
     Ended,
-    Unread,
-    Unwritten,
 }
 
 #[derive(Clone, Copy)]
 struct Turn {
     session: Session,
-    next: Next,
+    next: Result<Next, Failure>,
 }
 
 // What a line is answered: a call's reply, why a job does not move, how a night went, whether a list was imported, or who set a
@@ -69,58 +65,41 @@ enum Answer {
     Owned(Read),
 }
 
-fn append(image: &mut [u8], room: &[u8], n: usize) -> Reply
-    requires { n ≤ length room.now }
-    ensures { Claims image.old (append_of (take n room.now)) result image.new }
-{
-    controller::append(image, &room[..n])
-}
-
-// The i-th outcome of a night's line, from 0, in the first n bytes of the room: behind node and budget, two bytes each. One that the
+// The i-th outcome of a night's line, from 0, in the bytes that go with it: behind node and budget, two bytes each. One that the
 // line does not have is 0.
-fn outcome_in(room: &[u8], n: usize, i: usize) -> u8
-    requires { (n ≤ length room.now) × (i ≤ 256) }
-    ensures { result ≡ get_or (take n room.now) (2 * i + 4) 0 }
+fn outcome_in(said: &[u8], i: usize) -> u8
+    requires { i ≤ 256 }
+    ensures { result ≡ get_or said.now (2 * i + 4) 0 }
 {
-    let at = 2 * i + 4;
-    if at < n {
-        return room[at];
-    }
-    0
+    said.get(2 * i + 4).copied().unwrap_or(0)
 }
 
-fn fill(table: &mut [u8], room: &[u8], n: usize)
-    requires { (n ≤ length room.now) × (length table.old ≡ 257) }
-    ensures { table.new ≡ places_in (take n room.now) }
+fn fill(table: &mut [u8; 257], said: &[u8])
+    ensures { table.new ≡ places_in said.now }
 {
-    let mut i = 0;
-    while i < table.len() {
-        table[i] = outcome_in(room, n, i);
-        i += 1;
+    for (i, outcome) in table.iter_mut().enumerate() {
+        *outcome = outcome_in(said, i);
     }
 }
 
 // A night, with the table of its outcomes; its events are not shown.
-fn night(image: &mut [u8], node: u16, budget: u16, room: &[u8], n: usize) -> Night
-    requires { n ≤ length room.now }
-    ensures { Sleeps image.old node budget (table_in (take n room.now)) (Slept result) image.new }
+fn night(image: &mut [u8], node: u16, budget: u16, said: &[u8]) -> Night
+    ensures { Sleeps image.old node budget (table_in said.now) (Slept result) image.new }
 {
     let mut table = [0u8; 257];
-    let mut none = [0u8; 1];
-    fill(&mut table, room, n);
-    if n < 518 {
-        return controller::night(image, node, budget, &table[..256], &mut none[..0]);
+    fill(&mut table, said);
+    if said.len() < 518 {
+        return controller::night(image, node, budget, &table[..256], &mut []);
     }
-    controller::night(image, node, budget, &table[..257], &mut none[..0])
+    controller::night(image, node, budget, &table, &mut [])
 }
 
 // An import, in place of the fresh start; behind another line it cannot be read.
-fn import(image: &mut [u8], room: &[u8], n: usize, first: bool) -> Answer
-    requires { n ≤ length room.now }
-    ensures { BeginsIf first image.old (import_in image.old (take n room.now)) result image.new }
+fn import(image: &mut [u8], said: &[u8], first: bool) -> Answer
+    ensures { BeginsIf first image.old (import_in image.old said.now) result image.new }
 {
     if first {
-        return Answer::Began(controller::import(image, &room[..n]));
+        return Answer::Began(controller::import(image, said));
     }
     Answer::Replied(Reply::of(2))
 }
@@ -140,11 +119,10 @@ fn ask(image: &mut [u8], line: Line, room: &[u8], first: bool) -> Answer
     requires { line.length ≤ length room.now }
     ensures { Answers first image.old line room.now result image.new }
 {
-    let call = line.call;
-    let n = line.length;
-    match call {
+    let said = &room[..line.length];
+    match line.call {
         Call::Unreadable => Answer::Replied(Reply::of(2)),
-        Call::Append => Answer::Replied(append(image, room, n)),
+        Call::Append => Answer::Replied(controller::append(image, said)),
         Call::Rollback(number) => Answer::Replied(controller::rollback(image, number)),
         Call::Start => Answer::Replied(controller::start(image)),
         Call::Stop => Answer::Replied(controller::stop(image)),
@@ -163,8 +141,8 @@ fn ask(image: &mut [u8], line: Line, room: &[u8], first: bool) -> Answer
         Call::Why { node, job, number } => Answer::Explained(controller::why(
             image, node, job, number,
         )),
-        Call::Night { node, budget } => Answer::Slept(night(image, node, budget, room, n)),
-        Call::Import => import(image, room, n, first),
+        Call::Night { node, budget } => Answer::Slept(night(image, node, budget, said)),
+        Call::Import => import(image, said, first),
         Call::Owner(path) => Answer::Owned(controller::owner(image, path)),
         Call::Fresh(remembers) => fresh(image, remembers, first),
     }
@@ -232,10 +210,8 @@ fn feed(
     ensures { Feeds image.old out.old room.old s block.now result image.new out.new room.new }
 {
     let mut session = s;
-    let mut i = 0;
-    while i < block.len() {
-        session = take_byte(image, out, room, session, block[i]);
-        i += 1;
+    for &b in block {
+        session = take_byte(image, out, room, session, b);
     }
     session
 }
@@ -296,38 +272,13 @@ fn written(s: Session) -> Session
     }
 }
 
-// Says on standard error what failed, if that can be written: there is nobody else to tell.
-fn tell<W: io::Write>(to: &mut W, what: &[u8]) -> ExitCode {
-    let _said = to.write_all(what);
-    ExitCode::FAILURE
-}
-
-// Writes the answers that wait, and answers whether all were taken.
-fn put<W: io::Write>(to: &mut W, out: &[u8], used: usize) -> bool
-    requires { used ≤ length out.now }
-{
-    to.write_all(&out[..used]).is_ok()
-}
-
-// What comes after a read that was answered so, and a write that was taken or not.
-fn after_read(got: io::Result<usize>, sent: bool) -> Next {
-    if !sent {
-        return Next::Unwritten;
-    }
+// What comes after a read that was answered so, and a write that was.
+fn after_read(got: io::Result<usize>, sent: io::Result<()>) -> Result<Next, Failure> {
+    sent.map_err(|_| Failure::Unwritten)?;
     match got {
-        Ok(0) => Next::Ended,
-        Ok(_) => Next::More,
-        Err(_) => Next::Unread,
-    }
-}
-
-// How many bytes a read has brought.
-fn count(got: &io::Result<usize>) -> usize
-    ensures { MatchResult got.now (λ n. result ≡ n) (λ e. result ≡ 0) }
-{
-    match got {
-        Ok(n) => *n,
-        Err(_) => 0,
+        Ok(0) => Ok(Next::Ended),
+        Ok(_) => Ok(Next::More),
+        Err(_) => Err(Failure::Unread),
     }
 }
 
@@ -344,9 +295,9 @@ fn read_once<R: io::Read, W: io::Write>(
 {
     let mut block = [0u8; BLOCK];
     let got = from.read(&mut block);
-    let n = count(&got);
+    let n = got.as_ref().copied().unwrap_or(0);
     let session = feed(image, out, room, written(s), &block[..n]);
-    let sent = put(to, out, session.used);
+    let sent = to.write_all(&out[..session.used]);
     Turn {
         session,
         next: after_read(got, sent),
@@ -373,52 +324,49 @@ fn read_all<R: io::Read, W: io::Write>(
     for _ in 0..u64::MAX {
         let turn = read_once(from, to, image, out, room, session);
         session = turn.session;
-        if !matches!(turn.next, Next::More) {
+        if !matches!(turn.next, Ok(Next::More)) {
             return turn;
         }
     }
     Turn {
         session,
-        next: Next::Unread,
+        next: Err(Failure::Unread),
     }
 }
 
-// Writes what the input's end is answered: the last line, if it has no newline, and the closing line; answers whether all was
-// taken.
+// Writes what the input's end is answered: the last line, if it has no newline, and the closing line.
 fn write_end<W: io::Write>(
     to: &mut W,
     image: &mut [u8],
     out: &mut [u8; ANSWERS],
     room: &mut [u8; 5140],
     s: Session,
-) -> bool {
+) -> io::Result<()> {
     let used = end_input(image, out, room, written(s));
-    put(to, out, used)
+    to.write_all(&out[..used])
 }
 
 // After a failure no closing line is written: what was written is then known not to be the whole.
-fn main(rt: HostRuntime) -> ExitCode {
+fn run(rt: &HostRuntime) -> Result<(), Failure> {
     let mut image = [0u8; controller::IMAGE_LENGTH];
     controller::fresh(&mut image, 0);
     let mut out = [0u8; ANSWERS];
     let mut room = [0u8; 5140];
     let mut to = rt.stdout();
     let turn = read_all(&mut rt.stdin(), &mut to, &mut image, &mut out, &mut room);
-    let whole = match turn.next {
-        Next::More | Next::Unread => {
-            return tell(
-                &mut rt.stderr(),
-                b"stepper: standard input cannot be read\n",
-            );
+    turn.next?;
+    write_end(&mut to, &mut image, &mut out, &mut room, turn.session).map_err(
+        |_| Failure::Unwritten,
+    )
+}
+
+// What failed is said on standard error, if that can be written: there is nobody else to tell.
+fn main(rt: HostRuntime) -> ExitCode {
+    match run(&rt) {
+        Ok(()) => ExitCode::SUCCESS,
+        Err(failure) => {
+            let _ = eprintln!(rt; "stepper: {failure}");
+            ExitCode::FAILURE
         }
-        Next::Ended => write_end(&mut to, &mut image, &mut out, &mut room, turn.session),
-        Next::Unwritten => false,
-    };
-    if !whole {
-        return tell(
-            &mut rt.stderr(),
-            b"stepper: standard output cannot be written\n",
-        );
     }
-    ExitCode::SUCCESS
 }

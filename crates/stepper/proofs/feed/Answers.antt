@@ -8,26 +8,25 @@ use mathlib.Core.Path.{refl}
 use Prim.Native.Nat.{◌+◌, ◌≤◌}
 use Rattle.stepper.proofs.feed.Goals as goal
 
-pub loop-i-init : goal.loop-i-init
-loop-i-init c = (omega arith, none, refl, refl, omega arith)
+pub loop-b-init : goal.loop-b-init
+loop-b-init c = (none, refl, refl, omega arith)
 
-pub loop-i-preserved : goal.loop-i-preserved
-loop-i-preserved c = (
-  omega (arith, c.loop-i-test.true),
+pub loop-b-preserved : goal.loop-b-preserved
+loop-b-preserved c = (
   fed_more _ _ _ _ _
-      c.loop-i.i _ _ _ _ _ _ _ _
-      c.loop-i-test.true
-      c.loop-i.invariant.1 c.take_byte-session.ensures,
+      c.loop-b.b-index _ _ _ _ _ _ _ _
+      c.loop-b-test.true
+      c.loop-b.invariant.0 c.take_byte-session.ensures,
   search rules,
   search rules,
   let h : c.take_byte-session.result.used
-      ≤ c.loop-i.session.used + 96 = takes_room _ _ _
-      c.loop-i.session
+      ≤ c.loop-b.session.used + 96 = takes_room _ _ _
+      c.loop-b.session
       (get_or c.args.block.now
-      c.loop-i.i 0) _ _ _ _
+      c.loop-b.b-index 0) _ _ _ _
       c.take_byte-session.ensures in
-      omega (arith, h, c.loop-i.invariant.4),
+      omega (arith, h, c.loop-b.invariant.3),
 )
 
 pub returns : goal.returns
-returns c = fed_all _ _ _ _ _ c.loop-i.i _ _ _ _ c.loop-i-test.false c.loop-i.invariant.1
+returns c = fed_all _ _ _ _ _ c.loop-b.b-index _ _ _ _ c.loop-b-test.false c.loop-b.invariant.0

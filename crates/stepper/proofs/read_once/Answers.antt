@@ -5,8 +5,8 @@ use Rattle.stepper.specs.declared.Session.{Session}
 use Rattle.stepper.proofs.Fed.{feeds_room, read_fed}
 use Rattle.stepper.proofs.read_once.Goals as goal
 
-pub put-sent-requires : goal.put-sent-requires
-put-sent-requires g c =
+pub shared_ref_as_front-write_all : goal.shared_ref_as_front-write_all
+shared_ref_as_front-write_all g c =
     let h : c.written.result.used ≡ 0 = ap (λ (x : Session). x.used) c.written.ensures in
     let fed = feeds_room c.feed-session.ensures in search rules
 
