@@ -1,6 +1,6 @@
 // The record of a log (order 11): its image from standard input; on standard output a line for each change kept, then what
 // is folded, then the changes that the switch holds. What is written is made by functions on slices; the reads and the
-// write themselves, of which no contract can say what the system gives or takes, stand in `read_all` and `run` alone.
+// write themselves, of which no contract can say what the system gives or takes, stand in `run` alone.
 #![tactic(auto)]
 
 ghost use Rattle.std.specs.Prelude.{◌+◌, ◌*◌, ◌-◌, ◌≤◌, ◌<◌, ◌≡◌, true, not, ◌&&◌, eqb, length, get_or, IfOk};
@@ -150,27 +150,13 @@ fn report(input: &[u8], out: &mut [u8]) -> usize
     lines::write_unformed(out, 0)
 }
 
-// Reads until the input ends or there is no room for more; answers how much was read.
-fn read_all<R: Read>(from: &mut R, input: &mut [u8]) -> io::Result<usize>
-    ensures { IfOk result (λ n. n ≤ length input.new) }
-{
-    let end = input.len();
-    let mut at = 0;
-    while at < end {
-        let n = from.read(&mut input[at..end])?;
-        if n == 0 {
-            return Ok(at);
-        }
-        at += n;
-    }
-    Ok(at)
-}
-
 fn run(rt: &HostRuntime) -> Result<(), Failure> {
     let mut input = [0u8; INPUT];
     let mut out = [0u8; RECORD];
-    let length = read_all(&mut rt.stdin(), &mut input).map_err(|_| Failure::Unread)?;
-    let n = report(&input[..length], &mut out);
+    let mut from = rt.stdin().take(INPUT as u64);
+    let mut room = &mut input[..];
+    let length = io::copy(&mut from, &mut room).map_err(|_| Failure::Unread)?;
+    let n = report(&input[..INPUT.min(length as usize)], &mut out);
     rt.stdout()
         .write_all(&out[..n])
         .map_err(|_| Failure::Unwritten)

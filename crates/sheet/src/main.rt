@@ -1,7 +1,7 @@
 // The handover sheet (order 11): images from standard input, one after another; a line for each log on standard output, in
 // turn, and then the totals. It keeps the input, which is 64 images and the byte that tells of a 65th log, and the text. The
 // text is made by functions on slices; the reads and writes themselves, of which no contract can say what the system gives or
-// takes, stand in `read_all` and `run` alone.
+// takes, stand in `run` alone.
 #![tactic(auto)]
 
 ghost use Rattle.std.specs.Prelude.{◌+◌, ◌*◌, ◌≤◌, ◌≡◌, length, replicate, IfOk};
@@ -25,7 +25,7 @@ const INPUT: usize = 64 * controller::IMAGE_LENGTH + 1;
 // A line for each of 65 logs, and that of the totals.
 const TEXT: usize = 66 * LINE;
 
-// The line of a log that was tallied, at the start of `out`, and its length.
+// The line of a log that was tallied, at the start of `out`, and its length. The answer is a number, since it is what C is told.
 fn write_line(out: &mut [u8], place: u16, t: Tally) -> usize
     ensures { WrittenIn sheet_room out.old (tally_line place t) result out.new }
 {
@@ -36,7 +36,8 @@ fn write_line(out: &mut [u8], place: u16, t: Tally) -> usize
     lines::write_refused(out, place, t.answer)
 }
 
-// A log: its counts added to the totals, its line put behind the first `used` bytes; answers how many stand then.
+// A log: its counts added to the totals, its line put behind the first `used` bytes; answers how many stand then. The totals are
+// twelve bytes, as C lends them; the text is an array with its length beside, since the program's memory is fixed.
 fn put_log(log: &[u8], place: u16, totals: &mut [u8; 12], out: &mut [u8], used: usize) -> usize
     requires { used + sheet_room ≤ length out.old }
     ensures { PutsLog log.now place totals.old out.old used result totals.new out.new }
@@ -89,28 +90,14 @@ fn report(input: &[u8], out: &mut [u8]) -> usize
     put_totals(&totals, out, used)
 }
 
-// Reads until the buffer is full or the input ends: a read that brings nothing is its end. Answers how much was read.
-fn read_all<R: Read>(from: &mut R, input: &mut [u8]) -> io::Result<usize>
-    ensures { IfOk result (λ n. n ≤ length input.new) }
-{
-    let end = input.len();
-    let mut used = 0;
-    while used < end {
-        let n = from.read(&mut input[used..end])?;
-        if n == 0 {
-            return Ok(used);
-        }
-        used += n;
-    }
-    Ok(used)
-}
-
 // Of an input that was not read whole, nothing is written.
 fn run(rt: &HostRuntime) -> Result<(), Failure> {
     let mut input = [0u8; INPUT];
     let mut out = [0u8; TEXT];
-    let length = read_all(&mut rt.stdin(), &mut input).map_err(|_| Failure::Unread)?;
-    let used = report(&input[..length], &mut out);
+    let mut from = rt.stdin().take(INPUT as u64);
+    let mut room = &mut input[..];
+    let length = io::copy(&mut from, &mut room).map_err(|_| Failure::Unread)?;
+    let used = report(&input[..INPUT.min(length as usize)], &mut out);
     rt.stdout()
         .write_all(&out[..used])
         .map_err(|_| Failure::Unwritten)
