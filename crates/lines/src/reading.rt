@@ -9,43 +9,32 @@ ghost use Rattle.lines.specs.Promises.{StartsFresh, Pushes, Finishes, ReadsLine}
 
 // The table of forms. A row is a newline, its text, in which `#` is a number, `%` are pairs, `&` single digits and `$` entries, its
 // tag, and dots; letters in one column of two rows are `WIDTH` apart. The shortest lines come first: what a row shares with those
-// before it is compared.
+// before it is compared. It is a static: a constant would be put on the stack whole at each use.
 const WIDTH: usize = 64;
 
 const SIZE: usize = 15 * WIDTH;
 
-const STOP: [u8; 64] = *b"\ncall=stopT.....................................................";
-
-const START: [u8; 64] = *b"\ncall=startS....................................................";
-
-const SYNC: [u8; 64] = *b"\ncall=sync node=#Y..............................................";
-
-const APPEND: [u8; 64] = *b"\ncall=append pairs=%A...........................................";
-
-const CONNECT: [u8; 64] = *b"\ncall=connect node=#C...........................................";
-
-const DISCONNECT: [u8; 64] = *b"\ncall=disconnect node=#D........................................";
-
-const MASTER: [u8; 64] = *b"\ncall=master node=#M............................................";
-
-const ROLLBACK: [u8; 64] = *b"\ncall=rollback number=#R........................................";
-
-const WORK: [u8; 64] = *b"\ncall=work node=# job=# number=# outcome=# cut=#W...............";
-
-const FOLD: [u8; 64] = *b"\ncall=fold number=#F............................................";
-
-const WHY: [u8; 64] = *b"\ncall=why node=# job=# number=#Q................................";
-
-const NIGHT: [u8; 64] = *b"\ncall=night node=# budget=# outcomes=&N.........................";
-
-const IMPORT: [u8; 64] = *b"\ncall=import entries=$I.........................................";
-
-const OWNER: [u8; 64] = *b"\ncall=owner path=#O.............................................";
-
-const FRESH: [u8; 64] = *b"\ncall=fresh remembers=#B........................................";
+static TABLE: [u8; SIZE] = *b"\
+    \ncall=stopT.....................................................\
+    \ncall=startS....................................................\
+    \ncall=sync node=#Y..............................................\
+    \ncall=append pairs=%A...........................................\
+    \ncall=connect node=#C...........................................\
+    \ncall=disconnect node=#D........................................\
+    \ncall=master node=#M............................................\
+    \ncall=rollback number=#R........................................\
+    \ncall=work node=# job=# number=# outcome=# cut=#W...............\
+    \ncall=fold number=#F............................................\
+    \ncall=why node=# job=# number=#Q................................\
+    \ncall=night node=# budget=# outcomes=&N.........................\
+    \ncall=import entries=$I.........................................\
+    \ncall=owner path=#O.............................................\
+    \ncall=fresh remembers=#B........................................";
 
 // Where the line so far leads: a place of the table; how much has come of what a mark there takes; the number that is being
-// read; how many bytes of the room are taken by what ended; and how many numbers of an entry ended that itself has not.
+// read; how many bytes of the room are taken by what ended; and how many numbers of an entry ended that itself has not. The room is
+// the caller's, since there is no heap. `sub`, the place 0 and the tag 0 are numbers, since the definitions that `Pushes` and
+// `Finishes` cite (`begins`, `parts`, `may_end`, `tag_before`) and the theorem `read_right` speak of them.
 #[derive(Clone, Copy)]
 pub struct Reader {
     at: usize,
@@ -99,37 +88,17 @@ pub struct Line {
     pub length: usize,
 }
 
-fn cell(row: [u8; 64], column: usize) -> u8
-    requires { column < 64 }
-    ensures { result ≡ get_or row column 0 }
+fn byte_at(bytes: &[u8], at: usize) -> u8
+    ensures { result ≡ get_or bytes.now at 0 }
 {
-    row[column]
+    bytes.get(at).copied().unwrap_or(0)
 }
 
 // The letter at a place of the table; 0 past it.
 fn letter(at: usize) -> u8
     ensures { result ≡ letter_at at }
 {
-    let row = at / WIDTH;
-    let column = at % WIDTH;
-    match row {
-        0 => cell(STOP, column),
-        1 => cell(START, column),
-        2 => cell(SYNC, column),
-        3 => cell(APPEND, column),
-        4 => cell(CONNECT, column),
-        5 => cell(DISCONNECT, column),
-        6 => cell(MASTER, column),
-        7 => cell(ROLLBACK, column),
-        8 => cell(WORK, column),
-        9 => cell(FOLD, column),
-        10 => cell(WHY, column),
-        11 => cell(NIGHT, column),
-        12 => cell(IMPORT, column),
-        13 => cell(OWNER, column),
-        14 => cell(FRESH, column),
-        _ => 0,
-    }
+    byte_at(&TABLE, at)
 }
 
 fn is_paired(c: u8) -> bool

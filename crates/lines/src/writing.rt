@@ -1,5 +1,6 @@
 // The lines that the program writes: a reply, what the other calls answer, and the closing line (paper: Program and host). A reply's,
-// which nearly every line is answered with, is written key by key; the others are forms filled in letter by letter.
+// which nearly every line is answered with, is written key by key; the others are forms filled in letter by letter. What is lent and
+// the place in it go side by side, since there is no heap and `Put`, which the public writers promise, speaks of both.
 ghost use Rattle.std.specs.Prelude.{◌≡◌, ◌+◌, ◌≤◌, ◌<◌, length, get_or, ◌++◌};
 ghost use Rattle.lines.specs.Decimal.{decimal};
 ghost use Rattle.lines.specs.Replies.{filled_at, next_at, filled, room_of, reply_line, why_line, night_line, import_line, owner_line, closing_line, log_line, refused_line, totals_line, sheet_room, Put, Written, WrittenIn};
