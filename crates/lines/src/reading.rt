@@ -249,19 +249,13 @@ fn past(c: u8, s: u8, p: usize) -> usize
 fn placed(r: Reader, at: usize) -> Reader
     ensures { result ≡ placed r at }
 {
-    let mut next = r;
-    next.at = at;
-    next.sub = 0;
-    next
+    Reader { at, sub: 0, ..r }
 }
 
 fn begun(r: Reader, s: u8, value: u16) -> Reader
     ensures { result ≡ begun r s value }
 {
-    let mut next = r;
-    next.sub = s;
-    next.value = value;
-    next
+    Reader { sub: s, value, ..r }
 }
 
 fn grown(r: Reader, d: u8) -> Reader
@@ -278,10 +272,7 @@ fn grown(r: Reader, d: u8) -> Reader
 fn holding(r: Reader, used: usize, count: u16) -> Reader
     ensures { result ≡ holding r used count }
 {
-    let mut next = r;
-    next.used = used;
-    next.count = count;
-    next
+    Reader { used, count, ..r }
 }
 
 // A number in two bytes, the low one first.

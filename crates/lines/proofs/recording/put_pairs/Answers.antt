@@ -1,6 +1,6 @@
 -- `put_pairs` lists the pairs one after another: after k turns the first k of them stand there. Assumes nothing.
-use Rattle.std.proofs.lemmas.Slice.Zip.{zip_turn, zip_end}
-use Rattle.lines.proofs.Recorded.{listed_none, pairs_more, listed_whole, pairs_at_holds}
+use Rattle.std.proofs.lemmas.Slice.Zip.{zip_turn}
+use Rattle.lines.proofs.Recorded.{listed_none, pairs_more, pairs_at_holds}
 use Rattle.lines.proofs.Putting.{put_length}
 use lib.ListN.{take, length, length-take, length-append}
 use native.Mathlib.Omega.{arith}
@@ -21,9 +21,3 @@ loop-path-preserved c =
     let turn = zip_turn (take n c.args.t.paths) (take n c.args.t.values) c.loop-path.yielded _ _ c.next.new.self _ (cc) (cc) c.loop-path.yielded_by _ c.in-Some.is c.next.ensures.steps in
     pairs_more c.args.t (length c.loop-path.yielded) _ _ _ (omega (arith, turn.0, length-take n c.args.t.paths))
     (turn.2 0) (turn.3 0) (length-append c.loop-path.yielded _) c.loop-path.invariant c.list_pair-end.ensures
-
-pub returns : goal.returns
-returns c =
-    let n = c.args.t.count in
-    let end = zip_end (take n c.args.t.paths) (take n c.args.t.values) c.loop-path.yielded _ _ c.next.new.self _ (cc) (cc) c.loop-path.yielded_by c.in-None.is c.next.ensures.steps in
-    listed_whole _ _ (length c.loop-path.yielded) n (omega (arith, end, length-take n c.args.t.paths)) (omega (arith, end, length-take n c.args.t.paths, length-take n c.args.t.values, c.requires.0)) c.loop-path.invariant

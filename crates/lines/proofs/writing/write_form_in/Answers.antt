@@ -1,14 +1,8 @@
 -- `write_form_in` fills in a form letter by letter. Assumes nothing.
-use Rattle.lines.proofs.Putting.{room_long, filling_none, filling_fits_in, filling_more, filling_whole, filled_short, written_in, unwritten_in}
+use Rattle.lines.proofs.Putting.{room_long, filling_fits_in, filling_more, filling_whole, filled_short, written_in}
 use native.Mathlib.Omega.{arith}
 use mathlib.Core.Path.{refl}
 use Rattle.lines.proofs.writing.write_form_in.Goals as goal
-
-pub returns-then-out-room : goal.returns-then-out-room
-returns-then-out-room c = unwritten_in _ _ _ c.if-out-room.true
-
-pub loop-c-init : goal.loop-c-init
-loop-c-init c = filling_none _ _ _
 
 pub put_letter-at-requires : goal.put_letter-at-requires
 put_letter-at-requires c = filling_fits_in _ _ _ _ c.loop-c.c-index c.loop-c.k _

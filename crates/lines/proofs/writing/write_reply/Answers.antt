@@ -1,11 +1,8 @@
 -- `write_reply` meets its contract. Assumes nothing.
 use Rattle.lines.specs.Text.{text}
-use Rattle.lines.proofs.Putting.{begun_none, key_fits, key_put, text_fits, text_put, reply_filled, decimal_short, whole, unwritten}
+use Rattle.lines.proofs.Putting.{begun_none, key_fits, key_put, text_fits, text_put, reply_filled, decimal_short, whole}
 use native.Mathlib.Omega.{arith}
 use Rattle.lines.proofs.writing.write_reply.Goals as goal
-
-pub returns-then-out-lt-LINE_ROOM : goal.returns-then-out-lt-LINE_ROOM
-returns-then-out-lt-LINE_ROOM c = unwritten _ _ c.if-out-lt-LINE_ROOM.true
 
 pub put_keyed-a-requires : goal.put_keyed-a-requires
 put_keyed-a-requires c = omega (
