@@ -1,5 +1,5 @@
 -- `list_changes` goes from the last fold to the highest number. Assumes nothing.
-use Rattle.record.proofs.Reported.{size, last_low, kept_next, at_start, through, none_held, held_more, held_room_holds}
+use Rattle.record.proofs.Reported.{size, kept_next, at_start, through, none_held, held_more, held_room_holds}
 use Rattle.record.specs.Told.{held_text}
 use Rattle.image.specs.View.{view}
 use native.Mathlib.Omega.{arith}
@@ -13,9 +13,6 @@ last_fold-k-requires c = size _ _ c.requires.0
 
 pub loop-k-init : goal.loop-k-init
 loop-k-init c = at_start _ _ c.requires.0 (held_text (view _)) (none_held _ _ c.requires.0) c.last_fold-k.ensures c.last_number-k-end.ensures _ _
-
-pub overflow_add-k : goal.overflow_add-k
-overflow_add-k c = omega (arith, c.loop-k-test.true, c.last_number-k-end.ensures, last_low _ _ c.requires.0)
 
 pub list_change-at-requires : goal.list_change-at-requires
 list_change-at-requires c = (kept_next _ _ c.requires.0 c.loop-k.k c.loop-k.invariant.0 (omega (arith, c.loop-k-test.true, c.last_number-k-end.ensures)), held_room_holds _ _ c.requires.0 c.loop-k.invariant.0 (omega (arith, c.loop-k-test.true, c.last_number-k-end.ensures)) c.loop-k.invariant.1.1 c.requires.1)
