@@ -1,6 +1,7 @@
 -- The laws of the controller: why its contracts and theorems hold. Assumes nothing.
 pub mod Performed
 pub mod LentPairs
+pub mod InRange
 pub mod Decided
 pub mod Answered
 pub mod Folded

@@ -7,8 +7,8 @@ use mathlib.Core.List.{List, [], ◌∷◌}
 use native.Mathlib.Omega.{arith}
 use borrow.Author.Tests.{eqb-true, eqb-false, eq-eqb, ne_eqb, le-leb, lt-leb, leb-true, lt-ltb, le-ltb, ltb-false}
 use lib.Dec.{eqb, leb, ltb}
-use lib.ListN.{length, get_or, drop}
-use lib.Seq.{drop-length, drop-cons}
+use lib.ListN.{length, get_or}
+use Rattle.std.specs.List.{list_all}
 use Rattle.kinds.specs.declared.Transaction.{Transaction}
 use Rattle.kinds.specs.declared.Head.{Head}
 use Rattle.kinds.specs.declared.Number.{Number}
@@ -58,33 +58,13 @@ use Rattle.controller.specs.Nights.{lent_from, put_event, room_after, event_size
 use Rattle.controller.proofs.Decided.{size, entry_of_holds, room, last_is, next_change_holds, next_rollback_holds, begin_present}
 use Rattle.controller.proofs.Idle.{told_idle, idle_waits, folds_nothing, idle_stays}
 
--- ---- the table: the outcomes before the i-th are 0 or 1
-abbrev pub Bits : List ℕ → ℕ → Type 0
-Bits os i = (i ≤ length os) × (bits os ≡ bits (drop i os))
+-- ---- the table
+pub bits_all : (os : List ℕ) → list_all (λ x. leb x 1) os ≡ bits os
+unfolding bits
+bits_all [] = refl
+bits_all (o ∷ os) = ap (λ (x : Bool). leb o 1 && x) (bits_all os)
 
 module _ (os : List ℕ) where
-  pub bits_none : Bits os 0
-  bits_none = (omega arith, refl)
-
-  module _ (i : ℕ) (v : Bits os i) (h : i < length os) where
-    from_here : bits os ≡ (leb (get_or os i 0) 1 && bits (drop (suc i) os))
-    unfolding bits
-    from_here = v.1 ∙ ap bits (drop-cons os i 0 h)
-
-    pub bits_more : get_or os i 0 ≤ 1 → Bits os (i + 1)
-    bits_more p =
-        let e : i + 1 ≡ suc i = omega arith in
-        (omega arith, from_here ∙ ap (λ (x : Bool). x && bits (drop (suc i) os)) (le-leb _ 1 p) ∙ sym (ap (λ (k : ℕ). bits (drop k os)) e))
-
-    pub bits_not : 1 < get_or os i 0 → false ≡ bits os
-    bits_not p = sym (from_here ∙ ap (λ (x : Bool). x && bits (drop (suc i) os)) (lt-leb _ 1 p))
-
-  pub bits_all : (i : ℕ) → Bits os i → length os ≤ i → true ≡ bits os
-  unfolding bits
-  bits_all i v p =
-      let e : i ≡ length os = omega (arith, v.0) in
-      sym (v.1 ∙ ap (λ (k : ℕ). bits (drop k os)) e ∙ ap bits (drop-length os))
-
   pub table_bits : (r : Bool) → length os ≡ 256 → r ≡ bits os → r ≡ table_ok os
   table_bits r e q = q ∙ sym (ap (λ (x : Bool). x && bits os) (eq-eqb (length os) 256 e))
 
@@ -758,9 +738,12 @@ module _ (l os room : List ℕ) (n : ℕ) where
           (subst (λ (a : List ℕ). Through l n b os room (record { answer = 0; jobs = k; stopped = j; events = x }) m a) (sym q.1) o)
 
       -- the budget spent
-      pub over_spent : b ≤ k → j ≡ why_stopped (view m) os n → x ≡ fitting k (length r)
-          → Through l n b os room (record { answer = 0; jobs = k; stopped = j; events = x }) m r
-      over_spent q ej ex = let z : b ≡ k = omega arith in over (ap (turns (view l) os n) z) ej ex
+      pub over_spent : b ≤ k → j ≡ why_stopped (view m) os n → x ≡ fitting b (length r)
+          → Through l n b os room (record { answer = 0; jobs = b; stopped = j; events = x }) m r
+      over_spent q ej ex =
+          let z : b ≡ k = omega arith in
+          subst (λ (i : ℕ). Through l n b os room (record { answer = 0; jobs = i; stopped = j; events = x }) m r) (sym z)
+          (over (ap (turns (view l) os n) z) ej (ex ∙ ap (λ (i : ℕ). fitting i (length r)) z))
 
 -- ---- the call
 module _ (l os m : List ℕ) (n b : ℕ) (r : Night) where

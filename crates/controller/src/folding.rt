@@ -58,14 +58,7 @@ fn entries_wait(s: &[u8], a: Ordinal, g: u16, b: u16, n: u16) -> bool
     requires { (b ≤ n) × (image_length ≤ length s.now) }
     ensures { result ≡ all_kept (waits_at s.now a.0 g) b n }
 {
-    let mut i = b;
-    while i < n {
-        if !waits(s, a, g, i + 1) {
-            return false;
-        }
-        i += 1;
-    }
-    true
+    (b..n).all(|i| waits(s, a, g, i + 1))
 }
 
 // Most are applied Complete with no rollback asked, so that is asked first.
@@ -91,15 +84,7 @@ fn entries_finished(s: &[u8], b: u16, n: u16) -> bool
     requires { (b ≤ n) × (image_length ≤ length s.now) }
     ensures { result ≡ all_kept (finished_at s.now) b n }
 {
-    let mut i = b;
-    while i < n {
-        let t = load_entry(s, i + 1);
-        if !entry_finished(t) {
-            return false;
-        }
-        i += 1;
-    }
-    true
+    (b..n).all(|i| entry_finished(load_entry(s, i + 1)))
 }
 
 // Whether all up to a number may be folded, where b is the last fold and n the highest number given.
@@ -156,9 +141,7 @@ fn lay_listed(s: &mut [u8], b: u16, to: u16, v: u16, list: &[u16; RING], n: usiz
     requires { ListedIn s.old b v list.now n × ((v ≤ to) × (n ≤ slots)) }
     ensures { s.new ≡ written s.old (base_row (view s.old).log to (live_from (view s.old) v)) }
 {
-    let mut k = n;
-    while 0 < k {
-        k -= 1;
+    for k in (0..n).rev() {
         let t = load_entry(s, list[k]);
         let p = t.paths;
         let u = t.values;

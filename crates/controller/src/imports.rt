@@ -127,8 +127,7 @@ fn judge(list: &[u8]) -> Imported
     let mut live = [0u16; 130];
     let mut depth: usize = 0;
     let mut changes: u16 = 0;
-    let mut k: usize = 0;
-    while k < n {
+    for k in 0..n {
         let place = (k + 1) as u16;
         let top = live[depth];
         let v = judge_entry(list, 20 * k, changes, depth, top);
@@ -138,7 +137,6 @@ fn judge(list: &[u8]) -> Imported
         live[depth + 1] = place;
         depth = v.depth;
         changes = v.changes;
-        k += 1;
     }
     Imported::refuses(0, 0)
 }
@@ -308,10 +306,8 @@ fn make(s: &mut [u8], list: &[u8])
 {
     begin(s);
     let n = list.len() / 20;
-    let mut k: usize = 0;
-    while k < n {
+    for k in 0..n {
         enter(s, list, 20 * k);
-        k += 1;
     }
 }
 

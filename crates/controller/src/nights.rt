@@ -76,14 +76,7 @@ struct Found {
 fn all_bits(outcomes: &[u8]) -> bool
     ensures { result ≡ bits outcomes.now }
 {
-    let mut i: usize = 0;
-    while i < outcomes.len() {
-        if 1 < outcomes[i] {
-            return false;
-        }
-        i += 1;
-    }
-    true
+    outcomes.iter().all(|&x| x <= 1)
 }
 
 fn table_ok(outcomes: &[u8]) -> bool
@@ -224,16 +217,14 @@ fn skip(s: &[u8], from: u16) -> u16
     let change = load_change(s);
     let h = load_head(s, APPLIED_AT);
     let applied = h.ordinal;
-    let mut i = from;
-    while i < n {
+    for i in from..n {
         let number = i + 1;
         let t = load_entry(s, number);
         if !is_idle(t, change, applied, number) {
             return i;
         }
-        i += 1;
     }
-    i
+    n
 }
 
 // The four jobs of entry t, numbered i: what the validation and the push of the change would answer is handed in.
@@ -348,9 +339,8 @@ fn find(s: &[u8], node: u8, outcomes: &[u8], from: u16) -> Found
     let x = load_scene(s, node);
     let b = last_fold(s);
     let n = last_number(s);
-    let mut i = from;
     let mut lacks = false;
-    while i < n {
+    for i in from..n {
         let number = i + 1;
         let t = load_entry(s, number);
         let k = 2 * ((i - b) as usize);
@@ -370,7 +360,6 @@ fn find(s: &[u8], node: u8, outcomes: &[u8], from: u16) -> Found
             };
         }
         lacks = lacks | f.lacks;
-        i += 1;
     }
     let plan = no_plan(x.applied);
     Found {
@@ -462,8 +451,7 @@ fn through(s: &mut [u8], node: u16, budget: u16, outcomes: &[u8], events: &mut [
 {
     let at = node as u8;
     let mut low = last_fold(s);
-    let mut k: u16 = 0;
-    while k < budget {
+    for k in 0..budget {
         low = skip(s, low);
         let t = turn(s, at, outcomes, low, events, k);
         if t.job == 0 {
@@ -474,13 +462,12 @@ fn through(s: &mut [u8], node: u16, budget: u16, outcomes: &[u8], events: &mut [
                 events: fitting(k, events.len()),
             };
         }
-        k += 1;
     }
     Night {
         answer: 0,
-        jobs: k,
+        jobs: budget,
         stopped: why_stopped(s, at, outcomes, low),
-        events: fitting(k, events.len()),
+        events: fitting(budget, events.len()),
     }
 }
 

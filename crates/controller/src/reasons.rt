@@ -171,13 +171,11 @@ fn lowest_going(s: &[u8], b: u16, n: u16, other: u16) -> u16
     requires { (b ≤ n) × (image_length ≤ length s.now) }
     ensures { result ≡ lowest commit_goes (b + 1) (up_from (entry_at s.now) b n) other }
 {
-    let mut i = b;
-    while i < n {
+    for i in b..n {
         let t = load_entry(s, i + 1);
         if commit_goes(t) {
             return i + 1;
         }
-        i += 1;
     }
     other
 }

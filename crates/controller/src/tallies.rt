@@ -90,13 +90,10 @@ fn counts_of(s: &[u8]) -> [u8; 6]
 {
     let n = last_number(s);
     let mut a = [0u8, 0, 0, 0, 0, 0];
-    let mut i = last_fold(s);
-    while i < n {
-        let number = i + 1;
-        let k = (load_class(s, number) - 1) as usize;
-        let one = a[k] + 1;
-        a[k] = one;
-        i = number;
+    let b = last_fold(s);
+    for i in b..n {
+        let k = (load_class(s, i + 1) - 1) as usize;
+        a[k] += 1;
     }
     a
 }
@@ -118,9 +115,7 @@ pub fn mask_of(s: &[u8]) -> u32
     ensures { result ≡ mask_of (view s.now) }
 {
     let mut mask: u32 = 0;
-    let mut k: u8 = 32;
-    while 0 < k {
-        k -= 1;
+    for k in (0..32u8).rev() {
         let v = load_value(s, COMMITTED_VALUES_AT, k);
         let w = load_value(s, APPLIED_VALUES_AT, k);
         mask = with_path(mask, v, w);

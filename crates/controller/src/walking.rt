@@ -40,11 +40,9 @@ fn links(s: &[u8], b: u16, v: u16, chain: &mut [u16; RING])
     requires { Chained s.now b v × (length chain.old ≡ slots) }
     ensures { Linked s.now b v v chain.new }
 {
-    let mut i = v;
-    while b < i {
-        let k = (v - i) as usize;
-        chain[k] = hop(s, i);
-        i -= 1;
+    for i in (b..v).rev() {
+        let k = (v - (i + 1)) as usize;
+        chain[k] = hop(s, i + 1);
     }
 }
 
@@ -69,10 +67,8 @@ fn put_list(room: &mut [u8], list: &[u16; RING], n: usize)
     requires { (length list.now ≡ slots) × ((n ≤ slots) × (2 * n ≤ length room.old)) }
     ensures { room.new ≡ (listing (take n list.now) room.old).room }
 {
-    let mut k: usize = 0;
-    while k < n {
+    for k in 0..n {
         put_number(room, 2 * k, list[k]);
-        k += 1;
     }
 }
 

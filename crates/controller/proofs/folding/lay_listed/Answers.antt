@@ -6,9 +6,6 @@ use Rattle.controller.proofs.folding.lay_listed.Goals as goal
 pub loop-k-init : goal.loop-k-init
 loop-k-init c = laying_none _ _ _ _ _ _ c.requires
 
-pub overflow_sub-k : goal.overflow_sub-k
-overflow_sub-k c = omega (arith, c.loop-k-test.true)
-
 pub offset_bounds-list-k : goal.offset_bounds-list-k
 offset_bounds-list-k c = omega (arith, c.loop-k-test.true, c.loop-k.invariant.0, c.requires.1.1)
 
@@ -20,9 +17,6 @@ load_entry-t-requires c = laying_here _ _ _ _ _ _ c.requires _ _ c.loop-k.invari
 
 pub lay-requires : goal.lay-requires
 lay-requires c = omega (arith, (laying_here _ _ _ _ _ _ c.requires _ _ c.loop-k.invariant c.loop-k-test.true).1)
-
-pub loop-k-smaller : goal.loop-k-smaller
-loop-k-smaller c = omega (arith, c.loop-k-test.true)
 
 pub loop-k-preserved : goal.loop-k-preserved
 loop-k-preserved c = laying_more _ _ _ _ _ _ c.requires _ _ c.loop-k.invariant c.loop-k-test.true _ _ c.load_entry-t.ensures c.lay.ensures

@@ -4,6 +4,3 @@ use Rattle.controller.proofs.folding.lay_listed.Given as goal
 
 abbrev pub invariant-loop-k : goal.invariant-loop-k
 invariant-loop-k l = Laying l.initial.s l.to l.v l.n l.s l.k
-
-abbrev pub decreases-loop-k : goal.decreases-loop-k
-decreases-loop-k l = l.k

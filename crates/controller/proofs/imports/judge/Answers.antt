@@ -41,12 +41,6 @@ offset_bounds-live-depth-in-loop-k c = omega (arith, (depth_low _ _ _ _ _ c.loop
 pub bounds-live-depth-in-loop-k : goal.bounds-live-depth-in-loop-k
 bounds-live-depth-in-loop-k c = omega (arith, (depth_low _ _ _ _ _ c.loop-k.invariant).1)
 
-pub overflow_add-k : goal.overflow_add-k
-overflow_add-k c = omega (arith, c.loop-k-test.true, c.requires.0)
-
-pub loop-k-smaller : goal.loop-k-smaller
-loop-k-smaller c = omega (arith, c.loop-k-test.true)
-
 pub loop-k-preserved : goal.loop-k-preserved
 loop-k-preserved c = judging_more _ _ _ _ _ c.loop-k.invariant c.loop-k-test.true _ refl _ refl _ c.judge_entry-v.ensures (omega (arith, c.if-v-gt0.false)) _ _ refl refl
 

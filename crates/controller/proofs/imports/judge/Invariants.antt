@@ -6,6 +6,3 @@ use Rattle.controller.proofs.imports.judge.Given as goal
 
 abbrev pub invariant-loop-k : goal.invariant-loop-k
 invariant-loop-k l = Judging l.list l.k l.changes l.depth l.live
-
-abbrev pub decreases-loop-k : goal.decreases-loop-k
-decreases-loop-k l = length l.list / 20 - l.k

@@ -17,12 +17,6 @@ overflow_mul-k c = omega (arith, c.loop-k-test.true, c.requires.1.0.0)
 pub enter-requires : goal.enter-requires
 enter-requires c = made_enters _ c.requires.1 _ _ c.loop-k.invariant c.loop-k-test.true _ refl
 
-pub overflow_add-k : goal.overflow_add-k
-overflow_add-k c = omega (arith, c.loop-k-test.true, c.requires.1.0.0)
-
-pub loop-k-smaller : goal.loop-k-smaller
-loop-k-smaller c = omega (arith, c.loop-k-test.true)
-
 pub loop-k-preserved : goal.loop-k-preserved
 loop-k-preserved c = made_more _ c.requires.1 _ _ c.loop-k.invariant c.loop-k-test.true _ refl _ c.enter.ensures
 

@@ -6,6 +6,3 @@ use Rattle.controller.proofs.imports.make.Given as goal
 
 abbrev pub invariant-loop-k : goal.invariant-loop-k
 invariant-loop-k l = Made l.list l.k l.s
-
-abbrev pub decreases-loop-k : goal.decreases-loop-k
-decreases-loop-k l = length l.list / 20 - l.k

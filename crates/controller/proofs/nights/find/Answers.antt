@@ -47,12 +47,6 @@ plan_at-plan-requires c = size _ c.requires.0.formed
 pub returns-then-job-gt0 : goal.returns-then-job-gt0
 returns-then-job-gt0 c = here_done _ _ _ c.requires.0 _ _ c.last_fold-b.ensures c.last_number-n.ensures _ _ c.loop-i.invariant c.loop-i-test.true _ _ (here _ _ _ c.requires.0 _ _ c.last_fold-b.ensures c.last_number-n.ensures _ _ c.loop-i.invariant c.loop-i-test.true _ _ _ _ _ c.load_entry-t.ensures c.of-at.ensures c.load_scene-x.ensures c.settled_at-quiet.ensures c.try_jobs-f.ensures) c.if-job-gt0.true (plan_is _ _ _ c.requires.0 _ _ c.last_fold-b.ensures c.last_number-n.ensures _ _ c.loop-i.invariant c.loop-i-test.true _ _ _ _ _ _ c.load_entry-t.ensures c.of-at.ensures c.load_scene-x.ensures c.settled_at-quiet.ensures c.plan_at-plan.ensures)
 
-pub overflow_add-i : goal.overflow_add-i
-overflow_add-i c = omega (arith, c.loop-i-test.true, c.last_number-n.ensures, (room _ c.requires.0.formed).1.1)
-
-pub loop-i-smaller : goal.loop-i-smaller
-loop-i-smaller c = omega (arith, c.loop-i-test.true)
-
 pub loop-i-preserved : goal.loop-i-preserved
 loop-i-preserved c = (here _ _ _ c.requires.0 _ _ c.last_fold-b.ensures c.last_number-n.ensures _ _ c.loop-i.invariant c.loop-i-test.true _ _ _ _ _ c.load_entry-t.ensures c.of-at.ensures c.load_scene-x.ensures c.settled_at-quiet.ensures c.try_jobs-f.ensures).more (omega (arith, c.if-job-gt0.false))
 

@@ -5,6 +5,3 @@ use Rattle.controller.proofs.nights.find.Given as goal
 
 abbrev pub invariant-loop-i : goal.invariant-loop-i
 invariant-loop-i l = Scan l.s l.node l.outcomes l.b l.n l.i l.lacks
-
-abbrev pub decreases-loop-i : goal.decreases-loop-i
-decreases-loop-i l = l.n - l.i

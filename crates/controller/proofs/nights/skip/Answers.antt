@@ -1,6 +1,8 @@
 -- `skip` meets its contract. Assumes nothing.
 use Prim.Native.Nat.{◌-◌}
 use native.Mathlib.Omega.{arith}
+use mathlib.Core.Path.{◌≡◌, subst}
+use Rattle.controller.specs.Nights.{Quiet}
 use Rattle.controller.proofs.Decided.{size}
 use borrow.Author.Tests.{not-false}
 use Rattle.controller.proofs.Turned.{quiet_more}
@@ -27,14 +29,10 @@ load_entry-t-requires c = (omega arith, size _ c.requires.0)
 pub returns-then-not-is_idle : goal.returns-then-not-is_idle
 returns-then-not-is_idle c = c.loop-i.invariant
 
-pub overflow_add-i : goal.overflow_add-i
-overflow_add-i c = omega (arith, c.loop-i-test.true)
-
-pub loop-i-smaller : goal.loop-i-smaller
-loop-i-smaller c = omega (arith, c.loop-i-test.true)
-
 pub loop-i-preserved : goal.loop-i-preserved
 loop-i-preserved c = quiet_more _ c.requires.0 _ _ _ _ _ _ c.loop-i.invariant c.loop-i-test.true c.last_number-n.ensures c.load_change-change.ensures c.load_head-h.ensures c.load_entry-t.ensures c.is_idle.ensures (c.if-not-is_idle.false)
 
 pub returns : goal.returns
-returns c = c.loop-i.invariant
+returns c =
+    let z : c.loop-i.i ≡ c.last_number-n.result = omega (arith, c.loop-i.invariant.last, c.loop-i-test.false, c.last_number-n.ensures) in
+    subst (Quiet c.args.s.now) z c.loop-i.invariant

@@ -23,12 +23,6 @@ turn-t-requires c = (c.loop-k.invariant.1.0.0.awake, c.skip-low.ensures)
 pub returns-then-t-eq0 : goal.returns-then-t-eq0
 returns-then-t-eq0 c = over_early _ _ _ _ _ _ _ c.loop-k.invariant.1.0 _ _ _ (omega (arith, c.loop-k-test.true)) _ _ _ c.turn-t.ensures c.if-t-eq0.true c.stopped_at.ensures c.fitting.ensures
 
-pub overflow_add-k : goal.overflow_add-k
-overflow_add-k c = omega (arith, c.loop-k-test.true, c.ranges.budget.fits)
-
-pub loop-k-smaller : goal.loop-k-smaller
-loop-k-smaller c = omega (arith, c.loop-k-test.true)
-
 pub loop-k-preserved : goal.loop-k-preserved
 loop-k-preserved c = (omega (arith, c.loop-k-test.true), (turn_goes _ _ _ _ _ _ _ c.loop-k.invariant.1.0 _ _ _ c.turn-t.ensures c.if-t-eq0.false, turn_quiet _ _ _ _ _ _ _ c.loop-k.invariant.1.0 _ _ _ c.turn-t.ensures c.if-t-eq0.false _ c.skip-low.ensures))
 

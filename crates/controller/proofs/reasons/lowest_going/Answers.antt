@@ -21,12 +21,6 @@ overflow_add-result c = omega (arith, c.loop-i-test.true)
 pub returns-then-commit_goes : goal.returns-then-commit_goes
 returns-then-commit_goes c = goes_here _ _ _ _ _ c.loop-i.invariant c.loop-i-test.true _ _ c.load_entry-t.ensures c.commit_goes.ensures c.if-commit_goes.true
 
-pub overflow_add-i-in-loop-i : goal.overflow_add-i-in-loop-i
-overflow_add-i-in-loop-i c = omega (arith, c.loop-i-test.true)
-
-pub loop-i-smaller : goal.loop-i-smaller
-loop-i-smaller c = omega (arith, c.loop-i-test.true)
-
 pub loop-i-preserved : goal.loop-i-preserved
 loop-i-preserved c = (omega (arith, c.loop-i.invariant.0), (omega (arith, c.loop-i-test.true), goes_on _ _ _ _ _ c.loop-i.invariant c.loop-i-test.true _ _ c.load_entry-t.ensures c.commit_goes.ensures c.if-commit_goes.false))
 

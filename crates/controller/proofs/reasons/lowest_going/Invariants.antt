@@ -5,6 +5,3 @@ use Rattle.controller.proofs.reasons.lowest_going.Given as goal
 
 abbrev pub invariant-loop-i : goal.invariant-loop-i
 invariant-loop-i l = Among l.s l.b l.n l.other l.i
-
-abbrev pub decreases-loop-i : goal.decreases-loop-i
-decreases-loop-i l = l.n - l.i

@@ -8,17 +8,14 @@ use Rattle.controller.proofs.tallies.counts_of.Goals as goal
 pub last_number-n-requires : goal.last_number-n-requires
 last_number-n-requires c = size _ c.requires
 
-pub last_fold-i-requires : goal.last_fold-i-requires
-last_fold-i-requires c = size _ c.requires
+pub last_fold-b-requires : goal.last_fold-b-requires
+last_fold-b-requires c = size _ c.requires
 
 pub loop-i-init : goal.loop-i-init
-loop-i-init c = counting_none _ c.requires _ c.last_fold-i.ensures
-
-pub overflow_add-number : goal.overflow_add-number
-overflow_add-number c = omega (arith, c.loop-i-test.true)
+loop-i-init c = counting_none _ c.requires _ c.last_fold-b.ensures
 
 pub load_class-requires : goal.load_class-requires
-load_class-requires c = class_here _ c.requires _ _ c.loop-i.invariant _ _ c.last_fold-i.ensures c.last_number-n.ensures c.loop-i-test.true
+load_class-requires c = class_here _ c.requires _ _ c.loop-i.invariant _ _ c.last_fold-b.ensures c.last_number-n.ensures c.loop-i-test.true
 
 pub overflow_sub-k : goal.overflow_sub-k
 overflow_sub-k c = omega (arith, (class_place _ _ _ c.load_class.ensures).0)
@@ -29,14 +26,11 @@ overflow_cast-k c = omega (arith, (class_place _ _ _ c.load_class.ensures).1)
 pub bounds-a-k : goal.bounds-a-k
 bounds-a-k c = omega (arith, (class_place _ _ _ c.load_class.ensures).1)
 
-pub overflow_add-one : goal.overflow_add-one
-overflow_add-one c = omega (arith, counted_low _ c.requires _ _ c.loop-i.invariant (c.load_class.result - 1) _ c.last_number-n.ensures c.loop-i-test.true)
+pub overflow_add-a : goal.overflow_add-a
+overflow_add-a c = omega (arith, counted_low _ c.requires _ _ c.loop-i.invariant (c.load_class.result - 1) _ c.last_number-n.ensures c.loop-i-test.true)
 
 pub bounds-a-k-in-loop-i : goal.bounds-a-k-in-loop-i
 bounds-a-k-in-loop-i c = omega (arith, (class_place _ _ _ c.load_class.ensures).1)
-
-pub loop-i-smaller : goal.loop-i-smaller
-loop-i-smaller c = omega (arith, c.loop-i-test.true)
 
 pub loop-i-preserved : goal.loop-i-preserved
 loop-i-preserved c = counting_more _ c.requires _ _ c.loop-i.invariant _ _ c.last_number-n.ensures c.loop-i-test.true c.load_class.ensures

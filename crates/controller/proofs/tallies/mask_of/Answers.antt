@@ -7,9 +7,6 @@ use Rattle.controller.proofs.tallies.mask_of.Goals as goal
 pub loop-k-init : goal.loop-k-init
 loop-k-init c = masking_none _
 
-pub overflow_sub-k : goal.overflow_sub-k
-overflow_sub-k c = omega (arith, c.loop-k-test.true)
-
 pub load_value-v-requires : goal.load_value-v-requires
 load_value-v-requires c = omega (arith, c.requires)
 
@@ -18,9 +15,6 @@ load_value-w-requires c = omega (arith, c.requires)
 
 pub with_path-mask-requires : goal.with_path-mask-requires
 with_path-mask-requires c = masking_room _ _ _ c.loop-k.invariant c.loop-k-test.true
-
-pub loop-k-smaller : goal.loop-k-smaller
-loop-k-smaller c = omega (arith, c.loop-k-test.true)
 
 pub loop-k-preserved : goal.loop-k-preserved
 loop-k-preserved c = masking_more _ _ _ _ _ _ _ c.loop-k.invariant c.loop-k-test.true refl c.load_value-v.ensures c.load_value-w.ensures c.with_path-mask.ensures

@@ -4,6 +4,3 @@ use Rattle.controller.proofs.tallies.mask_of.Given as goal
 
 abbrev pub invariant-loop-k : goal.invariant-loop-k
 invariant-loop-k l = Masking l.s l.k l.mask
-
-abbrev pub decreases-loop-k : goal.decreases-loop-k
-decreases-loop-k l = l.k

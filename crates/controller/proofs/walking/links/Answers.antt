@@ -1,4 +1,6 @@
 -- `links` meets its contract: the number falls at each turn. Assumes nothing.
+use Prim.Native.Nat.{◌+◌, ◌-◌}
+use mathlib.Core.Path.{◌≡◌}
 use native.Mathlib.Omega.{arith}
 use Rattle.controller.proofs.Walked.{linking_none, link_here, linking_entry, linking_more, linking_done}
 use Rattle.controller.proofs.walking.links.Goals as goal
@@ -7,25 +9,19 @@ pub loop-i-init : goal.loop-i-init
 loop-i-init c = linking_none _ _ _ c.requires.0 _ c.requires.1
 
 pub overflow_sub-k : goal.overflow_sub-k
-overflow_sub-k c = c.loop-i.invariant.low
+overflow_sub-k c = omega (arith, c.loop-i.invariant.low, c.loop-i-test.true)
 
 pub hop-requires : goal.hop-requires
-hop-requires c = linking_entry _ _ _ c.requires.0 _ _ c.loop-i.invariant c.loop-i-test.true
+hop-requires c = let z : c.loop-i.i - 1 + 1 ≡ c.loop-i.i = omega (arith, c.loop-i-test.true) in rw z (linking_entry _ _ _ c.requires.0 _ _ c.loop-i.invariant c.loop-i-test.true)
 
 pub offset_bounds-chain-k : goal.offset_bounds-chain-k
 offset_bounds-chain-k c = let h = link_here _ _ _ c.requires.0 _ _ c.loop-i.invariant c.loop-i-test.true in omega arith
 
 pub bounds-chain-k : goal.bounds-chain-k
-bounds-chain-k c = link_here _ _ _ c.requires.0 _ _ c.loop-i.invariant c.loop-i-test.true
-
-pub overflow_sub-i : goal.overflow_sub-i
-overflow_sub-i c = omega (arith, c.loop-i-test.true)
-
-pub loop-i-smaller : goal.loop-i-smaller
-loop-i-smaller c = omega (arith, c.loop-i-test.true)
+bounds-chain-k c = let h = link_here _ _ _ c.requires.0 _ _ c.loop-i.invariant c.loop-i-test.true in omega arith
 
 pub loop-i-preserved : goal.loop-i-preserved
-loop-i-preserved c = linking_more _ _ _ c.requires.0 _ _ c.loop-i.invariant c.loop-i-test.true _ c.hop.ensures.0
+loop-i-preserved c = let z : c.loop-i.i - 1 + 1 ≡ c.loop-i.i = omega (arith, c.loop-i-test.true) in rw z (linking_more _ _ _ c.requires.0 _ _ c.loop-i.invariant c.loop-i-test.true _ (rw z at c.hop.ensures.0))
 
 pub returns : goal.returns
 returns c = linking_done _ _ _ c.requires.0 _ _ c.loop-i.invariant c.loop-i-test.false

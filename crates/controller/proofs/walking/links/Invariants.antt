@@ -4,6 +4,3 @@ use Rattle.controller.proofs.walking.links.Given as goal
 
 abbrev pub invariant-loop-i : goal.invariant-loop-i
 invariant-loop-i l = Linking l.s l.v l.chain l.i
-
-abbrev pub decreases-loop-i : goal.decreases-loop-i
-decreases-loop-i l = l.i

@@ -19,12 +19,6 @@ bounds-list-k c = let z = c.requires.1.0 in let h = c.loop-k-test.true in omega 
 pub put_number-requires : goal.put_number-requires
 put_number-requires c = number_here _ _ _ c.requires _ _ c.loop-k.invariant c.loop-k-test.true
 
-pub overflow_add-k : goal.overflow_add-k
-overflow_add-k c = let z = c.requires.1.0 in let h = c.loop-k-test.true in omega arith
-
-pub loop-k-smaller : goal.loop-k-smaller
-loop-k-smaller c = let h = c.loop-k-test.true in omega arith
-
 pub loop-k-preserved : goal.loop-k-preserved
 loop-k-preserved c = putting_more _ _ _ c.requires _ _ c.loop-k.invariant c.loop-k-test.true _ c.put_number.ensures
 

@@ -5,6 +5,3 @@ use Rattle.controller.proofs.walking.put_list.Given as goal
 
 abbrev pub invariant-loop-k : goal.invariant-loop-k
 invariant-loop-k l = Putting l.initial.room l.list l.n l.room l.k
-
-abbrev pub decreases-loop-k : goal.decreases-loop-k
-decreases-loop-k l = l.n - l.k
