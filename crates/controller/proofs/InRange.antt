@@ -1,7 +1,7 @@
 -- What `all` answers over a range: whether a test holds of each number from b + 1 to n. Assumes nothing.
 use Prim.Native.Nat.{ℕ, zero, suc, ◌+◌, ◌-◌, ◌≤◌}
-use mathlib.Core.Path.{◌≡◌, refl, ap, ap₂, sym, ◌∙◌}
-use mathlib.Core.Bool.{Bool, true, ◌&&◌}
+use mathlib.Core.Path.{◌≡◌, ap, ap₂, sym, ◌∙◌}
+use mathlib.Core.Bool.{Bool, ◌&&◌}
 use native.Mathlib.Omega.{arith}
 use Rattle.std.specs.List.{list_all, range_with_len}
 use Rattle.image.specs.Formed.{all_up_to, all_kept}

@@ -2,7 +2,7 @@
 use Prim.Native.Nat.{ℕ, ◌-◌, ◌≤◌, ◌<◌}
 use mathlib.Core.Path.{◌≡◌, refl, ap, ap₂, sym, ◌∙◌}
 use mathlib.Core.Bool.{Bool, true, false, ◌&&◌, cond}
-use mathlib.Core.List.{List, [], ◌∷◌}
+use mathlib.Core.List.{List}
 use borrow.Author.Tests.{leb-true, ltb-true, le-leb, lt-leb, lt-ltb, le-ltb}
 use native.Mathlib.Omega.{arith}
 use lib.Dec.{leb, ltb}
@@ -10,23 +10,18 @@ use lib.ListN.{length, get_or}
 use Rattle.kinds.specs.declared.Transaction.{Transaction}
 use Rattle.kinds.specs.declared.Side.{Side}
 use Rattle.kinds.specs.declared.Head.{Head}
-use Rattle.kinds.specs.declared.Number.{Number}
 use Rattle.kinds.specs.declared.Connection.{Connection}
-use Rattle.kinds.specs.declared.Configuration.{Configuration}
-use Rattle.kinds.specs.declared.Mastership.{Mastership}
-use Rattle.kinds.specs.declared.Target.{Target}
-use Rattle.kinds.specs.Numbers.{num}
-use Rattle.kinds.specs.Statuses.{progress_code}
 use Rattle.machine.specs.State.{State, entry_of, last, in_log, is_kept, is_node, node_of}
 use Rattle.machine.specs.Owner.{owner_of}
 use Rattle.machine.specs.Stores.{of_owners}
 use Rattle.machine.specs.Reads as reads
 use Rattle.machine.specs.Class.{class_of}
 use Rattle.machine.specs.Taken.{landed, took, undid}
+use Rattle.std.specs.Int.{from_bool}
 use Rattle.machine.specs.Reads.{Query, of_table, of_entry, of_state, of_node, of_owner, of_class, of_took, of_undone, Answer, shows, refuses, is_field, field_of, flag, entry_numbers, state_numbers, node_numbers, table_numbers, shows_kept, read}
 use Rattle.image.specs.Layout.{committed_at, applied_at, values_at, image_length, place_of}
-use Rattle.image.specs.Records.{entry_at, last_of, folded_of, change_of, head_numbers, head_at, configuration_of, mastership_of, target_of, connections_of}
-use Rattle.image.specs.View.{table_of, net_of, view}
+use Rattle.image.specs.Records.{entry_at, last_of, folded_of, head_at, connections_of}
+use Rattle.image.specs.View.{table_of, view}
 use Rattle.image.specs.Formed.{statuses_ok, formed}
 use Rattle.image.specs.Promises.{PlacesTable, LoadsValue}
 use Rattle.image.proofs.UpTo.{and_left, and_right}
@@ -35,7 +30,7 @@ use Rattle.image.proofs.Scanned.{view_folded}
 use Rattle.staying.proofs.Same.{statuses}
 use Rattle.controller.specs.declared.reads.Read.{Read}
 use Rattle.controller.specs.Claims.{Entry}
-use Rattle.controller.specs.Reads.{given, unless, read_of, number_answer, no_head, heads_if, heads_of, marks, net_numbers, four}
+use Rattle.controller.specs.Reads.{given, unless, read_of, number_answer, no_head, heads_if, heads_of}
 use Rattle.controller.proofs.Decided.{entry_of_holds, entry_here, last_is}
 use Rattle.controller.proofs.Answered.{in_log_holds, is_kept_holds}
 
@@ -100,13 +95,6 @@ module _ (l : List ℕ) (p : ℕ) where
     owner_folded q = owner_by true (le-leb k b q)
 
 -- ---- a transaction
-pub entry_numbers_holds : (t : Transaction) (m p v k : List ℕ) → m ≡ marks t → p ≡ four t.paths → v ≡ four t.values → k ≡ four t.kept
-    → (get_or m 0 0 ∷ get_or m 1 0 ∷ get_or m 2 0 ∷ get_or m 3 0 ∷ get_or m 4 0 ∷ get_or m 5 0 ∷ get_or m 6 0 ∷ get_or m 7 0 ∷ get_or m 8 0
-    ∷ get_or p 0 0 ∷ get_or p 1 0 ∷ get_or p 2 0 ∷ get_or p 3 0 ∷ get_or v 0 0 ∷ get_or v 1 0 ∷ get_or v 2 0 ∷ get_or v 3 0
-    ∷ get_or k 0 0 ∷ get_or k 1 0 ∷ get_or k 2 0 ∷ get_or k 3 0 ∷ []) ≡ entry_numbers t
-unfolding entry_numbers
-entry_numbers_holds t m p v k em ep ev ek = rw (em, ep, ev, ek)
-
 module _ (i f : ℕ) (k : Bool) (ek : k ≡ is_field 21 f) where
   pub no_entry_field : (s : State) → k ≡ false → read s (of_entry i f) ≡ refuses 2
   unfolding read
@@ -260,25 +248,17 @@ module _ (l : List ℕ) (i a : ℕ) (ea : a ≡ number_answer l i) (r : Read) wh
           number_shown l i a ea (of_undone i) (flag (undid (view l).log (view l).applied.head.ordinal.0 i)) r reads_undone z w
           (p ∙ ap (λ (x : Transaction). flag (landed x.rollback.apply (head_at l applied_at).ordinal.0 x.rollback.ordinal.0)) seen)
 
+-- a flag, as `From` makes it
+pub flag_from : (b : Bool) → from_bool b ≡ flag b
+flag_from true = refl
+flag_from false = refl
+
 -- a side that has landed, by Applied's ordinal
-pub side_landed : (l : List ℕ) (h : Head) (x : Side) (b : Bool) (w : ℕ) → h ≡ head_at l applied_at → b ≡ landed x.apply h.ordinal.0 x.ordinal.0 → w ≡ flag b
+pub side_landed : (l : List ℕ) (h : Head) (x : Side) (b : Bool) (w : ℕ) → h ≡ head_at l applied_at → b ≡ landed x.apply h.ordinal.0 x.ordinal.0 → w ≡ from_bool b
     → w ≡ flag (landed x.apply (head_at l applied_at).ordinal.0 x.ordinal.0)
-side_landed l h x b w eh eb ew = ew ∙ ap flag (eb ∙ ap (λ (y : Head). landed x.apply y.ordinal.0 x.ordinal.0) eh)
+side_landed l h x b w eh eb ew = ew ∙ flag_from b ∙ ap flag (eb ∙ ap (λ (y : Head). landed x.apply y.ordinal.0 x.ordinal.0) eh)
 
 -- ---- what the state has once
-pub net_numbers_holds : (l : List ℕ) (g : Configuration) (m : Mastership) (t : Target) (a x y z : ℕ) → g ≡ configuration_of l → m ≡ mastership_of l → t ≡ target_of l
-    → a ≡ progress_code g.state → x ≡ g.term.0 → y ≡ m.term.0 → z ≡ flag t.running
-    → (a ∷ x ∷ m.master ∷ y ∷ m.conn ∷ t.id ∷ z ∷ []) ≡ net_numbers (net_of l)
-net_numbers_holds l g m t a x y z eg em et ea ex ey ez = rw (ea, ex, ey, ez, eg, em, et)
-
-pub state_numbers_holds : (l : List ℕ) → formed l ≡ true → (n b d : ℕ) (g : Number) (h j : Head) (c a w : List ℕ) → n ≡ last_of l → b ≡ folded_of l → g ≡ num (change_of l) → d ≡ g.0
-    → h ≡ head_at l committed_at → c ≡ head_numbers h → j ≡ head_at l applied_at → a ≡ head_numbers j → w ≡ net_numbers (net_of l)
-    → (n ∷ get_or c 0 0 ∷ d ∷ get_or c 1 0 ∷ get_or c 2 0 ∷ get_or c 3 0 ∷ get_or a 0 0 ∷ get_or a 1 0 ∷ get_or a 2 0 ∷ get_or a 3 0
-    ∷ get_or w 0 0 ∷ get_or w 1 0 ∷ get_or w 2 0 ∷ get_or w 3 0 ∷ get_or w 4 0 ∷ get_or w 5 0 ∷ get_or w 6 0 ∷ b ∷ []) ≡ state_numbers (view l)
-unfolding state_numbers view
-state_numbers_holds l q n b d g h j c a w en ef eg ed eh ec ej ea ew =
-    let m : n ≡ last (view l).log = en ∙ sym (last_is l q) in rw (m, ec, ea, ew, eh, ej, ed, eg, ef)
-
 module _ (f : ℕ) (k : Bool) (ek : k ≡ is_field 18 f) where
   pub no_state_field : (s : State) → k ≡ false → read s (of_state f) ≡ refuses 2
   unfolding read

@@ -46,6 +46,12 @@ six_all (a ∷ b ∷ d ∷ e ∷ []) h = absurd (omega arith)
 six_all (a ∷ b ∷ d ∷ e ∷ f ∷ []) h = absurd (omega arith)
 six_all (a ∷ b ∷ d ∷ e ∷ f ∷ g ∷ i ∷ l) h = absurd (omega arith)
 
+-- none is more than all of them
+pub at_most : (xs : List ℕ) (k : ℕ) → get_or xs k 0 ≤ together xs
+at_most [] k = omega arith
+at_most (x ∷ xs) zero = omega arith
+at_most (x ∷ xs) (suc k) = omega (arith, at_most xs k)
+
 -- what was read of them
 module _ (m t : List ℕ) (y z : ℕ) (et : GetsFour m 0 twos t) (ey : Gets m 8 2 y) (ez : Gets m 10 2 z) where
   four_of : get_or t 0 0 + (get_or t 1 0 + (get_or t 2 0 + get_or t 3 0)) ≡ field m 0 2 + (field m 2 2 + (field m 4 2 + field m 6 2))
@@ -165,11 +171,6 @@ module _ (l : List ℕ) (w : formed l ≡ true) where
         let e : get_or a k 0 ≡ get_or (counts ts) k 0 = ap (λ (x : List ℕ). get_or x k 0) q.same in
         let z : length ts ≡ i - folded_of l = length_up_to (λ j. entry_at l (folded_of l + j)) (i - folded_of l) in
         omega (arith, e, z, at_most (counts ts) k, counts_all ts, (formed_room l w).1.0, q.kept)
-      where
-        at_most : (xs : List ℕ) (k : ℕ) → get_or xs k 0 ≤ together xs
-        at_most [] k = omega arith
-        at_most (x ∷ xs) zero = omega arith
-        at_most (x ∷ xs) (suc k) = omega (arith, at_most xs k)
 
     pub class_here : (b n : ℕ) → b ≡ folded_of l → n ≡ last_of l → i < n → (1 ≤ i + 1) × ((image_length ≤ length l) × (statuses_ok l (place_of (i + 1)) ≡ true))
     class_here b n eb en h = let k = q.kept in class_asks l b n (i + 1) w eb en (omega arith) (omega arith)

@@ -34,7 +34,7 @@ use Rattle.machine.specs.Rest.{rest_of}
 use Rattle.machine.specs.Rows.{rows_of, event_of}
 use Rattle.machine.proofs.Next.{event_of_whole}
 use Rattle.machine.specs.Calls.{Call, Outcome, work, unless, work_ok, plan_of, planned, commits, present_of, decide}
-use Rattle.machine.specs.Step.{outcome, step, state_from, events_from}
+use Rattle.machine.specs.Step.{step, state_from, events_from}
 use Rattle.machine.specs.Night as machine
 use Rattle.machine.specs.Night.{bits, table_ok, trial, turn, all, turns, needs_line, stopped_by, why_stopped, night_ok}
 use Rattle.machine.proofs.Turns.{first_accepted, one_more, none_more, plan_answers, Scanned, scanned_none, scanned_more, scanned_end, found_1, found_2, found_3, found_4}

@@ -1,10 +1,8 @@
 -- What a read answers: refusal 1, then what the machine reads from what the image shows. Assumes nothing.
-use Rattle.std.specs.Prelude.{ℕ, Bool, true, false, List, [], ◌∷◌, get_or}
-use Rattle.kinds.specs.declared.Transaction.{Transaction}
+use Rattle.std.specs.Prelude.{ℕ, Bool, true, false, List}
 use Rattle.kinds.specs.declared.Head.{Head}
-use Rattle.kinds.specs.Statuses.{code_of, progress_code}
-use Rattle.machine.specs.State.{Net, State, fresh_part}
-use Rattle.machine.specs.Reads.{Query, Answer, refuses, flag, shows_kept, read}
+use Rattle.machine.specs.State.{State, fresh_part}
+use Rattle.machine.specs.Reads.{Query, Answer, refuses, shows_kept, read}
 use Rattle.image.specs.View.{view}
 use Rattle.image.specs.Formed.{formed}
 use Rattle.controller.specs.declared.reads.Read.{Read}
@@ -39,20 +37,3 @@ heads_of l = heads_if (formed l) (view l)
 -- what a read of a number is refused with, 0 where it is kept
 unfoldable pub number_answer : List ℕ → ℕ → ℕ
 number_answer l i = (unless (formed l) (shows_kept (view l) i 0)).answer
-
--- the first nine numbers of a transaction
-abbrev pub marks : Transaction → List ℕ
-marks t =
-    t.phase ∷ code_of t.change.commit ∷ code_of t.change.apply ∷ t.change.ordinal.0 ∷ code_of t.rollback.commit
-    ∷ code_of t.rollback.apply ∷ t.rollback.ordinal.0 ∷ t.index.0 ∷ t.count ∷ []
-
--- the last seven of a state
-abbrev pub net_numbers : Net → List ℕ
-net_numbers w =
-    progress_code w.configuration.state ∷ w.configuration.term.0
-    ∷ w.mastership.master ∷ w.mastership.term.0 ∷ w.mastership.conn
-    ∷ w.target.id ∷ flag w.target.running ∷ []
-
--- the four elements of an array of four
-abbrev pub four : List ℕ → List ℕ
-four l = get_or l 0 0 ∷ get_or l 1 0 ∷ get_or l 2 0 ∷ get_or l 3 0 ∷ []

@@ -6,20 +6,11 @@ ghost use Rattle.controller.specs.Bytes.{two, pairs_of, valid_bytes};
 
 use kinds::{Number, Ordinal, Side, Status, Transaction};
 
-fn wide(x: u8) -> u16
-    ensures { (result ≡ x) × (result < 256) }
-{
-    x as u16
-}
-
 // The byte at a place; 0 past the end.
 fn byte_at(b: &[u8], k: usize) -> u16
     ensures { (result ≡ get_or b.now k 0) × (result < 256) }
 {
-    if k < b.len() {
-        return wide(b[k]);
-    }
-    0
+    u16::from(b.get(k).copied().unwrap_or(0))
 }
 
 // The number of two bytes at a place.
@@ -60,19 +51,12 @@ pub fn valid(b: &[u8]) -> bool
     (len % 4 == 0) & ok
 }
 
-fn low(x: u16) -> u8
-    requires { x < 256 }
-    ensures { result ≡ x }
-{
-    x as u8
-}
-
 // The path at a place, 0 from the end on.
 fn path_at(b: &[u8], k: usize) -> u8
     requires { (k < 65536) × (two b.now k < 256) }
     ensures { result ≡ two b.now k }
 {
-    low(two_at(b, k))
+    two_at(b, k) as u8
 }
 
 // The new entry of a valid change.

@@ -4,10 +4,10 @@ ghost use Rattle.machine.specs.State.{is_node};
 ghost use Rattle.machine.specs.Taken.{landed};
 ghost use Rattle.machine.specs.Reads.{Query, of_table, of_entry, of_state, of_node, of_owner, of_class, of_took, of_undone, of_drift, shows, refuses, is_field, flag, entry_numbers, state_numbers, node_numbers};
 ghost use Rattle.image.specs.Layout.{image_length, applied_at};
-ghost use Rattle.image.specs.Records.{head_numbers, head_at};
-ghost use Rattle.image.specs.View.{view, net_of};
+ghost use Rattle.image.specs.Records.{head_at};
+ghost use Rattle.image.specs.View.{view};
 ghost use Rattle.image.specs.Formed.{formed};
-ghost use Rattle.controller.specs.Reads.{given, number_answer, no_head, marks, net_numbers, four};
+ghost use Rattle.controller.specs.Reads.{given, number_answer, no_head};
 ghost use Rattle.controller.specs.Promises.{Shows, ShowsHeads};
 
 use crate::calls::{in_log, is_node};
@@ -47,27 +47,6 @@ pub struct Heads {
     pub applied: Head,
 }
 
-fn wide8(x: u8) -> u32
-    ensures { result ≡ x }
-{
-    x as u32
-}
-
-fn wide16(x: u16) -> u32
-    ensures { result ≡ x }
-{
-    x as u32
-}
-
-fn flag(b: bool) -> u32
-    ensures { result ≡ flag b }
-{
-    if b {
-        return 1;
-    }
-    0
-}
-
 fn is_field(f: u16, n: u16) -> bool
     ensures { result ≡ is_field n f }
 {
@@ -91,7 +70,7 @@ pub fn value(s: &[u8], table: u16, path: u16) -> Read
         if is_value(table, path) {
             let at = table_place(table);
             let v = load_value(s, at, path as u8);
-            return Read::shows(wide16(v));
+            return Read::shows(u32::from(v));
         }
         return Read::refuses(2);
     }
@@ -107,7 +86,7 @@ pub fn owner(s: &[u8], path: u16) -> Read
             let k = load_value(s, OWNERS_AT, path as u8);
             let b = last_fold(s);
             if b < k {
-                return Read::shows(wide16(k));
+                return Read::shows(u32::from(k));
             }
             return Read::shows(0);
         }
@@ -129,64 +108,33 @@ pub fn drift(s: &[u8]) -> Read
 
 // ---- a transaction
 
-fn four_bytes(x: [u8; 4]) -> [u32; 4]
-    ensures { result ≡ four x }
-{
-    let a = wide8(x[0]);
-    let b = wide8(x[1]);
-    let c = wide8(x[2]);
-    let d = wide8(x[3]);
-    [a, b, c, d]
-}
-
-fn four_words(x: [u16; 4]) -> [u32; 4]
-    ensures { result ≡ four x }
-{
-    let a = wide16(x[0]);
-    let b = wide16(x[1]);
-    let c = wide16(x[2]);
-    let d = wide16(x[3]);
-    [a, b, c, d]
-}
-
-fn marks(t: Transaction) -> [u32; 9]
-    ensures { result ≡ marks t }
-{
-    let x = t.change;
-    let y = t.rollback;
-    let a = x.commit;
-    let b = x.apply;
-    let c = y.commit;
-    let d = y.apply;
-    let o = x.ordinal;
-    let p = y.ordinal;
-    let i = t.index;
-    [
-        t.phase as u32,
-        a.code() as u32,
-        b.code() as u32,
-        o.get(),
-        c.code() as u32,
-        d.code() as u32,
-        p.get(),
-        i.get() as u32,
-        t.count as u32,
-    ]
-}
-
 fn entry_numbers(t: Transaction) -> [u32; 21]
     ensures { result ≡ entry_numbers t }
 {
-    let m = marks(t);
-    let paths = t.paths;
-    let values = t.values;
-    let kept = t.kept;
-    let p = four_bytes(paths);
-    let v = four_words(values);
-    let k = four_words(kept);
+    let change = t.change;
+    let rollback = t.rollback;
     [
-        m[0], m[1], m[2], m[3], m[4], m[5], m[6], m[7], m[8], p[0], p[1], p[2], p[3], v[0], v[1],
-        v[2], v[3], k[0], k[1], k[2], k[3],
+        u32::from(t.phase),
+        u32::from(change.commit.code()),
+        u32::from(change.apply.code()),
+        change.ordinal.get(),
+        u32::from(rollback.commit.code()),
+        u32::from(rollback.apply.code()),
+        rollback.ordinal.get(),
+        u32::from(t.index.get()),
+        u32::from(t.count),
+        u32::from(t.paths[0]),
+        u32::from(t.paths[1]),
+        u32::from(t.paths[2]),
+        u32::from(t.paths[3]),
+        u32::from(t.values[0]),
+        u32::from(t.values[1]),
+        u32::from(t.values[2]),
+        u32::from(t.values[3]),
+        u32::from(t.kept[0]),
+        u32::from(t.kept[1]),
+        u32::from(t.kept[2]),
+        u32::from(t.kept[3]),
     ]
 }
 
@@ -241,7 +189,7 @@ pub fn class(s: &[u8], number: u16) -> Read
     let a = number_answer(s, number);
     if a == 0 {
         let c = load_class(s, number);
-        return Read::shows(wide8(c));
+        return Read::shows(u32::from(c));
     }
     Read::refuses(a)
 }
@@ -254,7 +202,7 @@ fn side_landed(s: &[u8], x: Side) -> u32
     let apply = x.apply;
     let applied = h.ordinal;
     let ordinal = x.ordinal;
-    flag(landed(apply, applied, ordinal))
+    u32::from(landed(apply, applied, ordinal))
 }
 
 // Whether the switch took a change: 1 from the event Complete of its apply on, else 0. Refuses 1, 5, 18.
@@ -285,50 +233,34 @@ pub fn undone(s: &[u8], number: u16) -> Read
 
 // ---- what the state has once
 
-fn head_numbers(h: Head) -> [u32; 4]
-    ensures { result ≡ head_numbers h }
-{
-    let a = h.index;
-    let b = h.target;
-    let c = h.revision;
-    let d = h.ordinal;
-    [a.get() as u32, b.get() as u32, c.get() as u32, d.get()]
-}
-
-fn net_numbers(s: &[u8]) -> [u32; 7]
-    requires { image_length ≤ length s.now }
-    ensures { result ≡ net_numbers (net_of s.now) }
-{
-    let g = load_configuration(s);
-    let m = load_mastership(s);
-    let t = load_target(s);
-    let state = g.state;
-    let x = g.term;
-    let y = m.term;
-    [
-        state.code() as u32,
-        x.get(),
-        m.master as u32,
-        y.get(),
-        m.conn,
-        t.id,
-        flag(t.running),
-    ]
-}
-
 fn state_numbers(s: &[u8]) -> [u32; 18]
     requires { formed s.now ≡ true }
     ensures { result ≡ state_numbers (view s.now) }
 {
-    let n = last_number(s) as u32;
-    let b = last_fold(s) as u32;
-    let g = load_change(s).get() as u32;
-    let c = head_numbers(load_head(s, COMMITTED_AT));
-    let a = head_numbers(load_head(s, APPLIED_AT));
-    let w = net_numbers(s);
+    let committed = load_head(s, COMMITTED_AT);
+    let applied = load_head(s, APPLIED_AT);
+    let configuration = load_configuration(s);
+    let mastership = load_mastership(s);
+    let target = load_target(s);
     [
-        n, c[0], g, c[1], c[2], c[3], a[0], a[1], a[2], a[3], w[0], w[1], w[2], w[3], w[4], w[5],
-        w[6], b,
+        u32::from(last_number(s)),
+        u32::from(committed.index.get()),
+        u32::from(load_change(s).get()),
+        u32::from(committed.target.get()),
+        u32::from(committed.revision.get()),
+        committed.ordinal.get(),
+        u32::from(applied.index.get()),
+        u32::from(applied.target.get()),
+        u32::from(applied.revision.get()),
+        applied.ordinal.get(),
+        u32::from(configuration.state.code()),
+        configuration.term.get(),
+        u32::from(mastership.master),
+        mastership.term.get(),
+        mastership.conn,
+        target.id,
+        u32::from(target.running),
+        u32::from(last_fold(s)),
     ]
 }
 
@@ -360,7 +292,7 @@ fn is_node_field(node: u16, field: u16) -> bool
 fn node_numbers(x: Connection) -> [u32; 2]
     ensures { result ≡ node_numbers x }
 {
-    [x.id, flag(x.connected)]
+    [x.id, u32::from(x.connected)]
 }
 
 // A field of a node's connection. Refuses 1, 2.

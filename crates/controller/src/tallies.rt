@@ -25,29 +25,17 @@ pub struct Tally {
 
 // ---- the totals
 
-fn wide8(x: u8) -> u16
-    ensures { (result ≡ x) × (result < 256) }
-{
-    x as u16
-}
-
-fn wide16(x: u16) -> u32
-    ensures { (result ≡ x) × (result < 65536) }
-{
-    x as u32
-}
-
 fn total_of(totals: &[u8]) -> u32
     requires { length totals.now ≡ 12 }
     ensures { result ≡ together (totals_in totals.now) }
 {
     let t = get_four::<u16>(totals, 0);
-    let a = wide16(t[0]);
-    let b = wide16(t[1]);
-    let c = wide16(t[2]);
-    let d = wide16(t[3]);
-    let e = wide16(get::<u16>(totals, 8));
-    let f = wide16(get::<u16>(totals, 10));
+    let a = u32::from(t[0]);
+    let b = u32::from(t[1]);
+    let c = u32::from(t[2]);
+    let d = u32::from(t[3]);
+    let e = u32::from(get::<u16>(totals, 8));
+    let f = u32::from(get::<u16>(totals, 10));
     a + b + c + d + e + f
 }
 
@@ -57,7 +45,7 @@ pub fn lent_ok(log: u16, totals: &[u8]) -> bool
 {
     if (1 <= log) & (log <= 64) {
         if totals.len() == 12 {
-            let most = 128 * wide16(log - 1);
+            let most = 128 * u32::from(log - 1);
             return total_of(totals) <= most;
         }
         return false;
@@ -70,12 +58,12 @@ fn add(totals: &mut [u8], counts: [u8; 6])
     ensures { totals.new ≡ put_totals totals.old (added (totals_in totals.old) counts) }
 {
     let t = get_four::<u16>(totals, 0);
-    let a = t[0] + wide8(counts[0]);
-    let b = t[1] + wide8(counts[1]);
-    let c = t[2] + wide8(counts[2]);
-    let d = t[3] + wide8(counts[3]);
-    let e = get::<u16>(totals, 8) + wide8(counts[4]);
-    let f = get::<u16>(totals, 10) + wide8(counts[5]);
+    let a = t[0] + u16::from(counts[0]);
+    let b = t[1] + u16::from(counts[1]);
+    let c = t[2] + u16::from(counts[2]);
+    let d = t[3] + u16::from(counts[3]);
+    let e = get::<u16>(totals, 8) + u16::from(counts[4]);
+    let f = get::<u16>(totals, 10) + u16::from(counts[5]);
     put_four(totals, 0, [a, b, c, d]);
     put(totals, 8, e);
     put(totals, 10, f);

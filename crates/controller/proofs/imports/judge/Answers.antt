@@ -1,5 +1,4 @@
 -- `judge` meets its contract. Assumes nothing.
-use Prim.Native.Nat.{◌-◌}
 use mathlib.Core.Path.{refl}
 use native.Mathlib.Omega.{arith}
 use Rattle.controller.proofs.Importing.{judging_none, depth_low, entry_placed, judging_more, judging_stop, judging_all}

@@ -1,6 +1,4 @@
 -- `judge` meets its contract. Assumes nothing.
-use Prim.Native.Nat.{◌-◌, ◌/◌}
-use lib.ListN.{length}
 use Rattle.controller.proofs.Importing.{Judging}
 use Rattle.controller.proofs.imports.judge.Given as goal
 

@@ -2,7 +2,6 @@
 use Rattle.controller.proofs.Importing.{made_none, made_enters, made_more, made_all}
 use native.Mathlib.Omega.{arith}
 use mathlib.Core.Path.{refl}
-use Prim.Native.Nat.{◌-◌}
 use Rattle.controller.proofs.imports.make.Goals as goal
 
 pub begin-requires : goal.begin-requires

@@ -1,7 +1,5 @@
 -- `make` meets its contract. Assumes nothing.
 use Rattle.controller.proofs.Importing.{Made}
-use lib.ListN.{length}
-use Prim.Native.Nat.{◌-◌, ◌/◌}
 use Rattle.controller.proofs.imports.make.Given as goal
 
 abbrev pub invariant-loop-k : goal.invariant-loop-k

@@ -1,7 +1,6 @@
 -- `find` meets its contract. Assumes nothing.
-use Prim.Native.Nat.{◌-◌}
 use native.Mathlib.Omega.{arith}
-use Rattle.controller.proofs.Decided.{size, room}
+use Rattle.controller.proofs.Decided.{size}
 use Rattle.controller.proofs.Turned.{scan_from, in_table, scan_end, here, plan_is, here_done, awake_node}
 use Rattle.controller.proofs.nights.find.Goals as goal
 

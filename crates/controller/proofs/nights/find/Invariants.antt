@@ -1,5 +1,4 @@
 -- `find` meets its contract. Assumes nothing.
-use Prim.Native.Nat.{◌-◌}
 use Rattle.controller.proofs.Turned.{Scan}
 use Rattle.controller.proofs.nights.find.Given as goal
 

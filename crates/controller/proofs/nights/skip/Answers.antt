@@ -1,10 +1,8 @@
 -- `skip` meets its contract. Assumes nothing.
-use Prim.Native.Nat.{◌-◌}
 use native.Mathlib.Omega.{arith}
 use mathlib.Core.Path.{◌≡◌, subst}
 use Rattle.controller.specs.Nights.{Quiet}
 use Rattle.controller.proofs.Decided.{size}
-use borrow.Author.Tests.{not-false}
 use Rattle.controller.proofs.Turned.{quiet_more}
 use Rattle.controller.proofs.nights.skip.Goals as goal
 

@@ -1,5 +1,4 @@
 -- `skip` meets its contract. Assumes nothing.
-use Prim.Native.Nat.{◌-◌}
 use Rattle.controller.specs.Nights.{Quiet}
 use Rattle.controller.proofs.nights.skip.Given as goal
 

@@ -1,8 +1,7 @@
 -- `through` meets its contract. Assumes nothing.
-use Prim.Native.Nat.{◌-◌}
 use native.Mathlib.Omega.{arith}
 use Rattle.controller.proofs.Decided.{size}
-use Rattle.controller.proofs.Turned.{quiet_none, gone_none, gone_length, turn_goes, turn_quiet, turn_none, over_early, over_spent, awake_node}
+use Rattle.controller.proofs.Turned.{quiet_none, gone_none, turn_goes, turn_quiet, over_early, over_spent, awake_node}
 use Rattle.controller.proofs.nights.through.Goals as goal
 
 pub overflow_cast-at : goal.overflow_cast-at

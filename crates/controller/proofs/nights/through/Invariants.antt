@@ -1,5 +1,5 @@
 -- `through` meets its contract. Assumes nothing.
-use Prim.Native.Nat.{◌-◌, ◌≤◌}
+use Prim.Native.Nat.{◌≤◌}
 use Rattle.controller.specs.Nights.{Quiet}
 use Rattle.controller.proofs.Turned.{Gone}
 use Rattle.controller.proofs.nights.through.Given as goal

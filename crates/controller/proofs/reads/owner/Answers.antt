@@ -12,7 +12,7 @@ pub last_fold-b-requires : goal.last_fold-b-requires
 last_fold-b-requires c = size _ (told _ _ c.well_formed-2.ensures c.if-well_formed.true)
 
 pub returns-then-b-k : goal.returns-then-b-k
-returns-then-b-k c = shows_by _ _ _ _ c.well_formed-2.ensures c.if-well_formed.true _ c.shows.ensures (owner_is _ _ c.if-path-lt32.true _ _ c.load_value-k.ensures c.last_fold-b.ensures c.if-b-k.true _ c.wide16.ensures)
+returns-then-b-k c = shows_by _ _ _ _ c.well_formed-2.ensures c.if-well_formed.true _ c.shows.ensures (owner_is _ _ c.if-path-lt32.true _ _ c.load_value-k.ensures c.last_fold-b.ensures c.if-b-k.true _ c.from.ensures)
 
 pub returns-then-path-lt32 : goal.returns-then-path-lt32
 returns-then-path-lt32 c = shows_by _ _ _ _ c.well_formed-2.ensures c.if-well_formed.true 0 c.shows-then-path-lt32.ensures (owner_folded _ _ c.if-path-lt32.true _ _ c.load_value-k.ensures c.last_fold-b.ensures c.if-b-k.false)

@@ -7,4 +7,4 @@ pub load_head-h-requires : goal.load_head-h-requires
 load_head-h-requires c = let h = c.requires in omega arith
 
 pub returns : goal.returns
-returns c = side_landed _ _ c.args.x _ _ c.load_head-h.ensures c.landed.ensures c.flag.ensures
+returns c = side_landed _ _ c.args.x _ _ c.load_head-h.ensures c.landed.ensures c.from.ensures

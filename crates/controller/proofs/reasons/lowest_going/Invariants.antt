@@ -1,5 +1,4 @@
 -- `lowest_going` meets its contract. Assumes nothing.
-use Prim.Native.Nat.{◌-◌}
 use Rattle.controller.proofs.Explained.{Among}
 use Rattle.controller.proofs.reasons.lowest_going.Given as goal
 

@@ -1,5 +1,4 @@
 -- `counts_of` meets its contract. Assumes nothing.
-use Prim.Native.Nat.{◌-◌}
 use Rattle.controller.proofs.Tallied.{Counting}
 use Rattle.controller.proofs.tallies.counts_of.Given as goal
 

@@ -7,7 +7,7 @@ pub overflow_sub-log : goal.overflow_sub-log
 overflow_sub-log c = place_low c.args.log c.args.totals.now c.if-log.true
 
 pub returns-then-totals-eq12 : goal.returns-then-totals-eq12
-returns-then-totals-eq12 c = totals_told c.args.log c.args.totals.now c.if-log.true c.if-totals-eq12.true _ _ _ _ c.wide16-most.ensures.0 refl c.total_of.ensures refl
+returns-then-totals-eq12 c = totals_told c.args.log c.args.totals.now c.if-log.true c.if-totals-eq12.true _ _ _ _ c.from-most.ensures refl c.total_of.ensures refl
 
 pub returns-then-log : goal.returns-then-log
 returns-then-log c = no_totals c.args.log c.args.totals.now c.if-log.true c.if-totals-eq12.false

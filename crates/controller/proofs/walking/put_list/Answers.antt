@@ -1,5 +1,4 @@
 -- `put_list` meets its contract: so many numbers are still to come. Assumes nothing.
-use Prim.Native.Nat.{◌-◌}
 use native.Mathlib.Omega.{arith}
 use Rattle.controller.proofs.Walked.{putting_none, number_here, putting_more, putting_done}
 use Rattle.controller.proofs.walking.put_list.Goals as goal

@@ -1,5 +1,4 @@
 -- `put_list` meets its contract: so many numbers are still to come. Assumes nothing.
-use Prim.Native.Nat.{◌-◌}
 use Rattle.controller.proofs.Walked.{Putting}
 use Rattle.controller.proofs.walking.put_list.Given as goal
 
