@@ -100,17 +100,6 @@ pub fn start(s: &mut [u8]) -> Reply
     Reply::of(answer)
 }
 
-// Clears the target's values, unless it remembers them.
-fn forget(s: &mut [u8], remembers: bool)
-    requires { image_length ≤ length s.old }
-    ensures { s.new ≡ written s.old (clear_row remembers) }
-{
-    if remembers {
-        return;
-    }
-    clear_target(s);
-}
-
 // Stops the target, clears its values where it forgets them, and takes every connection away.
 pub fn stop(s: &mut [u8]) -> Reply
     requires { formed s.old ≡ true }
@@ -124,7 +113,9 @@ pub fn stop(s: &mut [u8]) -> Reply
         let target = x.target;
         let nodes = stop_of(load_connections(s));
         store_target(s, target);
-        forget(s, remembers);
+        if !remembers {
+            clear_target(s);
+        }
         store_connections(s, nodes);
         return Reply::of(0);
     }

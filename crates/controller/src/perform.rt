@@ -89,16 +89,6 @@ pub fn lay_committed(s: &mut [u8], p: [u8; 4], v: [u16; 4], o: [u16; 4], n: u8)
     lay(s, OWNERS_AT, p, o, n);
 }
 
-fn store_change_if(s: &mut [u8], moves: bool, i: u16)
-    requires { image_length ≤ length s.old }
-    ensures { s.new ≡ written s.old (change_row moves i) }
-{
-    if moves {
-        store_change(s, Number::of(i));
-        return;
-    }
-}
-
 // The head's store of jobs 1 and 3: Committed.
 fn commit_row(s: &mut [u8], i: u16, p: Plan)
     requires { image_length ≤ length s.old }
@@ -108,7 +98,9 @@ fn commit_row(s: &mut [u8], i: u16, p: Plan)
     let l = p.lay;
     let t = p.entry;
     store_head(s, COMMITTED_AT, h);
-    store_change_if(s, p.change, i);
+    if p.change {
+        store_change(s, Number::of(i));
+    }
     let ps = t.paths;
     let v = laid_values(l, t);
     let o = laid_owners(l, t, i);
@@ -196,36 +188,6 @@ fn comes_by(order: Order, first: bool, second: bool) -> Comes
     }
 }
 
-fn target_if(s: &mut [u8], comes: bool, p: Plan)
-    requires { image_length ≤ length s.old }
-    ensures { s.new ≡ written s.old (cond comes (target_row p) []) }
-{
-    if comes {
-        target_row(s, p);
-        return;
-    }
-}
-
-fn head_if(s: &mut [u8], comes: bool, commits: bool, i: u16, p: Plan)
-    requires { image_length ≤ length s.old }
-    ensures { s.new ≡ written s.old (cond comes (head_row commits p i) []) }
-{
-    if comes {
-        head_row(s, commits, i, p);
-        return;
-    }
-}
-
-fn entry_if(s: &mut [u8], comes: bool, i: u16, p: Plan)
-    requires { (1 ≤ i) × (image_length ≤ length s.old) }
-    ensures { s.new ≡ written s.old (cond comes (entry_row p i) []) }
-{
-    if comes {
-        entry_row(s, i, p);
-        return;
-    }
-}
-
 // A plan's stores for entry i, with the same cuts. Each row is made at one place, the entry's at two: an arm for each order
 // would hold a copy of the plan on the stack.
 pub fn perform(s: &mut [u8], commits: bool, i: u16, p: Plan, first: bool, second: bool)
@@ -233,11 +195,24 @@ pub fn perform(s: &mut [u8], commits: bool, i: u16, p: Plan, first: bool, second
     ensures { s.new ≡ written s.old (rows_of commits p i first second) }
 {
     let order = p.order;
-    let x = comes_by(order, first, second);
-    target_if(s, x.target, p);
-    entry_if(s, x.before, i, p);
-    head_if(s, x.head, commits, i, p);
-    entry_if(s, x.after, i, p);
+    let Comes {
+        target,
+        before,
+        head,
+        after,
+    } = comes_by(order, first, second);
+    if target {
+        target_row(s, p);
+    }
+    if before {
+        entry_row(s, i, p);
+    }
+    if head {
+        head_row(s, commits, i, p);
+    }
+    if after {
+        entry_row(s, i, p);
+    }
 }
 
 // The event that is given: with the first store, but for a push, whose first store is the target's.
