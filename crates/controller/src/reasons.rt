@@ -261,26 +261,6 @@ fn quiet_unless(s: &[u8], over: bool, x: Side) -> bool
     true
 }
 
-fn change_quiet(s: &[u8], t: Transaction, h: Head) -> bool
-    requires { formed s.now ≡ true }
-    ensures { result ≡ change_quiet t h.ordinal.0 (view s.now) }
-{
-    let a = h.ordinal;
-    let over = change_over(t, a);
-    let x = t.change;
-    quiet_unless(s, over, x)
-}
-
-fn rollback_quiet(s: &[u8], t: Transaction, h: Head) -> bool
-    requires { formed s.now ≡ true }
-    ensures { result ≡ rollback_quiet t h.ordinal.0 (view s.now) }
-{
-    let a = h.ordinal;
-    let over = rollback_over(t, a);
-    let y = t.rollback;
-    quiet_unless(s, over, y)
-}
-
 // ---- each job: a reason where it answers 11, else 15
 
 fn commit_change_why(s: &[u8], number: u16) -> Why
@@ -311,11 +291,11 @@ fn apply_change_why(s: &[u8], node: u8, number: u16) -> Why
 {
     let t = load_entry(s, number);
     let h = load_head(s, APPLIED_AT);
-    let quiet = change_quiet(s, t, h);
+    let a = h.ordinal;
+    let quiet = quiet_unless(s, change_over(t, a), t.change);
     let open = line(s, node);
     let p = apply_change(t, h, quiet, Number::of(number), open, false);
     if p.answer == 11 {
-        let a = h.ordinal;
         return change_waits(t, a, quiet);
     }
     Why::refuses(15)
@@ -327,11 +307,11 @@ fn apply_rollback_why(s: &[u8], node: u8, number: u16) -> Why
 {
     let t = load_entry(s, number);
     let h = load_head(s, APPLIED_AT);
-    let quiet = rollback_quiet(s, t, h);
+    let a = h.ordinal;
+    let quiet = quiet_unless(s, rollback_over(t, a), t.rollback);
     let open = line(s, node);
     let p = apply_rollback(t, h, quiet, Number::of(number), open, false);
     if p.answer == 11 {
-        let a = h.ordinal;
         return rollback_waits(t, a, quiet);
     }
     Why::refuses(15)

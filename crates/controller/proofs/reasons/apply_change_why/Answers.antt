@@ -1,4 +1,8 @@
 -- `apply_change_why` meets its contract. Assumes nothing.
+use mathlib.Core.Path.{ap, ◌∙◌}
+use mathlib.Core.Bool.{Bool}
+use Rattle.image.specs.View.{view}
+use Rattle.controller.specs.Reasons.{quiet_unless}
 use Rattle.controller.proofs.Explained.{ordinal_in_holds, change_11, change_15}
 use Rattle.controller.proofs.Decided.{entry_here, entry_size_holds}
 use native.Mathlib.Omega.{arith}
@@ -14,7 +18,7 @@ pub change_waits-requires : goal.change_waits-requires
 change_waits-requires c = ordinal_in_holds _ _ c.requires.0.formed c.load_head-h.ensures
 
 pub returns-then-p-eq11 : goal.returns-then-p-eq11
-returns-then-p-eq11 c = change_11 _ _ c.requires.0 _ c.load_entry-t.ensures _ c.load_head-h.ensures _ c.change_quiet-quiet.ensures _ _ _ c.line-open.ensures _ c.of.ensures _ c.apply_change-p.ensures c.if-p-eq11.true c.change_waits.ensures
+returns-then-p-eq11 c = change_11 _ _ c.requires.0 _ c.load_entry-t.ensures _ c.load_head-h.ensures _ (c.quiet_unless-quiet.ensures ∙ ap (λ (x : Bool). quiet_unless x c.load_entry-t.result.change (view c.args.s.now)) c.change_over.ensures) _ _ _ c.line-open.ensures _ c.of.ensures _ c.apply_change-p.ensures c.if-p-eq11.true c.change_waits.ensures
 
 pub returns : goal.returns
-returns c = change_15 _ _ c.requires.0 _ c.load_entry-t.ensures _ c.load_head-h.ensures _ c.change_quiet-quiet.ensures _ _ _ c.line-open.ensures _ c.of.ensures _ c.apply_change-p.ensures c.if-p-eq11.false c.refuses.ensures
+returns c = change_15 _ _ c.requires.0 _ c.load_entry-t.ensures _ c.load_head-h.ensures _ (c.quiet_unless-quiet.ensures ∙ ap (λ (x : Bool). quiet_unless x c.load_entry-t.result.change (view c.args.s.now)) c.change_over.ensures) _ _ _ c.line-open.ensures _ c.of.ensures _ c.apply_change-p.ensures c.if-p-eq11.false c.refuses.ensures
