@@ -1,6 +1,6 @@
 // The controller: every call of the paper on one lent image. A public call has no `requires`: it refuses by number, and
 // then every byte is what it had been.
-#![tactic(auto)]
+#![tactic(auto, using(crate::proofs::Decided::size))]
 
 ghost use Rattle.std.specs.Prelude.{◌≡◌, true};
 ghost use Rattle.machine.specs.Calls.{rollback, start, stop, connect, disconnect, master, sync, work, fold_to};

@@ -1,9 +1,6 @@
 -- `connect` meets its contract. Assumes nothing.
-use Rattle.controller.proofs.Answered.{first, then, told}
+use Rattle.controller.proofs.Answered.{first, then}
 use Rattle.controller.proofs.connect.Goals as goal
-
-pub connect-requires : goal.connect-requires
-connect-requires c = told _ _ c.well_formed-2.ensures c.if-well_formed.true
 
 pub returns-then-well_formed : goal.returns-then-well_formed
 returns-then-well_formed c = then _ _ _ _ _ c.well_formed-2.ensures c.if-well_formed.true c.connect.ensures

@@ -1,9 +1,6 @@
 -- `fold` meets its contract. Assumes nothing.
-use Rattle.controller.proofs.Answered.{first, then, told}
+use Rattle.controller.proofs.Answered.{first, then}
 use Rattle.controller.proofs.fold.Goals as goal
-
-pub fold-requires : goal.fold-requires
-fold-requires c = told _ _ c.well_formed-2.ensures c.if-well_formed.true
 
 pub returns-then-well_formed : goal.returns-then-well_formed
 returns-then-well_formed c = then _ _ _ _ _ c.well_formed-2.ensures c.if-well_formed.true c.fold.ensures

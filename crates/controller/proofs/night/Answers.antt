@@ -1,11 +1,7 @@
 -- `night` meets its contract. Assumes nothing.
 use mathlib.Core.Path.{refl}
-use Rattle.controller.proofs.Answered.{told}
 use Rattle.controller.proofs.Turned.{night_1, night_then}
 use Rattle.controller.proofs.night.Goals as goal
-
-pub spend-requires : goal.spend-requires
-spend-requires c = told _ _ c.well_formed-2.ensures c.if-well_formed.true
 
 pub returns-then-well_formed : goal.returns-then-well_formed
 returns-then-well_formed c = night_then _ _ _ _ _ _ _ _ _ c.well_formed-2.ensures c.if-well_formed.true c.spend.ensures

@@ -1,9 +1,6 @@
 -- `sync` meets its contract. Assumes nothing.
-use Rattle.controller.proofs.Answered.{first, then, told}
+use Rattle.controller.proofs.Answered.{first, then}
 use Rattle.controller.proofs.sync.Goals as goal
-
-pub sync-requires : goal.sync-requires
-sync-requires c = told _ _ c.well_formed-2.ensures c.if-well_formed.true
 
 pub returns-then-well_formed : goal.returns-then-well_formed
 returns-then-well_formed c = then _ _ _ _ _ c.well_formed-2.ensures c.if-well_formed.true c.sync.ensures

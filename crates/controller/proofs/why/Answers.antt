@@ -1,11 +1,7 @@
 -- `why` meets its contract. Assumes nothing.
 use Rattle.controller.proofs.Explained.{why_1, why_then}
-use Rattle.controller.proofs.Answered.{told}
 use mathlib.Core.Path.{refl}
 use Rattle.controller.proofs.why.Goals as goal
-
-pub asked-requires : goal.asked-requires
-asked-requires c = told _ _ c.well_formed-2.ensures c.if-well_formed.true
 
 pub returns-then-well_formed : goal.returns-then-well_formed
 returns-then-well_formed c = why_then _ _ _ _ _ _ c.well_formed-2.ensures c.if-well_formed.true c.asked.ensures

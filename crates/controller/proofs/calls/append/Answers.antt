@@ -1,24 +1,12 @@
 -- `append` meets its contract. Assumes nothing.
 use Rattle.controller.proofs.Answered.{append_3, append_4, append_9, appended_to}
-use Rattle.controller.proofs.Decided.{size, fold_low}
-use mathlib.Core.Path.{sym, refl, ◌∙◌}
+use Rattle.controller.proofs.Decided.{fold_low}
+use mathlib.Core.Path.{refl}
 use native.Mathlib.Omega.{arith}
 use Rattle.controller.proofs.calls.append.Goals as goal
 
-pub last_number-n-requires : goal.last_number-n-requires
-last_number-n-requires c = let h = size _ c.requires in omega arith
-
-pub last_fold-b-requires : goal.last_fold-b-requires
-last_fold-b-requires c = let h = size _ c.requires in omega arith
-
 pub overflow_sub-n : goal.overflow_sub-n
 overflow_sub-n c = fold_low _ _ _ c.requires c.last_fold-b.ensures c.last_number-n.ensures
-
-pub entered-t-requires : goal.entered-t-requires
-entered-t-requires c = sym c.valid.ensures ∙ c.if-valid.true
-
-pub grow-requires : goal.grow-requires
-grow-requires c = (c.last_number-n.ensures, (c.if-n-lt-HIGHEST.true, size _ c.requires))
 
 pub returns-then-n-lt-HIGHEST : goal.returns-then-n-lt-HIGHEST
 returns-then-n-lt-HIGHEST c = appended_to _ c.args.pairs.now (λ i. omega (arith, c.shared_slice_known-1.given i)) _ _ c.valid.ensures c.requires c.if-valid.true _ _ c.last_number-n.ensures c.last_fold-b.ensures c.if-n-b-lt-SLOTS.true _ _ _ c.if-n-lt-HIGHEST.true c.entered-t.ensures c.grow.ensures c.of.ensures refl

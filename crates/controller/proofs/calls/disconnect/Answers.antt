@@ -1,14 +1,6 @@
 -- `disconnect` meets its contract. Assumes nothing.
 use Rattle.controller.proofs.Answered.{disconnect_refused, disconnected}
-use native.Mathlib.Omega.{arith}
-use Rattle.controller.proofs.Decided.{size}
 use Rattle.controller.proofs.calls.disconnect.Goals as goal
-
-pub load_connections-requires : goal.load_connections-requires
-load_connections-requires c = omega (arith, size _ c.requires)
-
-pub store_connections-requires : goal.store_connections-requires
-store_connections-requires c = omega (arith, size _ c.requires)
 
 pub returns-then-answer-eq0 : goal.returns-then-answer-eq0
 returns-then-answer-eq0 c = disconnected _ _ _ _ _ c.load_connections.ensures c.disconnect_of-x.ensures _ c.if-answer-eq0.true c.of.ensures c.store_connections.ensures

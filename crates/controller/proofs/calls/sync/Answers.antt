@@ -1,30 +1,7 @@
 -- `sync` meets its contract. Assumes nothing.
-use Rattle.controller.proofs.Answered.{node_is, no_sync, sync_refused, syncing, synced}
+use Rattle.controller.proofs.Answered.{no_sync, sync_refused, syncing, synced}
 use mathlib.Core.Path.{refl}
-use native.Mathlib.Omega.{arith}
-use Rattle.controller.proofs.Decided.{size}
 use Rattle.controller.proofs.calls.sync.Goals as goal
-
-pub overflow_cast-n : goal.overflow_cast-n
-overflow_cast-n c = omega (arith, (node_is c.args.node _ c.is_node.ensures c.if-is_node.true).0, (node_is c.args.node _ c.is_node.ensures c.if-is_node.true).1)
-
-pub load_mastership-m-requires : goal.load_mastership-m-requires
-load_mastership-m-requires c = omega (arith, size _ c.requires)
-
-pub load_connection-requires : goal.load_connection-requires
-load_connection-requires c = ((node_is c.args.node _ c.is_node.ensures c.if-is_node.true).0, ((node_is c.args.node _ c.is_node.ensures c.if-is_node.true).1, size _ c.requires))
-
-pub load_target-requires : goal.load_target-requires
-load_target-requires c = omega (arith, size _ c.requires)
-
-pub load_configuration-requires : goal.load_configuration-requires
-load_configuration-requires c = omega (arith, size _ c.requires)
-
-pub store_configuration-requires : goal.store_configuration-requires
-store_configuration-requires c = omega (arith, size _ c.requires)
-
-pub write_differing-requires : goal.write_differing-requires
-write_differing-requires c = omega (arith, size _ c.requires)
 
 pub returns-then-x : goal.returns-then-x
 returns-then-x c = synced _ _ _ _ c.is_node.ensures c.if-is_node.true _ _ c.load_mastership-m.ensures c.load_connection.ensures _ _ _ _ c.load_target.ensures c.load_configuration.ensures c.reaches-reached.ensures c.synchronise-x.ensures _ _ _ _ c.requires c.if-answer-eq0.true c.if-x.true c.counted-event.ensures refl c.store_configuration.ensures c.write_differing.ensures

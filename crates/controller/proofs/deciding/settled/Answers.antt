@@ -1,10 +1,6 @@
 -- `settled` meets its contract. Assumes nothing.
-use native.Mathlib.Omega.{arith}
-use Rattle.controller.proofs.Decided.{size, settled_none, settled_all}
+use Rattle.controller.proofs.Decided.{settled_none, settled_all}
 use Rattle.controller.proofs.deciding.settled.Goals as goal
-
-pub load_head-h-requires : goal.load_head-h-requires
-load_head-h-requires c = let h = size _ c.requires in omega arith
 
 pub returns-then-get-eq0 : goal.returns-then-get-eq0
 returns-then-get-eq0 c = settled_none _ _ _ c.load_head-h.ensures c.get.ensures c.if-get-eq0.true

@@ -6,17 +6,8 @@ use Rattle.controller.proofs.folding.lay_listed.Goals as goal
 pub loop-k-init : goal.loop-k-init
 loop-k-init c = laying_none _ _ _ _ _ _ c.requires
 
-pub offset_bounds-list-k : goal.offset_bounds-list-k
-offset_bounds-list-k c = omega (arith, c.loop-k-test.true, c.loop-k.invariant.0, c.requires.1.1)
-
-pub bounds-list-k : goal.bounds-list-k
-bounds-list-k c = omega (arith, c.loop-k-test.true, c.loop-k.invariant.0, c.requires.1.1)
-
 pub load_entry-t-requires : goal.load_entry-t-requires
 load_entry-t-requires c = laying_here _ _ _ _ _ _ c.requires _ _ c.loop-k.invariant c.loop-k-test.true
-
-pub lay-requires : goal.lay-requires
-lay-requires c = omega (arith, (laying_here _ _ _ _ _ _ c.requires _ _ c.loop-k.invariant c.loop-k-test.true).1)
 
 pub loop-k-preserved : goal.loop-k-preserved
 loop-k-preserved c = laying_more _ _ _ _ _ _ c.requires _ _ c.loop-k.invariant c.loop-k-test.true _ _ c.load_entry-t.ensures c.lay.ensures

@@ -1,23 +1,6 @@
 -- `may_fold` meets its contract. Assumes nothing.
 use Rattle.controller.proofs.Folded.{not_at_rest, not_settled, not_waiting, may}
-use Rattle.controller.proofs.Decided.{size, fold_low}
-use native.Mathlib.Omega.{arith}
 use Rattle.controller.proofs.folding.may_fold.Goals as goal
-
-pub rest-requires : goal.rest-requires
-rest-requires c = c.requires.0.formed
-
-pub settled-requires : goal.settled-requires
-settled-requires c = c.requires.0.formed
-
-pub load_head-h-requires : goal.load_head-h-requires
-load_head-h-requires c = let h = size _ c.requires.0.formed in omega arith
-
-pub entries_wait-requires : goal.entries_wait-requires
-entries_wait-requires c = (fold_low _ _ _ c.requires.0.formed c.requires.0.folded c.requires.0.last, size _ c.requires.0.formed)
-
-pub entries_finished-requires : goal.entries_finished-requires
-entries_finished-requires c = (c.requires.1.0, size _ c.requires.0.formed)
 
 pub returns-then-entries_wait : goal.returns-then-entries_wait
 returns-then-entries_wait c = may _ _ _ _ c.requires _ c.rest.ensures c.if-rest.true _ c.settled.ensures c.if-settled.true _ c.load_head-h.ensures _ c.get-g.ensures _ c.entries_wait.ensures c.if-entries_wait.true _ c.entries_finished.ensures

@@ -1,7 +1,6 @@
 -- `enter_change` meets its contract. Assumes nothing.
 use Rattle.controller.proofs.Importing.{change_few, change_bytes, change_read}
 use Rattle.controller.proofs.Entered.{change_row_holds}
-use Rattle.controller.proofs.Decided.{size}
 use mathlib.Core.Path.{refl}
 use native.Mathlib.Omega.{arith}
 use Prim.Native.Nat.{◌+◌}
@@ -10,24 +9,6 @@ use Rattle.controller.proofs.imports.enter_change.Goals as goal
 
 pub entered-t-requires : goal.entered-t-requires
 entered-t-requires c = change_bytes c.args.list.now c.args.at c.requires.placed c.requires.valid _ c.two_at-count.ensures _ _ refl refl (λ i. omega (arith, c.shared_slice_known-1.given i))
-
-pub commits-u-requires : goal.commits-u-requires
-commits-u-requires c = size _ c.requires.formed
-
-pub last_number-n-requires : goal.last_number-n-requires
-last_number-n-requires c = size _ c.requires.formed
-
-pub grow-requires : goal.grow-requires
-grow-requires c = (c.last_number-n.ensures, (let h = c.requires.room in let e = c.last_number-n.ensures in omega arith, size _ c.requires.formed))
-
-pub store_change-requires : goal.store_change-requires
-store_change-requires c = omega (arith, size _ c.requires.formed)
-
-pub rests-requires : goal.rests-requires
-rests-requires c = omega (arith, size _ c.requires.formed)
-
-pub lay_committed-requires : goal.lay_committed-requires
-lay_committed-requires c = omega (arith, size _ c.requires.formed)
 
 pub returns : goal.returns
 returns c = change_row_holds c.args.s.now c.requires.formed (pairs_at c.args.list.now (c.args.at + 4) (two c.args.list.now (c.args.at + 2))) _ _ (change_read c.args.list.now c.args.at c.requires.placed c.requires.valid _ c.two_at-count.ensures _ _ refl refl _ c.entered-t.ensures) c.commits-u.ensures _ c.last_number-n.ensures _ c.of-i.ensures _ _ _ _ c.grow.ensures c.store_change.ensures c.rests.ensures c.lay_committed.ensures

@@ -1,14 +1,9 @@
 -- `judge_entry` meets its contract. Assumes nothing.
-use borrow.Author.Tests.{leb-true}
-use Rattle.image.proofs.UpTo.{and_left}
 use Rattle.controller.proofs.Importing.{judged_change, judged_neither, judged_undone, judged_16}
 use Rattle.controller.proofs.imports.judge_entry.Goals as goal
 
 pub returns-then-kind-eq1 : goal.returns-then-kind-eq1
 returns-then-kind-eq1 c = judged_change _ _ _ _ _ _ _ c.two_at-kind.ensures c.two_at-n.ensures _ c.if-kind-eq1.true c.judge_change.ensures
-
-pub overflow_sub-result : goal.overflow_sub-result
-overflow_sub-result c = leb-true 1 _ (and_left _ _ c.if-depth-n.true)
 
 pub returns-then-depth-n : goal.returns-then-depth-n
 returns-then-depth-n c = judged_undone _ _ _ _ _ _ _ c.two_at-kind.ensures c.two_at-n.ensures c.if-kind-eq1.false c.if-kind-eq2.true c.if-depth-n.true

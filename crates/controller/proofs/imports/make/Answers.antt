@@ -1,17 +1,10 @@
 -- `make` meets its contract. Assumes nothing.
 use Rattle.controller.proofs.Importing.{made_none, made_enters, made_more, made_all}
-use native.Mathlib.Omega.{arith}
 use mathlib.Core.Path.{refl}
 use Rattle.controller.proofs.imports.make.Goals as goal
 
-pub begin-requires : goal.begin-requires
-begin-requires c = c.requires.0
-
 pub loop-k-init : goal.loop-k-init
 loop-k-init c = made_none _ c.requires.1 _ c.begin.ensures
-
-pub overflow_mul-k : goal.overflow_mul-k
-overflow_mul-k c = omega (arith, c.loop-k-test.true, c.requires.1.0.0)
 
 pub enter-requires : goal.enter-requires
 enter-requires c = made_enters _ c.requires.1 _ _ c.loop-k.invariant c.loop-k-test.true _ refl

@@ -1,12 +1,6 @@
 -- `take` meets its contract. Assumes nothing.
-use Rattle.controller.proofs.Importing.{import_2, listed, accepts, import_refused, import_taken}
+use Rattle.controller.proofs.Importing.{import_2, import_refused, import_taken}
 use Rattle.controller.proofs.imports.take.Goals as goal
-
-pub judge-v-requires : goal.judge-v-requires
-judge-v-requires c = listed c.args.list.now c.if-n.true
-
-pub make-requires : goal.make-requires
-make-requires c = (c.requires, accepts c.args.list.now c.if-n.true _ c.judge-v.ensures c.if-v-eq0.true)
 
 pub returns-then-v-eq0 : goal.returns-then-v-eq0
 returns-then-v-eq0 c = import_taken c.args.s.now c.args.list.now c.requires c.if-n.true _ c.judge-v.ensures c.if-v-eq0.true _ c.make.ensures

@@ -1,47 +1,16 @@
 -- `find` meets its contract. Assumes nothing.
 use native.Mathlib.Omega.{arith}
-use Rattle.controller.proofs.Decided.{size}
-use Rattle.controller.proofs.Turned.{scan_from, in_table, scan_end, here, plan_is, here_done, awake_node}
+use Rattle.controller.proofs.Turned.{scan_from, in_table, scan_end, here, plan_is, here_done}
 use Rattle.controller.proofs.nights.find.Goals as goal
-
-pub load_scene-x-requires : goal.load_scene-x-requires
-load_scene-x-requires c = (c.requires.0.formed, awake_node _ _ _ c.requires.0)
-
-pub last_fold-b-requires : goal.last_fold-b-requires
-last_fold-b-requires c = let h = size _ c.requires.0.formed in omega arith
-
-pub last_number-n-requires : goal.last_number-n-requires
-last_number-n-requires c = let h = size _ c.requires.0.formed in omega arith
 
 pub loop-i-init : goal.loop-i-init
 loop-i-init c = scan_from _ _ _ c.requires.0 _ _ c.last_fold-b.ensures c.last_number-n.ensures _ c.requires.1
 
-pub overflow_add-number : goal.overflow_add-number
-overflow_add-number c = omega (arith, c.loop-i-test.true)
-
-pub load_entry-t-requires : goal.load_entry-t-requires
-load_entry-t-requires c = (omega arith, size _ c.requires.0.formed)
-
-pub overflow_sub-k : goal.overflow_sub-k
-overflow_sub-k c = omega (arith, c.loop-i.invariant.0)
-
-pub overflow_mul-k : goal.overflow_mul-k
-overflow_mul-k c = omega (arith, in_table _ _ _ c.requires.0 _ _ c.last_fold-b.ensures c.last_number-n.ensures _ c.loop-i.invariant.0 c.loop-i-test.true)
-
 pub bounds-outcomes-k : goal.bounds-outcomes-k
 bounds-outcomes-k c = omega (arith, in_table _ _ _ c.requires.0 _ _ c.last_fold-b.ensures c.last_number-n.ensures _ c.loop-i.invariant.0 c.loop-i-test.true)
 
-pub overflow_add-taken : goal.overflow_add-taken
-overflow_add-taken c = omega (arith, in_table _ _ _ c.requires.0 _ _ c.last_fold-b.ensures c.last_number-n.ensures _ c.loop-i.invariant.0 c.loop-i-test.true)
-
 pub bounds-outcomes-k-in-loop-i : goal.bounds-outcomes-k-in-loop-i
 bounds-outcomes-k-in-loop-i c = omega (arith, in_table _ _ _ c.requires.0 _ _ c.last_fold-b.ensures c.last_number-n.ensures _ c.loop-i.invariant.0 c.loop-i-test.true)
-
-pub settled_at-quiet-requires : goal.settled_at-quiet-requires
-settled_at-quiet-requires c = c.requires.0.formed
-
-pub plan_at-plan-requires : goal.plan_at-plan-requires
-plan_at-plan-requires c = size _ c.requires.0.formed
 
 pub returns-then-job-gt0 : goal.returns-then-job-gt0
 returns-then-job-gt0 c = here_done _ _ _ c.requires.0 _ _ c.last_fold-b.ensures c.last_number-n.ensures _ _ c.loop-i.invariant c.loop-i-test.true _ _ (here _ _ _ c.requires.0 _ _ c.last_fold-b.ensures c.last_number-n.ensures _ _ c.loop-i.invariant c.loop-i-test.true _ _ _ _ _ c.load_entry-t.ensures c.of-at.ensures c.load_scene-x.ensures c.settled_at-quiet.ensures c.try_jobs-f.ensures) c.if-job-gt0.true (plan_is _ _ _ c.requires.0 _ _ c.last_fold-b.ensures c.last_number-n.ensures _ _ c.loop-i.invariant c.loop-i-test.true _ _ _ _ _ _ c.load_entry-t.ensures c.of-at.ensures c.load_scene-x.ensures c.settled_at-quiet.ensures c.plan_at-plan.ensures)

@@ -2,27 +2,11 @@
 use native.Mathlib.Omega.{arith}
 use mathlib.Core.Path.{◌≡◌, subst}
 use Rattle.controller.specs.Nights.{Quiet}
-use Rattle.controller.proofs.Decided.{size}
 use Rattle.controller.proofs.Turned.{quiet_more}
 use Rattle.controller.proofs.nights.skip.Goals as goal
 
-pub last_number-n-requires : goal.last_number-n-requires
-last_number-n-requires c = let h = size _ c.requires.0 in omega arith
-
-pub load_change-change-requires : goal.load_change-change-requires
-load_change-change-requires c = let h = size _ c.requires.0 in omega arith
-
-pub load_head-h-requires : goal.load_head-h-requires
-load_head-h-requires c = let h = size _ c.requires.0 in omega arith
-
 pub loop-i-init : goal.loop-i-init
 loop-i-init c = c.requires.1
-
-pub overflow_add-number : goal.overflow_add-number
-overflow_add-number c = omega (arith, c.loop-i-test.true)
-
-pub load_entry-t-requires : goal.load_entry-t-requires
-load_entry-t-requires c = (omega arith, size _ c.requires.0)
 
 pub returns-then-not-is_idle : goal.returns-then-not-is_idle
 returns-then-not-is_idle c = c.loop-i.invariant

@@ -1,12 +1,7 @@
 -- `drift` meets its contract. Assumes nothing.
 use Rattle.controller.proofs.Shows.{unread, shows_by}
 use Rattle.controller.proofs.Tallied.{mask_shown}
-use Rattle.controller.proofs.Answered.{told}
-use Rattle.controller.proofs.Decided.{size}
 use Rattle.controller.proofs.reads.drift.Goals as goal
-
-pub mask_of-m-requires : goal.mask_of-m-requires
-mask_of-m-requires c = size _ (told _ _ c.well_formed-2.ensures c.if-well_formed.true)
 
 pub returns-then-well_formed : goal.returns-then-well_formed
 returns-then-well_formed c = shows_by _ _ _ _ c.well_formed-2.ensures c.if-well_formed.true _ c.shows.ensures (mask_shown _ _ c.mask_of-m.ensures)

@@ -1,14 +1,7 @@
 -- `number_answer` meets its contract. Assumes nothing.
 use Rattle.controller.proofs.Shows.{number_unread, no_number, folded_number, kept_number}
-use Rattle.controller.proofs.Decided.{size}
 use Rattle.controller.proofs.Answered.{told}
 use Rattle.controller.proofs.reads.number_answer.Goals as goal
-
-pub last_number-n-requires : goal.last_number-n-requires
-last_number-n-requires c = size _ (told _ _ c.well_formed-2.ensures c.if-well_formed.true)
-
-pub last_fold-b-requires : goal.last_fold-b-requires
-last_fold-b-requires c = size _ (told _ _ c.well_formed-2.ensures c.if-well_formed.true)
 
 pub returns-then-b-number : goal.returns-then-b-number
 returns-then-b-number c = kept_number _ _ (told _ _ c.well_formed-2.ensures c.if-well_formed.true) _ _ c.last_number-n.ensures c.in_log.ensures c.if-in_log.true _ c.last_fold-b.ensures c.if-b-number.true

@@ -1,15 +1,6 @@
 -- `owner` meets its contract. Assumes nothing.
-use native.Mathlib.Omega.{arith}
 use Rattle.controller.proofs.Shows.{unread, shows_by, refuses_by, no_owner, owner_is, owner_folded}
-use Rattle.controller.proofs.Answered.{told}
-use Rattle.controller.proofs.Decided.{size}
 use Rattle.controller.proofs.reads.owner.Goals as goal
-
-pub load_value-k-requires : goal.load_value-k-requires
-load_value-k-requires c = omega (arith, size _ (told _ _ c.well_formed-2.ensures c.if-well_formed.true))
-
-pub last_fold-b-requires : goal.last_fold-b-requires
-last_fold-b-requires c = size _ (told _ _ c.well_formed-2.ensures c.if-well_formed.true)
 
 pub returns-then-b-k : goal.returns-then-b-k
 returns-then-b-k c = shows_by _ _ _ _ c.well_formed-2.ensures c.if-well_formed.true _ c.shows.ensures (owner_is _ _ c.if-path-lt32.true _ _ c.load_value-k.ensures c.last_fold-b.ensures c.if-b-k.true _ c.from.ensures)

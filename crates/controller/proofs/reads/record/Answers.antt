@@ -1,17 +1,6 @@
 -- `record` meets its contract. Assumes nothing.
-use Rattle.controller.proofs.Shows.{unread, shows_by, refuses_by, in_range, no_state_field, state_field_is}
-use Rattle.controller.proofs.Answered.{told}
-use native.Mathlib.Omega.{arith}
+use Rattle.controller.proofs.Shows.{unread, shows_by, refuses_by, no_state_field, state_field_is}
 use Rattle.controller.proofs.reads.record.Goals as goal
-
-pub state_numbers-a-requires : goal.state_numbers-a-requires
-state_numbers-a-requires c = told _ _ c.well_formed-2.ensures c.if-well_formed.true
-
-pub overflow_sub-k : goal.overflow_sub-k
-overflow_sub-k c = let h = in_range 18 c.args.field _ c.is_field.ensures c.if-is_field.true in omega arith
-
-pub bounds-a-k : goal.bounds-a-k
-bounds-a-k c = let h = in_range 18 c.args.field _ c.is_field.ensures c.if-is_field.true in omega arith
 
 pub returns-then-is_field : goal.returns-then-is_field
 returns-then-is_field c = shows_by _ _ _ _ c.well_formed-2.ensures c.if-well_formed.true _ c.shows.ensures (state_field_is _ _ c.is_field.ensures _ _ c.if-is_field.true c.state_numbers-a.ensures)

@@ -1,10 +1,6 @@
 -- `side_landed` meets its contract. Assumes nothing.
 use Rattle.controller.proofs.Shows.{side_landed}
-use native.Mathlib.Omega.{arith}
 use Rattle.controller.proofs.reads.side_landed.Goals as goal
-
-pub load_head-h-requires : goal.load_head-h-requires
-load_head-h-requires c = let h = c.requires in omega arith
 
 pub returns : goal.returns
 returns c = side_landed _ _ c.args.x _ _ c.load_head-h.ensures c.landed.ensures c.from.ensures

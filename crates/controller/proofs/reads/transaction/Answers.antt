@@ -1,24 +1,7 @@
 -- `transaction` meets its contract. Assumes nothing.
-use Rattle.controller.proofs.Shows.{unread, shows_by, refuses_by, in_range, no_entry_field, no_entry, folded_entry, entry_field_is}
-use Rattle.controller.proofs.Decided.{size, entry_here}
+use Rattle.controller.proofs.Shows.{unread, shows_by, refuses_by, no_entry_field, no_entry, folded_entry, entry_field_is}
 use Rattle.controller.proofs.Answered.{told, this_one}
-use native.Mathlib.Omega.{arith}
 use Rattle.controller.proofs.reads.transaction.Goals as goal
-
-pub last_number-n-requires : goal.last_number-n-requires
-last_number-n-requires c = size _ (told _ _ c.well_formed-2.ensures c.if-well_formed.true)
-
-pub last_fold-b-requires : goal.last_fold-b-requires
-last_fold-b-requires c = size _ (told _ _ c.well_formed-2.ensures c.if-well_formed.true)
-
-pub load_entry-requires : goal.load_entry-requires
-load_entry-requires c = entry_here _ _ (this_one _ (told _ _ c.well_formed-2.ensures c.if-well_formed.true) _ _ _ c.last_number-n.ensures c.in_log.ensures c.if-in_log.true _ c.last_fold-b.ensures c.if-b-number.true)
-
-pub overflow_sub-k : goal.overflow_sub-k
-overflow_sub-k c = let h = in_range 21 c.args.field _ c.is_field.ensures c.if-is_field.true in omega arith
-
-pub bounds-a-k : goal.bounds-a-k
-bounds-a-k c = let h = in_range 21 c.args.field _ c.is_field.ensures c.if-is_field.true in omega arith
 
 pub returns-then-b-number : goal.returns-then-b-number
 returns-then-b-number c = shows_by _ _ _ _ c.well_formed-2.ensures c.if-well_formed.true _ c.shows.ensures (entry_field_is _ _ _ c.is_field.ensures _ (told _ _ c.well_formed-2.ensures c.if-well_formed.true) c.if-is_field.true _ _ c.last_number-n.ensures c.in_log.ensures c.if-in_log.true _ c.last_fold-b.ensures c.if-b-number.true (this_one _ (told _ _ c.well_formed-2.ensures c.if-well_formed.true) _ _ _ c.last_number-n.ensures c.in_log.ensures c.if-in_log.true _ c.last_fold-b.ensures c.if-b-number.true) _ _ c.load_entry.ensures c.entry_numbers-a.ensures)

@@ -1,13 +1,9 @@
 -- `value` meets its contract. Assumes nothing.
-use Rattle.controller.proofs.Shows.{unread, shows_by, refuses_by, path_low, no_value, value_is}
+use Rattle.controller.proofs.Shows.{unread, shows_by, refuses_by, no_value, value_is}
 use Rattle.image.proofs.Tables.{table_room}
 use Rattle.controller.proofs.Answered.{told}
-use native.Mathlib.Omega.{arith}
 use Rattle.controller.proofs.Decided.{size}
 use Rattle.controller.proofs.reads.value.Goals as goal
-
-pub overflow_cast-path : goal.overflow_cast-path
-overflow_cast-path c = let h = path_low c.args.table c.args.path _ c.is_value.ensures c.if-is_value.true in omega arith
 
 pub load_value-v-requires : goal.load_value-v-requires
 load_value-v-requires c = table_room _ _ _ c.table_place-at.ensures (size _ (told _ _ c.well_formed-2.ensures c.if-well_formed.true))

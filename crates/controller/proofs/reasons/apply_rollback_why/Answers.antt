@@ -4,15 +4,7 @@ use mathlib.Core.Bool.{Bool}
 use Rattle.image.specs.View.{view}
 use Rattle.controller.specs.Reasons.{quiet_unless}
 use Rattle.controller.proofs.Explained.{ordinal_in_holds, rollback_11, rollback_15}
-use Rattle.controller.proofs.Decided.{entry_here, entry_size_holds}
-use native.Mathlib.Omega.{arith}
 use Rattle.controller.proofs.reasons.apply_rollback_why.Goals as goal
-
-pub load_entry-t-requires : goal.load_entry-t-requires
-load_entry-t-requires c = entry_here _ _ c.requires.0
-
-pub load_head-h-requires : goal.load_head-h-requires
-load_head-h-requires c = let h = entry_size_holds _ _ c.requires.0 in omega arith
 
 pub rollback_waits-requires : goal.rollback_waits-requires
 rollback_waits-requires c = ordinal_in_holds _ _ c.requires.0.formed c.load_head-h.ensures

@@ -1,24 +1,6 @@
 -- `asked` meets its contract. Assumes nothing.
-use Rattle.controller.proofs.Explained.{why_args, why_2, why_5, why_18, why_10, why_job}
-use Rattle.controller.proofs.Answered.{this_one}
-use Rattle.controller.proofs.Decided.{size}
-use native.Mathlib.Omega.{arith}
+use Rattle.controller.proofs.Explained.{why_2, why_5, why_18, why_10, why_job}
 use Rattle.controller.proofs.reasons.asked.Goals as goal
-
-pub last_number-n-requires : goal.last_number-n-requires
-last_number-n-requires c = let h = size _ c.requires in omega arith
-
-pub last_fold-b-requires : goal.last_fold-b-requires
-last_fold-b-requires c = let h = size _ c.requires in omega arith
-
-pub load_mastership-m-requires : goal.load_mastership-m-requires
-load_mastership-m-requires c = let h = size _ c.requires in omega arith
-
-pub overflow_cast-at : goal.overflow_cast-at
-overflow_cast-at c = omega (arith, (why_args c.args.node c.args.job _ c.args_ok.ensures c.if-args_ok.true).0.0, (why_args c.args.node c.args.job _ c.args_ok.ensures c.if-args_ok.true).0.1)
-
-pub by_job-requires : goal.by_job-requires
-by_job-requires c = (this_one _ c.requires _ _ _ c.last_number-n.ensures c.in_log.ensures c.if-in_log.true _ c.last_fold-b.ensures c.if-b-number.true, why_args c.args.node c.args.job _ c.args_ok.ensures c.if-args_ok.true)
 
 pub returns-then-m-at : goal.returns-then-m-at
 returns-then-m-at c = why_job _ c.requires _ _ _ _ c.args_ok.ensures _ c.if-args_ok.true _ _ c.last_number-n.ensures c.in_log.ensures c.if-in_log.true _ c.last_fold-b.ensures c.if-b-number.true _ c.load_mastership-m.ensures c.if-m-at.true c.by_job.ensures

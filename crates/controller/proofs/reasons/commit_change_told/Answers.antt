@@ -1,16 +1,8 @@
 -- `commit_change_told` meets its contract. Assumes nothing.
 use Rattle.controller.proofs.Explained.{change_finished, change_earlier, change_flight}
-use Rattle.controller.proofs.Decided.{entry_here, entry_size_holds}
-use native.Mathlib.Omega.{arith}
 use mathlib.Core.Path.{ap}
 use Prim.Native.Nat.{ℕ, ◌+◌}
 use Rattle.controller.proofs.reasons.commit_change_told.Goals as goal
-
-pub load_entry-t-requires : goal.load_entry-t-requires
-load_entry-t-requires c = entry_here _ _ c.requires
-
-pub load_change-change-requires : goal.load_change-change-requires
-load_change-change-requires c = let h = entry_size_holds _ _ c.requires in omega arith
 
 pub returns-then-commit_finished : goal.returns-then-commit_finished
 returns-then-commit_finished c = change_finished _ _ c.requires _ c.load_entry-t.ensures _ _ c.load_change-change.ensures _ c.commit_finished.ensures c.if-commit_finished.true c.gives.ensures

@@ -1,20 +1,12 @@
 -- `commit_rollback_told` meets its contract. Assumes nothing.
 use Rattle.controller.proofs.Explained.{rollback_finished, rollback_unasked, rollback_flight}
-use Rattle.controller.proofs.Decided.{entry_here, entry_size_holds}
-use native.Mathlib.Omega.{arith}
 use Rattle.controller.proofs.reasons.commit_rollback_told.Goals as goal
-
-pub load_entry-t-requires : goal.load_entry-t-requires
-load_entry-t-requires c = entry_here _ _ c.requires
 
 pub returns-then-done : goal.returns-then-done
 returns-then-done c = rollback_finished _ _ c.requires _ c.load_entry-t.ensures _ _ c.done.ensures c.if-done.true c.gives.ensures
 
 pub returns-then-code-eq0 : goal.returns-then-code-eq0
 returns-then-code-eq0 c = rollback_unasked _ _ c.requires _ c.load_entry-t.ensures _ _ c.done.ensures c.if-done.false _ c.code.ensures c.if-code-eq0.true c.gives-then-code-eq0.ensures
-
-pub load_head-h-requires : goal.load_head-h-requires
-load_head-h-requires c = let h = entry_size_holds _ _ c.requires in omega arith
 
 pub returns : goal.returns
 returns c = rollback_flight _ _ c.requires _ c.load_entry-t.ensures _ _ c.done.ensures c.if-done.false _ c.code.ensures _ _ _ c.if-code-eq0.false c.load_head-h.ensures c.get-v.ensures c.on_top.ensures c.flight_or.ensures

@@ -1,23 +1,10 @@
 -- `in_flight` meets its contract. Assumes nothing.
 use Rattle.controller.proofs.Explained.{flies_target, flies_lowest}
 use Rattle.controller.proofs.Decided.{size, fold_low}
-use native.Mathlib.Omega.{arith}
 use Rattle.controller.proofs.reasons.in_flight.Goals as goal
-
-pub load_change-c-requires : goal.load_change-c-requires
-load_change-c-requires c = let h = size _ c.requires in omega arith
-
-pub load_head-h-requires : goal.load_head-h-requires
-load_head-h-requires c = let h = size _ c.requires in omega arith
 
 pub returns-then-change-target : goal.returns-then-change-target
 returns-then-change-target c = flies_target _ _ _ _ _ c.load_change-c.ensures c.get-change.ensures c.load_head-h.ensures c.get-target.ensures c.if-change-target.true
-
-pub last_fold-b-requires : goal.last_fold-b-requires
-last_fold-b-requires c = let h = size _ c.requires in omega arith
-
-pub last_number-n-requires : goal.last_number-n-requires
-last_number-n-requires c = let h = size _ c.requires in omega arith
 
 pub lowest_going-requires : goal.lowest_going-requires
 lowest_going-requires c = (fold_low _ _ _ c.requires c.last_fold-b.ensures c.last_number-n.ensures, size _ c.requires)

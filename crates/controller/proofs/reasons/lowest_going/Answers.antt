@@ -8,15 +8,6 @@ use Rattle.controller.proofs.reasons.lowest_going.Goals as goal
 pub loop-i-init : goal.loop-i-init
 loop-i-init c = (search rules, (search rules, refl))
 
-pub overflow_add-i : goal.overflow_add-i
-overflow_add-i c = omega (arith, c.loop-i-test.true)
-
-pub load_entry-t-requires : goal.load_entry-t-requires
-load_entry-t-requires c = (omega arith, c.requires.1)
-
-pub overflow_add-result : goal.overflow_add-result
-overflow_add-result c = omega (arith, c.loop-i-test.true)
-
 pub returns-then-commit_goes : goal.returns-then-commit_goes
 returns-then-commit_goes c = goes_here _ _ _ _ _ c.loop-i.invariant c.loop-i-test.true _ _ c.load_entry-t.ensures c.commit_goes.ensures c.if-commit_goes.true
 

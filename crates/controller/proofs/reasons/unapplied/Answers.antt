@@ -1,10 +1,6 @@
 -- `unapplied` meets its contract. Assumes nothing.
 use Rattle.controller.proofs.Explained.{uncommitted, before_it, none_fits}
-use native.Mathlib.Omega.{arith}
 use Rattle.controller.proofs.reasons.unapplied.Goals as goal
-
-pub unsettled-k-requires : goal.unsettled-k-requires
-unsettled-k-requires c = omega (arith, c.get.ensures, c.requires)
 
 pub returns-then-k-get : goal.returns-then-k-get
 returns-then-k-get c = before_it c.args.x c.args.a c.args.quiet _ c.complete.ensures _ c.if-complete.true _ _ _ c.get.ensures c.unsettled-k.ensures c.get-then-complete.ensures c.if-k-get.true c.gives.ensures

@@ -2,14 +2,7 @@
 use Prim.Native.Nat.{◌-◌}
 use native.Mathlib.Omega.{arith}
 use Rattle.controller.proofs.Tallied.{counting_none, counting_more, counting_done, counted_low, class_here, class_place}
-use Rattle.controller.proofs.Decided.{size}
 use Rattle.controller.proofs.tallies.counts_of.Goals as goal
-
-pub last_number-n-requires : goal.last_number-n-requires
-last_number-n-requires c = size _ c.requires
-
-pub last_fold-b-requires : goal.last_fold-b-requires
-last_fold-b-requires c = size _ c.requires
 
 pub loop-i-init : goal.loop-i-init
 loop-i-init c = counting_none _ c.requires _ c.last_fold-b.ensures
@@ -19,9 +12,6 @@ load_class-requires c = class_here _ c.requires _ _ c.loop-i.invariant _ _ c.las
 
 pub overflow_sub-k : goal.overflow_sub-k
 overflow_sub-k c = omega (arith, (class_place _ _ _ c.load_class.ensures).0)
-
-pub overflow_cast-k : goal.overflow_cast-k
-overflow_cast-k c = omega (arith, (class_place _ _ _ c.load_class.ensures).1)
 
 pub bounds-a-k : goal.bounds-a-k
 bounds-a-k c = omega (arith, (class_place _ _ _ c.load_class.ensures).1)

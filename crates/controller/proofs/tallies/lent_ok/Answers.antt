@@ -1,10 +1,7 @@
 -- `lent_ok` meets its contract. Assumes nothing.
 use mathlib.Core.Path.{refl}
-use Rattle.controller.proofs.Tallied.{place_low, no_place, no_totals, totals_told}
+use Rattle.controller.proofs.Tallied.{no_place, no_totals, totals_told}
 use Rattle.controller.proofs.tallies.lent_ok.Goals as goal
-
-pub overflow_sub-log : goal.overflow_sub-log
-overflow_sub-log c = place_low c.args.log c.args.totals.now c.if-log.true
 
 pub returns-then-totals-eq12 : goal.returns-then-totals-eq12
 returns-then-totals-eq12 c = totals_told c.args.log c.args.totals.now c.if-log.true c.if-totals-eq12.true _ _ _ _ c.from-most.ensures refl c.total_of.ensures refl

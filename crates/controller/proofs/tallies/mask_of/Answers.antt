@@ -1,17 +1,10 @@
 -- `mask_of` meets its contract. Assumes nothing.
 use mathlib.Core.Path.{refl}
-use native.Mathlib.Omega.{arith}
 use Rattle.controller.proofs.Tallied.{masking_none, masking_room, masking_more, masking_done}
 use Rattle.controller.proofs.tallies.mask_of.Goals as goal
 
 pub loop-k-init : goal.loop-k-init
 loop-k-init c = masking_none _
-
-pub load_value-v-requires : goal.load_value-v-requires
-load_value-v-requires c = omega (arith, c.requires)
-
-pub load_value-w-requires : goal.load_value-w-requires
-load_value-w-requires c = omega (arith, c.requires)
 
 pub with_path-mask-requires : goal.with_path-mask-requires
 with_path-mask-requires c = masking_room _ _ _ c.loop-k.invariant c.loop-k-test.true

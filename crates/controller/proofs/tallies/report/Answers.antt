@@ -1,11 +1,7 @@
 -- `report` meets its contract. Assumes nothing.
 use mathlib.Core.Path.{refl}
 use Rattle.controller.proofs.Tallied.{fits, reported, not_formed}
-use Rattle.controller.proofs.Answered.{told}
 use Rattle.controller.proofs.tallies.report.Goals as goal
-
-pub row-r-requires : goal.row-r-requires
-row-r-requires c = told _ _ c.well_formed-2.ensures c.if-well_formed.true
 
 pub add-requires : goal.add-requires
 add-requires c = fits _ _ _ c.well_formed-2.ensures _ c.if-well_formed.true c.row-r.ensures c.requires

@@ -1,10 +1,6 @@
 -- `hop` meets its contract. Assumes nothing.
 use Rattle.controller.proofs.Walked.{hop_is}
-use Rattle.controller.proofs.Decided.{entry_here}
 use Rattle.controller.proofs.walking.hop.Goals as goal
-
-pub load_entry-t-requires : goal.load_entry-t-requires
-load_entry-t-requires c = entry_here _ _ c.requires
 
 pub returns : goal.returns
 returns c = hop_is _ _ c.requires _ _ c.load_entry-t.ensures c.get.ensures

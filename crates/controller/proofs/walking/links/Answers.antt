@@ -2,20 +2,11 @@
 use Prim.Native.Nat.{◌+◌, ◌-◌}
 use mathlib.Core.Path.{◌≡◌}
 use native.Mathlib.Omega.{arith}
-use Rattle.controller.proofs.Walked.{linking_none, link_here, linking_entry, linking_more, linking_done}
+use Rattle.controller.proofs.Walked.{linking_none, link_here, linking_more, linking_done}
 use Rattle.controller.proofs.walking.links.Goals as goal
 
 pub loop-i-init : goal.loop-i-init
 loop-i-init c = linking_none _ _ _ c.requires.0 _ c.requires.1
-
-pub overflow_sub-k : goal.overflow_sub-k
-overflow_sub-k c = omega (arith, c.loop-i.invariant.low, c.loop-i-test.true)
-
-pub hop-requires : goal.hop-requires
-hop-requires c = let z : c.loop-i.i - 1 + 1 ≡ c.loop-i.i = omega (arith, c.loop-i-test.true) in rw z (linking_entry _ _ _ c.requires.0 _ _ c.loop-i.invariant c.loop-i-test.true)
-
-pub offset_bounds-chain-k : goal.offset_bounds-chain-k
-offset_bounds-chain-k c = let h = link_here _ _ _ c.requires.0 _ _ c.loop-i.invariant c.loop-i-test.true in omega arith
 
 pub bounds-chain-k : goal.bounds-chain-k
 bounds-chain-k c = let h = link_here _ _ _ c.requires.0 _ _ c.loop-i.invariant c.loop-i-test.true in omega arith

@@ -3,16 +3,8 @@ use Prim.Native.Nat.{ℕ}
 use lib.ListN.{length-replicate}
 use Rattle.image.specs.Layout.{slots}
 use Rattle.controller.proofs.Walked.{revision_chained, begins, table_size_holds, fits_table, fits_room, listed, not_listed}
-use Rattle.controller.proofs.Decided.{size}
 use mathlib.Core.Path.{refl}
-use native.Mathlib.Omega.{arith}
 use Rattle.controller.proofs.walking.list.Goals as goal
-
-pub load_head-h-requires : goal.load_head-h-requires
-load_head-h-requires c = let h = size _ c.requires in omega arith
-
-pub last_fold-b-requires : goal.last_fold-b-requires
-last_fold-b-requires c = let h = size _ c.requires in omega arith
 
 pub links-requires : goal.links-requires
 links-requires c = (revision_chained _ c.requires _ _ _ c.load_head-h.ensures c.get-v.ensures c.last_fold-b.ensures, length-replicate {A = ℕ} slots 0)
