@@ -37,7 +37,7 @@ use Rattle.image.specs.Records.{entry_at, put_entry_at, last_of, folded_of, conf
 use Rattle.image.specs.Layout.{slots, highest}
 use Rattle.image.specs.View.{table_of, view, write, written}
 use Rattle.image.specs.Formed.{formed}
-use Rattle.image.proofs.UpTo.{and_left, and_right}
+use Rattle.image.proofs.UpTo.{and_right}
 use Rattle.image.specs.Promises.{WritesDiffering}
 use Rattle.image.proofs.Kept.{table_kept}
 use Rattle.image.proofs.Shown.{configuration_outside, written_append}
@@ -290,15 +290,6 @@ module _ (l : List ℕ) (w : formed l ≡ true) (i n : ℕ) (k : Bool) (en : n �
 pub work_2 : (l : List ℕ) (i a j o c : ℕ) (fit : Bool) (r : Reply) → fit ≡ work_ok a j o c → fit ≡ false → r ≡ refusal 2 → Does l (work a j i o c) r l
 unfolding decide
 work_2 l i a j o c fit r ef t p = refuses l (work a j i o c) 2 r (rw (← ef, t)) p
-
--- node, job, outcome and cut in range: so is the node
-pub node_in : (a j o c : ℕ) (fit : Bool) → fit ≡ work_ok a j o c → fit ≡ true → (1 ≤ a) × (a ≤ 8)
-node_in a j o c fit e t =
-    let b : is_node a ≡ true = and_left _ _ (and_left (is_node a && (leb 1 j && leb j 4)) _ (sym e ∙ t)) in
-    (leb-true _ _ (and_left _ _ b), leb-true _ _ (and_right (leb 1 a) _ b))
-
-pub node_is : (n : ℕ) (b : Bool) → b ≡ is_node n → b ≡ true → (1 ≤ n) × (n ≤ 8)
-node_is n b e t = let z : is_node n ≡ true = sym e ∙ t in (leb-true _ _ (and_left _ _ z), leb-true _ _ (and_right (leb 1 n) _ z))
 
 -- ---- append
 module _ (l b : List ℕ) (y : AllBytes b) (v : Bool) (r : Reply) (ev : v ≡ valid_bytes b) where

@@ -4,7 +4,7 @@ use mathlib.Core.Path.{◌≡◌, refl, ap, ap₂, sym, ◌∙◌}
 use mathlib.Core.Bool.{Bool, true, false, not, ◌&&◌, ◌||◌, cond}
 use mathlib.Core.List.{List, [], ◌∷◌, ◌++◌}
 use native.Mathlib.Omega.{arith}
-use borrow.Author.Tests.{eq-eqb, ne_eqb, lt-ltb, le-ltb, leb-true}
+use borrow.Author.Tests.{eq-eqb, ne_eqb, lt-ltb, le-ltb}
 use lib.Dec.{eqb, leb, ltb}
 use Rattle.kinds.specs.declared.Transaction.{Transaction}
 use Rattle.kinds.specs.declared.Head.{Head}
@@ -32,7 +32,7 @@ use Rattle.image.specs.Layout.{committed_at, applied_at}
 use Rattle.image.specs.Records.{entry_at, last_of, folded_of, change_of, head_at, mastership_of}
 use Rattle.image.specs.View.{up_to, up_from, view}
 use Rattle.image.specs.Formed.{formed}
-use Rattle.image.proofs.UpTo.{up_to_same, and_left, and_right}
+use Rattle.image.proofs.UpTo.{up_to_same}
 use Rattle.image.proofs.Scanned.{formed_state}
 use Rattle.controller.specs.declared.reasons.Why.{Why}
 use Rattle.controller.specs.Claims.{Entry}
@@ -385,13 +385,6 @@ module _ (s : State) (n j i : ℕ) (r : Why) where
   of_4 a b d m q = let e : 4 ≡ j = omega (arith, m.0, m.1) in q ∙ ap₂ (λ (p : Plan) (m : ℕ). explained s p m i) (plan_4 s n j i false (job4 s n i false) a b d refl) e
 
 -- ---- the refusals
-pub why_args : (a j : ℕ) (fit : Bool) → fit ≡ (is_node a && (leb 1 j && leb j 4)) → fit ≡ true → ((1 ≤ a) × (a ≤ 8)) × ((1 ≤ j) × (j ≤ 4))
-why_args a j fit e t =
-    let z : (is_node a && (leb 1 j && leb j 4)) ≡ true = sym e ∙ t in
-    let b : is_node a ≡ true = and_left (is_node a) _ z in
-    let d : (leb 1 j && leb j 4) ≡ true = and_right (is_node a) _ z in
-    ((leb-true _ _ (and_left _ _ b), leb-true _ _ (and_right (leb 1 a) _ b)), (leb-true _ _ (and_left _ _ d), leb-true _ _ (and_right (leb 1 j) _ d)))
-
 module _ (l : List ℕ) (w : formed l ≡ true) (a j i : ℕ) (fit : Bool) (ef : fit ≡ (is_node a && (leb 1 j && leb j 4))) (r : Why) where
   pub why_2 : fit ≡ false → r ≡ refuses 2 → r ≡ given (why (view l) a j i)
   unfolding why

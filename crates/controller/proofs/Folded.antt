@@ -37,7 +37,7 @@ use Rattle.controller.specs.Live.{live_from, Chained, Reaches, ListedIn}
 use Rattle.controller.proofs.Decided.{entry_here, this_entry, last_is}
 use Rattle.image.proofs.Shown.{written_append}
 use Rattle.controller.proofs.Performed.{rows_on}
-use Rattle.controller.proofs.Walked.{as_entry, live_more, live_is, lower, chain_in}
+use Rattle.controller.proofs.Walked.{live_more, live_is, lower, chain_in}
 use Rattle.controller.proofs.Answered.{refuses, accepts}
 
 -- ---- what is asked of the entries
@@ -83,10 +83,6 @@ pub finished_else : (t : Transaction) (x : Bool) → x ≡ is_complete t.change.
     → (a : Bool) → a ≡ is_failed t.change.commit → (d : Bool) → d ≡ done t.rollback.apply → (a || d) ≡ finished t
 finished_else t x e h a p d q =
     ap₂ ◌||◌ p q ∙ ap (λ (b : Bool). is_failed t.change.commit || (b || done t.rollback.apply)) (sym (ap (λ (y : Bool). y && eqb t.phase 1) (sym e) ∙ h))
-
-pub finished_at_of : (l : List ℕ) (k : ℕ) (t : Transaction) (x y : Bool) → t ≡ entry_at l k → x ≡ finished t → x ≡ y → finished_at l k ≡ y
-unfolding finished_at
-finished_at_of l k t x y e p q = ap finished (sym e) ∙ sym p ∙ q
 
 waits_all : (l : List ℕ) (a g : ℕ) → all_entries (entry_waits a g) (view l).log ≡ all_kept (waits_at l a g) (folded_of l) (last_of l)
 unfolding waits_at
@@ -148,9 +144,6 @@ module _ (l : List ℕ) (b to v : ℕ) where
   down_reaches i d h = record { chained = d.0; low = h; same = d.1 }
 
   module _ (i : ℕ) (d : Down i) (low : b ≤ to) (h : to < i) where
-    pub down_entry : Entry l i
-    down_entry = as_entry l b i d.0 (omega arith)
-
     pub down_more : (j : ℕ) → (j ≡ (entry_of (view l).log i).index.0) × (j < i) → Down j
     unfolding base_row
     down_more j e =

@@ -235,19 +235,7 @@ one q n (suc d) a (undoes p) rest s l h = go (leb 1 (suc d)) (le-leb 1 (suc d) (
 one q n d a neither rest s l h = record { on = λ f. absurd (omega arith); stop = λ f. refl }
 
 module _ (b : List ℕ) (k n d : ℕ) (a : List ℕ) (j : Judging b k n d a) where
-  pub top_inside : d < length a
-  top_inside = let s = j.size in let l = j.low in let h = j.high in omega arith
-
-  pub next_inside : d + 1 < length a
-  next_inside = let s = j.size in let l = j.low in let h = j.high in omega arith
-
-  pub depth_low : (n ≤ 128) × (d ≤ 128)
-  depth_low = let l = j.low in let h = j.high in (h, omega arith)
-
   module _ (h : k < length b / entry_size) where
-    pub entry_placed : Listed b → (at : ℕ) → at ≡ entry_size * k → Placed b at
-    entry_placed p at e = (let z = p.1 in omega arith, p.0)
-
     rest : List Entry
     rest = entries_from b (suc k) (length b / entry_size - suc k)
 

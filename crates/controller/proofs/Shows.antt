@@ -59,9 +59,6 @@ in_range n f b e t =
 
 -- ---- values
 module _ (b p : ℕ) (k : Bool) (ek : k ≡ (is_field 4 b && ltb p 32)) where
-  pub path_low : k ≡ true → p < 32
-  path_low t = ltb-true p 32 (and_right (is_field 4 b) _ (sym ek ∙ t))
-
   pub no_value : (s : State) → k ≡ false → read s (of_table b p) ≡ refuses 2
   unfolding read
   no_value s t = let z : (is_field 4 b && ltb p 32) ≡ false = sym ek ∙ t in ap (λ (x : Bool). reads.unless 2 x (shows (get_or (table_numbers s b) p 0))) z
@@ -284,9 +281,6 @@ module _ (n f : ℕ) (k : Bool) (ek : k ≡ (is_node n && is_field 2 f)) where
 
     pub node_low : (1 ≤ n) × (n ≤ 8)
     node_low = in_range 8 n (is_node n) refl (and_left _ _ fits)
-
-    pub node_field_low : (1 ≤ f) × (f ≤ 2)
-    node_field_low = in_range 2 f (is_field 2 f) refl (and_right (is_node n) _ fits)
 
     pub node_field_is : (l : List ℕ) (x : Connection) (a : List ℕ) → x ≡ node_of (connections_of l) n → a ≡ node_numbers x
         → read (view l) (of_node n f) ≡ shows (get_or a (f - 1) 0)

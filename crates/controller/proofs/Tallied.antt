@@ -16,7 +16,7 @@ use Rattle.machine.specs.Differ.{differ}
 use Rattle.machine.specs.Stores.{of_committed, of_applied}
 use Rattle.machine.specs.Sheet.{counted, counts, mask_to, mask_of, row_of, added, together}
 use Rattle.machine.specs.Reads.{of_drift, shows, read}
-use Rattle.machine.proofs.Sheeted.{class_low, counts_all, counted_more, mask_low, mask_ones, differ_few, six_counts, in_one_class}
+use Rattle.machine.proofs.Sheeted.{class_low, counts_all, counted_more, mask_low, mask_ones, six_counts, in_one_class}
 use Rattle.fields.specs.Field.{field, fields_at, put_fields, twos}
 use Rattle.fields.specs.Promises.{GetsFour, Gets, PutsFour, Puts}
 use Rattle.fields.proofs.Runs.{Fit, puts_same}
@@ -99,9 +99,6 @@ module _ (k : ℕ) (m : List ℕ) where
   no_place e = rw e
 
   module _ (e : (leb 1 k && leb k 64) ≡ true) where
-    pub place_low : 1 ≤ k
-    place_low = leb-true 1 k (and_left _ _ e)
-
     pub no_totals : (length m ≡ 12 → ⊥) → false ≡ lent_ok k m
     unfolding lent_ok
     no_totals h = rw (e, ne_eqb (length m) 12 h)
@@ -267,9 +264,6 @@ masking_done l (suc k) mask q h = absurd (omega arith)
 module _ (l : List ℕ) (mask : ℕ) (em : mask ≡ mask_of (view l)) where
   drift_is : ones mask ≡ differ 32 (view l).committed.values (view l).applied.values
   drift_is = ap ones em ∙ mask_ones (view l).committed.values (view l).applied.values 32
-
-  pub drift_low : ones mask ≤ 32
-  drift_low = omega (arith, drift_is, differ_few (view l).committed.values (view l).applied.values 32)
 
   -- ---- a log's line
   pub row_is : (cs : List ℕ) (drift : ℕ) → cs ≡ counts (view l).log.entries → drift ≡ ones mask

@@ -5,7 +5,7 @@ use mathlib.Core.Path.{◌≡◌, refl, ap, ap₂, sym, ◌∙◌, subst}
 use mathlib.Core.Bool.{Bool, true, false, ◌&&◌, ◌||◌, cond}
 use mathlib.Core.List.{List, [], ◌∷◌}
 use native.Mathlib.Omega.{arith}
-use borrow.Author.Tests.{eqb-true, eqb-false, eq-eqb, ne_eqb, le-leb, lt-leb, leb-true, lt-ltb, le-ltb, ltb-false}
+use borrow.Author.Tests.{eqb-true, eqb-false, eq-eqb, ne_eqb, le-leb, lt-leb, lt-ltb, le-ltb, ltb-false}
 use lib.Dec.{eqb, leb, ltb}
 use lib.ListN.{length, get_or}
 use Rattle.std.specs.List.{list_all}
@@ -46,7 +46,7 @@ use Rattle.image.specs.Layout.{committed_at, applied_at, image_length}
 use Rattle.image.specs.Records.{entry_at, last_of, folded_of, change_of, head_at, mastership_of}
 use Rattle.image.specs.View.{view, written}
 use Rattle.image.specs.Formed.{formed}
-use Rattle.image.proofs.Scanned.{formed_length, formed_state}
+use Rattle.image.proofs.Scanned.{formed_state}
 use Rattle.image.proofs.UpTo.{and_left, and_right}
 use Rattle.staying.proofs.Stays.{steps, shows, stays_bytes, stays_formed}
 use Rattle.controller.specs.declared.nights.Night.{Night}
@@ -607,9 +607,6 @@ module _ (l os room : List ℕ) (n : ℕ) where
     made : Turned l os n k m
     made = g.0
 
-    pub gone_length : Awake l n os → length m ≡ length l
-    gone_length w = formed_length m made.awake.formed ∙ sym (formed_length l w.formed)
-
     -- the turn that the state after k turns makes is the one that the image shows
     seen : (cs : List Call) → turn (view m) os n ≡ cs → turn (state_from (view l) (turns (view l) os n k)) os n ≡ cs
     seen cs e = ap (λ (s : State). turn s os n) (sym made.state) ∙ e
@@ -712,9 +709,6 @@ module _ (l os room : List ℕ) (n : ℕ) where
         stays : (m' ≡ m) × (r' ≡ r)
         stays = y.kept (sym its_job ∙ z)
 
-        pub turn_none : Gone l os room n k m' r'
-        turn_none = subst (λ (a : List ℕ). Gone l os room n k a r') (sym stays.0) (subst (λ (a : List ℕ). Gone l os room n k m a) (sym stays.1) g)
-
     -- ---- the end
     module _ (b j x : ℕ) (p : k ≤ b) where
       over : turns (view l) os n b ≡ turns (view l) os n k → j ≡ why_stopped (view m) os n → x ≡ fitting k (length r)
@@ -788,9 +782,6 @@ module _ (os : List ℕ) (n b : ℕ) (x : Bool) (ex : x ≡ night_ok n b os) (f 
   node_ok : is_node n ≡ true
   node_ok = and_left (is_node n) (leb b 4096) (and_left (is_node n && leb b 4096) (table_ok os) ok)
 
-  pub night_node : (1 ≤ n) × (n ≤ 8)
-  night_node = (leb-true 1 n (and_left (leb 1 n) (leb n 8) node_ok), leb-true n 8 (and_right (leb 1 n) (leb n 8) node_ok))
-
   pub night_awake : (l : List ℕ) → formed l ≡ true → (g : Mastership) → g ≡ mastership_of l → g.master ≡ n → Awake l n os
   unfolding view
   night_awake l w g eg q =
@@ -800,7 +791,3 @@ module _ (os : List ℕ) (n b : ℕ) (x : Bool) (ex : x ≡ night_ok n b os) (f 
         table = and_right (is_node n && leb b 4096) (table_ok os) ok;
         master = ap (λ (z : Mastership). eqb z.master n) (sym eg) ∙ eq-eqb _ n q;
       }
-
--- what a turn asks of the node
-pub awake_node : (l os : List ℕ) (n : ℕ) → Awake l n os → (1 ≤ n) × (n ≤ 8)
-awake_node l os n w = (leb-true 1 n (and_left (leb 1 n) (leb n 8) w.node), leb-true n 8 (and_right (leb 1 n) (leb n 8) w.node))

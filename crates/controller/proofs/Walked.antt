@@ -194,9 +194,6 @@ module _ (l : List ℕ) (b v : ℕ) (c : Chained l b v) (t : List ℕ) where
     pub link_here : b < i → v - i < slots
     link_here h = let k = g.low in omega (arith, places l b v c)
 
-    pub linking_entry : b < i → Entry l i
-    linking_entry h = let k = g.low in let m = c.last in let f = c.folded in record { formed = c.formed; kept = omega arith; last = omega arith }
-
     pub linking_more : b < i → (x : ℕ) → x ≡ (entry_of (view l).log i).index.0 → Linking l v (set t (v - i) x) (i - 1)
     linking_more n x q =
         record {
@@ -245,12 +242,6 @@ pub walks_none : (t : List ℕ) (top b v at : ℕ) → v ≤ b → Walks t top b
 walks_none t top b v at h l k = (counted_none l b v k.chained h, sym (ap (sets t at) (none_from l b v k.chained h)))
 
 module _ (t : List ℕ) (top b v at : ℕ) (p : Passing t top b v at) (n : b < v) where
-  pub link_place : top - v < slots
-  link_place = let m = p.places in let h = p.passed in omega arith
-
-  pub list_place : at < slots
-  list_place = let m = p.places in let h = p.passed in omega arith
-
   pub falls_here : get_or t (top - v) 0 < v
   falls_here = (hops_to p.image b top v t p.linked n).1
 
@@ -298,9 +289,6 @@ module _ (m list : List ℕ) (n : ℕ) (z : (length list ≡ slots) × ((n ≤ s
   putting_none = record { low = omega arith; size = refl; whole = refl }
 
   module _ (r : List ℕ) (k : ℕ) (g : Putting m list n r k) where
-    pub number_here : k < n → 2 * k + 2 ≤ length r
-    number_here h = let e = g.size in let y = z.1.1 in omega arith
-
     pub putting_more : k < n → (r' : List ℕ) → r' ≡ set (set r (2 * k) (get_or list k 0 % 256)) (2 * k + 1) (get_or list k 0 / 256) → Putting m list n r' (k + 1)
     unfolding in_bytes
     putting_more h r' e =
