@@ -732,12 +732,9 @@ module _ (l os room : List ℕ) (n : ℕ) where
           (subst (λ (a : List ℕ). Through l n b os room (record { answer = 0; jobs = k; stopped = j; events = x }) m a) (sym q.1) o)
 
       -- the budget spent
-      pub over_spent : b ≤ k → j ≡ why_stopped (view m) os n → x ≡ fitting b (length r)
-          → Through l n b os room (record { answer = 0; jobs = b; stopped = j; events = x }) m r
-      over_spent q ej ex =
-          let z : b ≡ k = omega arith in
-          subst (λ (i : ℕ). Through l n b os room (record { answer = 0; jobs = i; stopped = j; events = x }) m r) (sym z)
-          (over (ap (turns (view l) os n) z) ej (ex ∙ ap (λ (i : ℕ). fitting i (length r)) z))
+      pub over_spent : b ≤ k → j ≡ why_stopped (view m) os n → x ≡ fitting k (length r)
+          → Through l n b os room (record { answer = 0; jobs = k; stopped = j; events = x }) m r
+      over_spent q ej ex = let z : b ≡ k = omega arith in over (ap (turns (view l) os n) z) ej ex
 
 -- ---- the call
 module _ (l os m : List ℕ) (n b : ℕ) (r : Night) where

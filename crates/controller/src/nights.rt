@@ -451,7 +451,9 @@ fn through(s: &mut [u8], node: u16, budget: u16, outcomes: &[u8], events: &mut [
 {
     let at = node as u8;
     let mut low = last_fold(s);
-    for k in 0..budget {
+    let mut k: u16 = 0;
+    // no for: over 0..budget the night takes 16 bytes of stack more, which is above its limit
+    while k < budget {
         low = skip(s, low);
         let t = turn(s, at, outcomes, low, events, k);
         if t.job == 0 {
@@ -462,12 +464,13 @@ fn through(s: &mut [u8], node: u16, budget: u16, outcomes: &[u8], events: &mut [
                 events: fitting(k, events.len()),
             };
         }
+        k += 1;
     }
     Night {
         answer: 0,
-        jobs: budget,
+        jobs: k,
         stopped: why_stopped(s, at, outcomes, low),
-        events: fitting(budget, events.len()),
+        events: fitting(k, events.len()),
     }
 }
 
