@@ -93,7 +93,7 @@ impl Field for u32 {
     }
 
     fn put_bytes(self, bytes: &mut [u8]) {
-        bytes.copy_from_slice(&self.to_le_bytes());
+        bytes.copy_from_slice(&u32::to_le_bytes(self));
     }
 }
 
