@@ -1,6 +1,6 @@
 // The record of a log (order 11): its image from standard input; on standard output a line for each change kept, then what
-// is folded, then the changes that the switch holds. What is written is made by functions on slices; the reads and the
-// write themselves, of which no contract can say what the system gives or takes, stand in `run` alone.
+// is folded, then the changes that the switch holds. What is written is made by functions on slices; the reads and
+// writes themselves, of which no contract can say what the system gives or takes, stand in `read_all`, `run` and `main` alone.
 #![tactic(auto)]
 
 ghost use Rattle.std.specs.Prelude.{◌+◌, ◌*◌, ◌-◌, ◌≤◌, ◌<◌, ◌≡◌, true, not, ◌&&◌, eqb, length, get_or, IfOk};
@@ -150,13 +150,28 @@ fn report(input: &[u8], out: &mut [u8]) -> usize
     lines::write_unformed(out, 0)
 }
 
+// Reads until the buffer is full or the input ends: a read that brings nothing is its end. Answers how much was read. It is not
+// the library's copy, which reads 8,192 bytes at a time: of a socket that keeps messages apart the rest of a longer one is lost.
+fn read_all<R: Read>(from: &mut R, input: &mut [u8]) -> io::Result<usize>
+    ensures { IfOk result (λ n. n ≤ length input.new) }
+{
+    let end = input.len();
+    let mut used = 0;
+    while used < end {
+        let n = from.read(&mut input[used..end])?;
+        if n == 0 {
+            return Ok(used);
+        }
+        used += n;
+    }
+    Ok(used)
+}
+
 fn run(rt: &HostRuntime) -> Result<(), Failure> {
     let mut input = [0u8; INPUT];
     let mut out = [0u8; RECORD];
-    let mut from = rt.stdin().take(INPUT as u64);
-    let mut room = &mut input[..];
-    let length = io::copy(&mut from, &mut room).map_err(|_| Failure::Unread)?;
-    let n = report(&input[..INPUT.min(length as usize)], &mut out);
+    let length = read_all(&mut rt.stdin(), &mut input).map_err(|_| Failure::Unread)?;
+    let n = report(&input[..length], &mut out);
     rt.stdout()
         .write_all(&out[..n])
         .map_err(|_| Failure::Unwritten)

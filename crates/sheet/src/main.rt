@@ -1,7 +1,7 @@
 // The handover sheet (order 11): images from standard input, one after another; a line for each log on standard output, in
 // turn, and then the totals. It keeps the input, which is 64 images and the byte that tells of a 65th log, and the text. The
 // text is made by functions on slices; the reads and writes themselves, of which no contract can say what the system gives or
-// takes, stand in `run` alone.
+// takes, stand in `read_all`, `run` and `main` alone.
 #![tactic(auto)]
 
 ghost use Rattle.std.specs.Prelude.{◌+◌, ◌*◌, ◌≤◌, ◌≡◌, length, replicate, IfOk};
@@ -90,14 +90,29 @@ fn report(input: &[u8], out: &mut [u8]) -> usize
     put_totals(&totals, out, used)
 }
 
+// Reads until the buffer is full or the input ends: a read that brings nothing is its end. Answers how much was read. It is not
+// the library's copy, which reads 8,192 bytes at a time: of a socket that keeps messages apart the rest of a longer one is lost.
+fn read_all<R: Read>(from: &mut R, input: &mut [u8]) -> io::Result<usize>
+    ensures { IfOk result (λ n. n ≤ length input.new) }
+{
+    let end = input.len();
+    let mut used = 0;
+    while used < end {
+        let n = from.read(&mut input[used..end])?;
+        if n == 0 {
+            return Ok(used);
+        }
+        used += n;
+    }
+    Ok(used)
+}
+
 // Of an input that was not read whole, nothing is written.
 fn run(rt: &HostRuntime) -> Result<(), Failure> {
     let mut input = [0u8; INPUT];
     let mut out = [0u8; TEXT];
-    let mut from = rt.stdin().take(INPUT as u64);
-    let mut room = &mut input[..];
-    let length = io::copy(&mut from, &mut room).map_err(|_| Failure::Unread)?;
-    let used = report(&input[..INPUT.min(length as usize)], &mut out);
+    let length = read_all(&mut rt.stdin(), &mut input).map_err(|_| Failure::Unread)?;
+    let used = report(&input[..length], &mut out);
     rt.stdout()
         .write_all(&out[..used])
         .map_err(|_| Failure::Unwritten)
