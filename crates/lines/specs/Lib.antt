@@ -7,4 +7,5 @@ pub mod Reading
 pub mod Handed
 pub mod Replies
 pub mod Record
+pub mod Failures
 pub mod Promises
