@@ -2,7 +2,7 @@
 #![tactic(auto)]
 
 ghost use Rattle.std.specs.Prelude.{◌≡◌, ℕ, ◌+◌, ◌*◌, ◌≤◌, List, length, map};
-ghost use Rattle.fields.specs.Field.{field, put_field, four};
+ghost use Rattle.fields.specs.Field.{four};
 ghost use Rattle.fields.specs.Promises.{Gets, GetsFour, Puts, PutsFour};
 ghost use Rattle.fields.specs.Numbers.{numbers_are, number_tells};
 
@@ -20,11 +20,11 @@ pub trait Field: Copy {
 
     fn of_bytes(bytes: &[u8]) -> Self
         requires { length bytes.now ≡ WIDTH }
-        ensures { number result ≡ field bytes.now 0 WIDTH };
+        ensures { Gets bytes.now 0 WIDTH (number result) };
 
     fn put_bytes(self, bytes: &mut [u8])
         requires { length bytes.old ≡ WIDTH }
-        ensures { bytes.new ≡ put_field bytes.old 0 WIDTH (number self) };
+        ensures { Puts bytes.old 0 WIDTH (number self) bytes.new };
 
     ghost each: { (xs : List Self) → numbers xs ≡ map number xs };
 
