@@ -13,10 +13,10 @@ ghost use Rattle.image.specs.Promises.{TellsFormed};
 use crate::entry::place_of;
 use crate::layout::{
     APPLIED_AT, CHANGE_AT, CHANGE_ORDINAL_IN, COMMITTED_AT, COMMITTED_REVISION_AT,
-    CONFIGURATION_AT, CONNECTED_IN, CONNECTIONS_AT, COUNT_IN, FOLDED_AT, HIGHEST_ORDINAL,
-    HIGHEST_PACKED, IMAGE_LENGTH, INDEX_IN, LAST_AT, MASTERSHIP_AT, NODE_SIZE, NODES, ORDINAL_IN,
-    OWNERS_AT, OWNERS_IN, PATHS_IN, PHASE_IN, REMEMBERS_AT, REVISION_IN, RING, ROLLBACK_ORDINAL_IN,
-    RUNNING_AT, SECOND_PATH_IN, SLOTS, STRIDE, TABLE_LENGTH, TARGET_IN, THIRD_PATH_IN, VALUE_SIZE,
+    CONFIGURATION_AT, CONNECTED_IN, COUNT_IN, FOLDED_AT, HIGHEST_ORDINAL, HIGHEST_PACKED,
+    IMAGE_LENGTH, INDEX_IN, LAST_AT, MASTERSHIP_AT, NODES, ORDINAL_IN, OWNERS_AT, OWNERS_IN,
+    PATHS_IN, PHASE_IN, REMEMBERS_AT, REVISION_IN, RING, ROLLBACK_ORDINAL_IN, RUNNING_AT,
+    SECOND_PATH_IN, SLOTS, STRIDE, TABLE_LENGTH, TARGET_IN, THIRD_PATH_IN, VALUE_SIZE, node_at,
 };
 use fields::{get, get_four};
 
@@ -202,7 +202,7 @@ fn flags_formed(s: &[u8]) -> bool
     let remembers = get::<u8>(s, REMEMBERS_AT);
     let mut ok = (running <= 1) & (remembers <= 1);
     for k in 0..NODES {
-        ok = ok & (get::<u8>(s, CONNECTIONS_AT + NODE_SIZE * k + CONNECTED_IN) <= 1);
+        ok = ok & (get::<u8>(s, node_at(k) + CONNECTED_IN) <= 1);
     }
     ((1 <= state) & (state <= 3)) & ok
 }

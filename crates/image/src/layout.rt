@@ -1,7 +1,7 @@
 // Where each record lies in the image, and how wide it is: each place follows from the one before it. specs/Layout has the
 // same names, and `places` below says that they are the same numbers. No other file has a number of the layout.
-ghost use Rattle.std.specs.Prelude.{◌≡◌};
-ghost use Rattle.image.specs.Layout.{limits, entry_places, head_places, places, node_places};
+ghost use Rattle.std.specs.Prelude.{◌≡◌, ◌<◌};
+ghost use Rattle.image.specs.Layout.{limits, entry_places, head_places, places, node_places, node_at};
 
 // ---- the ring: how many entries, how wide each, and the highest number, ordinal and number of four statuses that there are
 pub const SLOTS: u16 = 128;
@@ -61,10 +61,6 @@ pub const NODE_SIZE: usize = CONNECTED_IN + 1;
 
 pub const NODES: usize = 8;
 
-pub const TWO_NODES: usize = NODE_SIZE + NODE_SIZE;
-
-pub const THREE_NODES: usize = TWO_NODES + NODE_SIZE;
-
 // ---- behind the ring
 pub const NUMBER_SIZE: usize = 2;
 
@@ -112,36 +108,13 @@ pub const BASE_AT: usize = FOLDED_AT + NUMBER_SIZE;
 
 pub const IMAGE_LENGTH: usize = BASE_AT + TABLE_SIZE;
 
-// ---- the eight connections, the first at CONNECTIONS_AT, and whether each is connected
-pub const NODE_2_AT: usize = CONNECTIONS_AT + NODE_SIZE;
-
-pub const NODE_3_AT: usize = NODE_2_AT + NODE_SIZE;
-
-pub const NODE_4_AT: usize = NODE_3_AT + NODE_SIZE;
-
-pub const NODE_5_AT: usize = NODE_4_AT + NODE_SIZE;
-
-pub const NODE_6_AT: usize = NODE_5_AT + NODE_SIZE;
-
-pub const NODE_7_AT: usize = NODE_6_AT + NODE_SIZE;
-
-pub const NODE_8_AT: usize = NODE_7_AT + NODE_SIZE;
-
-pub const CONNECTED_1_AT: usize = CONNECTIONS_AT + CONNECTED_IN;
-
-pub const CONNECTED_2_AT: usize = NODE_2_AT + CONNECTED_IN;
-
-pub const CONNECTED_3_AT: usize = NODE_3_AT + CONNECTED_IN;
-
-pub const CONNECTED_4_AT: usize = NODE_4_AT + CONNECTED_IN;
-
-pub const CONNECTED_5_AT: usize = NODE_5_AT + CONNECTED_IN;
-
-pub const CONNECTED_6_AT: usize = NODE_6_AT + CONNECTED_IN;
-
-pub const CONNECTED_7_AT: usize = NODE_7_AT + CONNECTED_IN;
-
-pub const CONNECTED_8_AT: usize = NODE_8_AT + CONNECTED_IN;
+// ---- the eight connections: where that of a node lies, the first node's as k = 0
+pub fn node_at(k: usize) -> usize
+    requires { k < 8 }
+    ensures { result ≡ node_at k }
+{
+    CONNECTIONS_AT + NODE_SIZE * k
+}
 
 // ---- the same numbers as in specs/Layout: computed, and nothing else is in these functions
 
@@ -188,8 +161,8 @@ fn head_places() -> [usize; 11]
         TABLE_SIZE,
         CONNECTED_IN,
         NODE_SIZE,
-        TWO_NODES,
-        THREE_NODES,
+        2 * NODE_SIZE,
+        3 * NODE_SIZE,
     ]
 }
 
@@ -227,20 +200,20 @@ fn node_places() -> [usize; 15]
     ensures { result ≡ node_places }
 {
     [
-        NODE_2_AT,
-        NODE_3_AT,
-        NODE_4_AT,
-        NODE_5_AT,
-        NODE_6_AT,
-        NODE_7_AT,
-        NODE_8_AT,
-        CONNECTED_1_AT,
-        CONNECTED_2_AT,
-        CONNECTED_3_AT,
-        CONNECTED_4_AT,
-        CONNECTED_5_AT,
-        CONNECTED_6_AT,
-        CONNECTED_7_AT,
-        CONNECTED_8_AT,
+        node_at(1),
+        node_at(2),
+        node_at(3),
+        node_at(4),
+        node_at(5),
+        node_at(6),
+        node_at(7),
+        node_at(0) + CONNECTED_IN,
+        node_at(1) + CONNECTED_IN,
+        node_at(2) + CONNECTED_IN,
+        node_at(3) + CONNECTED_IN,
+        node_at(4) + CONNECTED_IN,
+        node_at(5) + CONNECTED_IN,
+        node_at(6) + CONNECTED_IN,
+        node_at(7) + CONNECTED_IN,
     ]
 }

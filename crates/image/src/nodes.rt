@@ -5,8 +5,8 @@ ghost use Rattle.image.specs.Records.{to_node, put_node_at};
 ghost use Rattle.image.specs.Promises.{LoadsConfiguration, StoresConfiguration, LoadsMastership, StoresMastership, LoadsTarget, StoresTarget, LoadsConnection, LoadsConnections, StoresConnections};
 
 use crate::layout::{
-    CONFIGURATION_AT, CONFIGURATION_TERM_AT, CONN_AT, CONNECTED_IN, CONNECTIONS_AT, MASTERSHIP_AT,
-    MASTERSHIP_TERM_AT, NODE_SIZE, REMEMBERS_AT, RUNNING_AT, TARGET_AT,
+    CONFIGURATION_AT, CONFIGURATION_TERM_AT, CONN_AT, CONNECTED_IN, MASTERSHIP_AT,
+    MASTERSHIP_TERM_AT, REMEMBERS_AT, RUNNING_AT, TARGET_AT, node_at,
 };
 use fields::{get, put};
 use kinds::{Configuration, Connection, Mastership, Progress, Target, Term};
@@ -98,7 +98,7 @@ pub fn load_connection(s: &[u8], n: u8) -> Connection
     requires { (1 ≤ n) × ((n ≤ 8) × (image_length ≤ length s.now)) }
     ensures { LoadsConnection s.now n result }
 {
-    load_node(s, CONNECTIONS_AT + NODE_SIZE * ((n - 1) as usize))
+    load_node(s, node_at((n - 1) as usize))
 }
 
 // The connections of the eight nodes.
@@ -106,7 +106,7 @@ pub fn load_connections(s: &[u8]) -> [Connection; 8]
     requires { image_length ≤ length s.now }
     ensures { LoadsConnections s.now result }
 {
-    array::from_fn(|k| load_node(s, CONNECTIONS_AT + NODE_SIZE * k))
+    array::from_fn(|k| load_node(s, node_at(k)))
 }
 
 fn store_node(s: &mut [u8], at: usize, x: Connection)
@@ -123,6 +123,6 @@ pub fn store_connections(s: &mut [u8], xs: [Connection; 8])
     ensures { StoresConnections s.old xs s.new }
 {
     for (k, x) in xs.iter().enumerate() {
-        store_node(s, CONNECTIONS_AT + NODE_SIZE * k, *x);
+        store_node(s, node_at(k), *x);
     }
 }
