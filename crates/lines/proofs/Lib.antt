@@ -2,6 +2,7 @@
 pub mod Putting
 pub mod Recorded
 pub mod Lists
+pub mod Cells
 pub mod Classes
 pub mod Places
 pub mod Table
