@@ -162,13 +162,13 @@ module _ (l : List ℕ) (at w v : ℕ) (e : v ≡ w) where
   fourth : at + 3 * v ≡ at + w + w + w
   fourth = omega arith
 
-  pub four_read : (a b c d : ℕ) → Gets l at w a → Gets l (at + v) w b → Gets l (at + 2 * v) w c → Gets l (at + 3 * v) w d
-      → a ∷ b ∷ c ∷ d ∷ [] ≡ fields_at l at (four w)
+  pub four_read : (a b c d x y z : ℕ) → Gets l at w a → Gets l x w b → Gets l y w c → Gets l z w d
+      → x ≡ at + v → y ≡ at + 2 * v → z ≡ at + 3 * v → a ∷ b ∷ c ∷ d ∷ [] ≡ fields_at l at (four w)
   unfolding fields_at
-  four_read a b c d p q r s =
-      let q' : b ≡ field l (at + w) w = q ∙ ap (λ (j : ℕ). field l j w) second in
-      let r' : c ≡ field l (at + w + w) w = r ∙ ap (λ (j : ℕ). field l j w) third in
-      let s' : d ≡ field l (at + w + w + w) w = s ∙ ap (λ (j : ℕ). field l j w) fourth in
+  four_read a b c d x y z p q r s e f g =
+      let q' : b ≡ field l (at + w) w = q ∙ ap (λ (j : ℕ). field l j w) (e ∙ second) in
+      let r' : c ≡ field l (at + w + w) w = r ∙ ap (λ (j : ℕ). field l j w) (f ∙ third) in
+      let s' : d ≡ field l (at + w + w + w) w = s ∙ ap (λ (j : ℕ). field l j w) (g ∙ fourth) in
       ap₂ (λ (x y : ℕ). x ∷ y ∷ c ∷ d ∷ []) p q' ∙ ap₂ (λ (x y : ℕ). field l at w ∷ field l (at + w) w ∷ x ∷ y ∷ []) r' s'
 
   pub four_put : (xs l1 l2 l3 l4 : List ℕ) (a b c d : ℕ) → quad xs ≡ a ∷ b ∷ c ∷ d ∷ []

@@ -1,9 +1,10 @@
 -- Four statuses in one number, there and back: the number of any four statuses has room and gives each of them again, and a
 -- number in range is that of the four statuses that it gives. Assumes nothing.
 use Prim.Native.Nat.{ℕ, zero, suc, ◌+◌, ◌*◌, ◌/◌, ◌%◌, ◌≤◌, ◌<◌}
-use mathlib.Core.Path.{◌≡◌, refl, ap, ◌∙◌}
+use mathlib.Core.Path.{◌≡◌, refl, ap, ap₂, sym, ◌∙◌}
 use mathlib.Core.List.{List, [], ◌∷◌}
 use lib.ListN.{get_or}
+use native.Mathlib.Numerals.{add-one}
 use native.Mathlib.Omega.{arith}
 use Rattle.kinds.specs.declared.Transaction.{Transaction}
 use Rattle.kinds.specs.declared.Status.{Status}
@@ -111,6 +112,9 @@ packed_back n h =
 abbrev pub packed_first : List Status → ℕ → ℕ
 packed_first xs zero = 0
 packed_first xs (suc k) = packed_first xs k * 7 + code_of (get_or xs k None)
+
+pub packed_more : (xs : List Status) (k n x p : ℕ) → n ≡ packed_first xs k → x ≡ code_of (get_or xs k None) → p ≡ n * 7 + x → p ≡ packed_first xs (k + 1)
+packed_more xs k n x p e f g = g ∙ ap₂ (λ (a b : ℕ). a * 7 + b) e f ∙ sym (ap (packed_first xs) (add-one k))
 
 pub room_left : (xs : List Status) (k : ℕ) → k < 4 → packed_first xs k ≤ 342
 room_left xs zero h = omega arith

@@ -12,7 +12,7 @@ pub loop-k-init : goal.loop-k-init
 loop-k-init c = no_node _ _
 
 pub loop-k-preserved : goal.loop-k-preserved
-loop-k-preserved c = one_node _ _ _ _ _ c.loop-k.invariant (c.store_node.ensures ∙ ap (λ (p : ℕ). put_node_at c.loop-k.s p (get_or c.args.xs c.loop-k.k never)) c.node_at.ensures)
+loop-k-preserved c = one_node _ _ _ _ _ c.loop-k.invariant (c.store_node.ensures ∙ ap (λ (p : ℕ). put_node_at c.loop-k.s p (get_or c.args.xs c.loop-k.k never)) (omega (arith, c.node_at.ensures, c.loop-k-test.true)))
 
 pub returns : goal.returns
 returns c = all_nodes _ _ _ _ c.loop-k.invariant (omega arith)
