@@ -11,7 +11,6 @@ use lib.Seq.{get_or-drop, get_or-take, get_or-set_same, ext_get_or}
 use Rattle.std.proofs.lemmas.List.{get_or_append_left, get_or-append-add}
 use borrow.Author.Tests.{ltb-true, ltb-false}
 use borrow.Rule.Slice.PartMut.{put_mid}
-use Rattle.std.specs.Int.{w16, w32, to_le_bytes}
 use Rattle.fields.specs.Field.{field, put_field, fields_at, put_fields, quad, four}
 use Rattle.fields.specs.Promises.{Gets, Puts, PutsFour}
 use Rattle.fields.proofs.Laws.{length_put, put_outside}
@@ -122,25 +121,23 @@ put_done w v l ys at x e k h = ap (put_mid at (at + v - at) l) h ∙ rw e (put_i
 pub read_done : (w v : ℕ) (l : List ℕ) (at x : ℕ) → v ≡ w → x ≡ field (take (at + v - at) (drop at l)) 0 w → x ≡ field l at w
 read_done w v l at x e h = h ∙ rw e (read_in_part w l at)
 
--- ---- as the library splits it
-pub two_bytes : (l : List ℕ) (x : ℕ) → length l ≡ 2 → to_le_bytes w16 x ≡ put_field l 0 2 x
+-- ---- byte by byte, as the library splits it
+pub two_bytes : (l : List ℕ) (a b x : ℕ) → length l ≡ 2 → a ≡ x % 256 → b ≡ x / 256 % 256 → a ∷ b ∷ [] ≡ put_field l 0 2 x
 unfolding put_field
-two_bytes (a ∷ b ∷ []) x h = refl
-two_bytes [] x h = absurd (omega arith)
-two_bytes (a ∷ []) x h = absurd (omega arith)
-two_bytes (a ∷ b ∷ c ∷ l) x h = absurd (omega arith)
+two_bytes (i ∷ j ∷ []) a b x h p q = rw (p, q)
+two_bytes [] a b x h p q = absurd (omega arith)
+two_bytes (i ∷ []) a b x h p q = absurd (omega arith)
+two_bytes (i ∷ j ∷ k ∷ l) a b x h p q = absurd (omega arith)
 
-pub four_bytes : (l : List ℕ) (x : ℕ) → length l ≡ 4 → to_le_bytes w32 x ≡ put_field l 0 4 x
+pub four_bytes : (l : List ℕ) (a b c d x : ℕ) → length l ≡ 4 → a ≡ x % 256 → b ≡ x / 256 % 256 → c ≡ x / 256 / 256 % 256
+    → d ≡ x / 256 / 256 / 256 % 256 → a ∷ b ∷ c ∷ d ∷ [] ≡ put_field l 0 4 x
 unfolding put_field
-four_bytes (a ∷ b ∷ c ∷ d ∷ []) x h =
-    let y : x / 65536 ≡ x / 256 / 256 = omega arith in
-    let z : x / 16777216 ≡ x / 256 / 256 / 256 = omega arith in
-    ap₂ (λ (u v : ℕ). x % 256 ∷ x / 256 % 256 ∷ u % 256 ∷ v % 256 ∷ []) y z
-four_bytes [] x h = absurd (omega arith)
-four_bytes (a ∷ []) x h = absurd (omega arith)
-four_bytes (a ∷ b ∷ []) x h = absurd (omega arith)
-four_bytes (a ∷ b ∷ c ∷ []) x h = absurd (omega arith)
-four_bytes (a ∷ b ∷ c ∷ d ∷ e ∷ l) x h = absurd (omega arith)
+four_bytes (i ∷ j ∷ k ∷ m ∷ []) a b c d x h p q r s = rw (p, q, r, s)
+four_bytes [] a b c d x h p q r s = absurd (omega arith)
+four_bytes (i ∷ []) a b c d x h p q r s = absurd (omega arith)
+four_bytes (i ∷ j ∷ []) a b c d x h p q r s = absurd (omega arith)
+four_bytes (i ∷ j ∷ k ∷ []) a b c d x h p q r s = absurd (omega arith)
+four_bytes (i ∷ j ∷ k ∷ m ∷ n ∷ l) a b c d x h p q r s = absurd (omega arith)
 
 -- ---- four in a row, at places counted in a width v
 -- an array of four is the elements read of it
@@ -171,11 +168,13 @@ module _ (l : List ℕ) (at w v : ℕ) (e : v ≡ w) where
       let s' : d ≡ field l (at + w + w + w) w = s ∙ ap (λ (j : ℕ). field l j w) (g ∙ fourth) in
       ap₂ (λ (x y : ℕ). x ∷ y ∷ c ∷ d ∷ []) p q' ∙ ap₂ (λ (x y : ℕ). field l at w ∷ field l (at + w) w ∷ x ∷ y ∷ []) r' s'
 
-  pub four_put : (xs l1 l2 l3 l4 : List ℕ) (a b c d : ℕ) → quad xs ≡ a ∷ b ∷ c ∷ d ∷ []
-      → Puts l at w a l1 → Puts l1 (at + v) w b l2 → Puts l2 (at + 2 * v) w c l3 → Puts l3 (at + 3 * v) w d l4
-      → PutsFour l at (four w) xs l4
+  pub four_put : (xs l1 l2 l3 l4 : List ℕ) (a b c d x y z : ℕ) → quad xs ≡ a ∷ b ∷ c ∷ d ∷ []
+      → Puts l at w a l1 → Puts l1 x w b l2 → Puts l2 y w c l3 → Puts l3 z w d l4
+      → x ≡ at + v → y ≡ at + 2 * v → z ≡ at + 3 * v → PutsFour l at (four w) xs l4
   unfolding put_fields
-  four_put xs l1 l2 l3 l4 a b c d h p q r s =
+  four_put xs l1 l2 l3 l4 a b c d x y z h p q r s e f g =
+      let p' : l2 ≡ put_field (put_field l at w a) (at + w) w b = q ∙ ap₂ (λ (k : List ℕ) (j : ℕ). put_field k j w b) p (e ∙ second) in
+      let q' = r ∙ ap₂ (λ (k : List ℕ) (j : ℕ). put_field k j w c) p' (f ∙ third) in
       s
-      ∙ ap₂ (λ (k : List ℕ) (j : ℕ). put_field k j w d) (r ∙ ap₂ (λ (k : List ℕ) (j : ℕ). put_field k j w c) (q ∙ ap₂ (λ (k : List ℕ) (j : ℕ). put_field k j w b) p second) third) fourth
+      ∙ ap₂ (λ (k : List ℕ) (j : ℕ). put_field k j w d) q' (g ∙ fourth)
       ∙ sym (ap (put_fields l at (four w)) h)

@@ -1,10 +1,12 @@
--- `put_logs` goes from log to log: up to a place the lines and totals of those before it. Assumes nothing.
-use mathlib.Core.Path.{refl, ◌∙◌}
+-- `put_logs` goes from log to log: up to a place the lines and totals of those before it. The length of a piece and the last place
+-- go by numbers: what is written otherwise and is the same is proved. Assumes nothing.
+use mathlib.Core.Path.{◌∙◌}
+use native.Mathlib.Omega.{arith}
 use Rattle.sheet.proofs.Reported.{going_none, cut_more, cut_fits, cut_all}
 use Rattle.sheet.proofs.put_logs.Goals as goal
 
 pub loop-log-init : goal.loop-log-init
-loop-log-init c = rw (c.into_iter-log-iterator.ensures.into_iter_gives, c.zip-log-items.ensures.first, c.zip-log-items.ensures.second, c.chunks.ensures.rest, c.chunks.ensures.size) (going_none _ _ _ c.requires.0, refl, refl)
+loop-log-init c = rw (c.into_iter-log-iterator.ensures.into_iter_gives, c.zip-log-items.ensures.first, c.zip-log-items.ensures.second, c.chunks.ensures.rest, c.chunks.ensures.size) (going_none _ _ _ c.requires.0, omega arith, omega arith)
 
 pub put_log-used-requires : goal.put_log-used-requires
 put_log-used-requires c = let turn = c.in-Some.ensures.steps in cut_fits c.loop-log.invariant.0 c.loop-log.invariant.2 turn.1.1.0 c.requires.1

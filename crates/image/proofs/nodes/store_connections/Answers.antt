@@ -1,6 +1,6 @@
--- `store_connections` meets its contract. Assumes nothing.
+-- `store_connections` meets its contract. Place and node go by numbers: what is written otherwise and is the same is proved. Assumes nothing.
 use Prim.Native.Nat.{ℕ}
-use mathlib.Core.Path.{ap, ◌∙◌}
+use mathlib.Core.Path.{ap₂, ◌∙◌}
 use native.Mathlib.Omega.{arith}
 use lib.ListN.{get_or}
 use Rattle.machine.specs.State.{never}
@@ -12,7 +12,7 @@ pub loop-k-init : goal.loop-k-init
 loop-k-init c = no_node _ _
 
 pub loop-k-preserved : goal.loop-k-preserved
-loop-k-preserved c = one_node _ _ _ _ _ c.loop-k.invariant (c.store_node.ensures ∙ ap (λ (p : ℕ). put_node_at c.loop-k.s p (get_or c.args.xs c.loop-k.k never)) (omega (arith, c.node_at.ensures, c.loop-k-test.true)))
+loop-k-preserved c = one_node _ _ _ _ _ c.loop-k.invariant (c.store_node.ensures ∙ ap₂ (λ (p j : ℕ). put_node_at c.loop-k.s p (get_or c.args.xs j never)) (omega (arith, c.node_at.ensures, c.loop-k-test.true)) (omega arith))
 
 pub returns : goal.returns
 returns c = all_nodes _ _ _ _ c.loop-k.invariant (omega arith)
